@@ -9,7 +9,6 @@ true ⊕ b = not b
 false ⊕ b = b
 
 infixl 6 _⊕_
-
 -- the bit of n at position z: is the digit of 2 ^ z there?
 unfoldable pub bit : ℕ → ℕ → Bool
 bit n z = eqb (n / 2 ^ z % 2) 1

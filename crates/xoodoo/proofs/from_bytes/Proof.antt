@@ -1,0 +1,21 @@
+-- `xoodoo::from_bytes` meets its contract. Assumes nothing.
+use borrow.Author.Needs.{needs}
+use Rattle.word.proofs.Bit.{is-eq}
+use Rattle.xoodoo.specs.Bytes.{stateOf, byteBit, fromString}
+use Rattle.xoodoo.proofs.Lanes.{lanes-are}
+use Rattle.xoodoo.proofs.from_bytes.Statement.{statement}
+use Rattle.xoodoo.proofs.from_bytes.Tie as tie
+
+returns : tie.Need-returns
+unfolding fromString
+returns c =
+    lanes-are (stateOf (byteBit (c .before .before .before .before .before .before .before .before .before .before .before .before .args .b .now)))
+    (is-eq (c .before .before .before .before .before .before .before .before .before .before .before .lane-at .ensures)) (is-eq (c .before .before .before .before .before .before .before .before .before .before .lane-at2 .ensures))
+    (is-eq (c .before .before .before .before .before .before .before .before .before .lane-at3 .ensures)) (is-eq (c .before .before .before .before .before .before .before .before .lane-at4 .ensures))
+    (is-eq (c .before .before .before .before .before .before .before .lane-at5 .ensures)) (is-eq (c .before .before .before .before .before .before .lane-at6 .ensures))
+    (is-eq (c .before .before .before .before .before .lane-at7 .ensures)) (is-eq (c .before .before .before .before .lane-at8 .ensures))
+    (is-eq (c .before .before .before .lane-at9 .ensures)) (is-eq (c .before .before .lane-at10 .ensures))
+    (is-eq (c .before .lane-at11 .ensures)) (is-eq (c .lane-at12 .ensures))
+
+pub from-bytes-spec : {M : Type 1} → statement M
+from-bytes-spec = tie.close (tie.spec (λ c κs. search needs) (λ c κs. search needs) (λ c κs. search needs) (λ c κs. search needs) (λ c κs. search needs) (λ c κs. search needs) (λ c κs. search needs) (λ c κs. search needs) (λ c κs. search needs) (λ c κs. search needs) (λ c κs. search needs) (λ c κs. search needs) returns)

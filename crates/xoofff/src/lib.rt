@@ -1,0 +1,4 @@
+// The deck function Xoofff.
+pub fn one() -> u32 {
+    1
+}
