@@ -1,18 +1,11 @@
--- The deck function from what a session keeps of its history: accumulator, mask and index. Assumes nothing.
+-- The deck function from what a session keeps of its history: the accumulator x, the mask at the index (k rolled I times) and the input
+-- index I, which are the fields of the program's struct `DeckState`. Assumes nothing.
 use mathlib.Core.List.{List}
 use Prim.Native.Nat.{ℕ, _+_}
 use Rattle.xoodoo.specs.Xoodoo.{perm}
+use Rattle.xoofff.specs.declared.DeckState.{DeckState}
 use Rattle.xoofff.specs.Strings.{Str, blocks}
 use Rattle.xoofff.specs.Deck.{maskAt, addBlocks, indexGrowth, indexOf, accumulator, outputMask, outputByte}
-
--- what a session keeps of its history
-pub record DeckState : Type 0 where
-  -- the accumulator x
-  pub acc : List ℕ
-  -- the mask at the index, k rolled I times
-  pub mask : List ℕ
-  -- the input index I
-  pub index : ℕ
 
 -- the state after one more string
 unfoldable pub append : DeckState → Str → DeckState

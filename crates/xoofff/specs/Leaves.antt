@@ -5,7 +5,10 @@ use mathlib.Core.List.{List, [], _∷_}
 use Prim.Native.Nat.{ℕ, zero, suc, _+_, _*_, _-_, _/_, _%_}
 use lib.Dec.{leb}
 use Rattle.word.specs.Word.{bit, digit}
-use Rattle.xoofff.specs.Strings.{Str}
+use Rattle.xoofff.specs.declared.DeckState.{DeckState}
+use Rattle.xoofff.specs.declared.Compressed.{Compressed}
+use Rattle.xoofff.specs.Strings.{Str, blocks}
+use Rattle.xoofff.specs.Incremental.{append}
 
 -- the byte that follows a string's last byte: the frame bits, the padding bit, zeros
 unfoldable pub closingByte : List Bool → ℕ
@@ -25,3 +28,7 @@ closedBy s c = record { bytes = s; frame = frameBits 7 c }
 unfoldable pub outputBlocks : (i n : ℕ) → ℕ
 outputBlocks i zero = 0
 outputBlocks i (suc n) = (i + n) / 48 + 1 - i / 48
+
+-- one more string, and its count: a permutation for each block
+unfoldable pub compressed : DeckState → Str → Compressed
+compressed d s = record { state = append d s; count = blocks s }
