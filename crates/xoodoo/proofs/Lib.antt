@@ -2,3 +2,5 @@
 pub mod Lanes
 pub mod Steps
 pub mod Bytes
+pub mod Facts
+pub mod Edges

@@ -1,0 +1,19 @@
+-- Document 01's rows of the rollings hold, and one permutation computed by antt from the definitions. Assumes nothing.
+use mathlib.Core.Path.{_≡_, refl}
+use mathlib.Core.List.{List, [], _∷_}
+use Prim.Native.Nat.{ℕ}
+use Rattle.word.specs.Word.{bit, ofBits}
+use Rattle.xoodoo.specs.State.{lanes}
+use Rattle.xoodoo.specs.Xoodoo.{round, rounds, perm}
+use Rattle.xoodoo.specs.Rolling.{rollIn, rollOut}
+use Rattle.xoodoo.specs.Edges.{Hold, rollingRows, zeros}
+
+pub rolling-rows-hold : Hold rollingRows
+unfolding rollIn rollOut lanes ofBits bit
+rolling-rows-hold = refl
+
+-- the permutation of the zero state
+perm-of-zeros : perm zeros
+    ≡ 0x28c9cea3 ∷ 0xad204f60 ∷ 0x2ec3d0d6 ∷ 0xf050c7c5 ∷ 0x8dc1225 ∷ 0x61992304 ∷ 0x9e0d402d ∷ 0x42d59b9b ∷ 0x1e6114fc ∷ 0x186eb697 ∷ 0x35dbbc7f ∷ 0xa1f9104e ∷ []
+unfolding perm rounds round lanes ofBits bit
+perm-of-zeros = refl
