@@ -1,0 +1,67 @@
+#!/usr/bin/env python3
+"""vectors.py [--check]: turns vectors/*.txt into the standard input and the expected standard output of the vector programs.
+
+With --check nothing is written: the exit status is 1 where a file is not what the vectors give.
+"""
+import os
+import sys
+
+ROOT = os.path.dirname(os.path.dirname(os.path.abspath(__file__)))
+
+
+def records(name):
+    """The records of a vector file: lists of (field, value), in their order."""
+    found, record = [], []
+    for line in open(os.path.join(ROOT, "vectors", name), encoding="ascii"):
+        line = line.strip()
+        if line.startswith("#"):
+            continue
+        if not line:
+            if record:
+                found.append(record)
+            record = []
+            continue
+        field, value = line.split(" = ")
+        record.append((field, value))
+    return found + [record] if record else found
+
+
+def data(value):
+    """A byte string of a vector file."""
+    return b"" if value == "-" else bytes.fromhex(value)
+
+
+def perm_program():
+    """Permutations at six rounds, and the two rollings."""
+    given, expected = b"", ""
+    for record in map(dict, records("perm.txt")):
+        if record["rounds"] == "6":
+            given += b"P" + (1).to_bytes(4, "little") + data(record["in"])
+            expected += record["out"] + "\n"
+    for record in map(dict, records("roll.txt")):
+        for op, field in ((b"C", "c"), (b"E", "e")):
+            given += op + int(record["times"]).to_bytes(4, "little") + data(record["in"])
+            expected += record[field] + "\n"
+    return given, expected.encode()
+
+
+PROGRAMS = {"perm_vectors": perm_program}
+
+
+def main():
+    check, bad = "--check" in sys.argv[1:], []
+    for name, make in PROGRAMS.items():
+        for file, content in zip(("stdin", "stdout"), make()):
+            path = os.path.join(ROOT, "crates", name, file)
+            if check:
+                if not os.path.isfile(path) or open(path, "rb").read() != content:
+                    bad.append(os.path.relpath(path, ROOT))
+            else:
+                with open(path, "wb") as f:
+                    f.write(content)
+    for path in bad:
+        print(f"vectors.py: {path} is not what vectors/ gives; run scripts/vectors.py")
+    sys.exit(1 if bad else 0)
+
+
+main()
