@@ -108,3 +108,117 @@ frame-most (suc n) c = go (leb c 1) (frame-most n (c / 2))
 
 pub frame-length : (c : ℕ) → length (frameBits 7 c) ≤ 7
 frame-length c = frame-most 7 c
+
+-- its bits: the frame bits, the padding bit, and then zeros
+closing-bits : (f : List Bool) (z : ℕ) → getD (f ++ true ∷ []) z false ≡ bit (closingByte f) z
+unfolding closingByte
+closing-bits [] zero = let e : true ≡ bit 1 0 = sym (digit-low true 0) in e
+closing-bits [] (suc z) = sym (bit-above 1 1 (suc z) (lit< tt) (omega arith))
+closing-bits (f ∷ fs) zero = sym (digit-low f (closingByte fs))
+closing-bits (f ∷ fs) (suc z) = closing-bits fs z ∙ sym (digit-high f (closingByte fs) z)
+
+-- ---- the padding
+
+-- a padded string is the string and a 1-bit: what follows is 0, as is what lies beyond its end
+pub padded-at : (m : List Bool) (i : ℕ) → getD (padded m) i false ≡ getD (m ++ true ∷ []) i false
+unfolding padded
+padded-at m i = go m (383 - length m % 384) i
+  where
+    zeros-at : (n i : ℕ) → getD (replicate n false) i false ≡ false
+    zeros-at zero i = refl
+    zeros-at (suc n) zero = refl
+    zeros-at (suc n) (suc i) = zeros-at n i
+
+    go : (m : List Bool) (n i : ℕ) → getD (m ++ true ∷ replicate n false) i false ≡ getD (m ++ true ∷ []) i false
+    go [] n zero = refl
+    go [] n (suc i) = zeros-at n i
+    go (x ∷ m) n zero = refl
+    go (x ∷ m) n (suc i) = go m n i
+
+-- the bits of bytes, frame bits and padding bit are those of the bytes and the closing byte
+closed-bits : (s : List ℕ) (f : List Bool) → length f ≤ 7 → (i : ℕ) → getD ((bitsOfBytes s ++ f) ++ true ∷ []) i false ≡ byteBit (s ++ closingByte f ∷ []) i
+unfolding bitsOfBytes
+closed-bits [] f h i = go (decLe 8 i)
+  where
+    go : Dec (8 ≤ i) → getD (f ++ true ∷ []) i false ≡ byteBit (closingByte f ∷ []) i
+    go (yes p) =
+        let e : i / 8 ≡ suc (i / 8 - 1) = omega arith in
+        List·getD-eq-default (f ++ true ∷ []) false (omega (arith, length-append f (true ∷ [])))
+        ∙ sym (ap (λ (n : ℕ). bit (getD (closingByte f ∷ []) n 0) (i % 8)) e ∙ bit-above 0 0 (i % 8) (lit< tt) (omega arith))
+    go (no p) =
+        let e : i / 8 ≡ 0 = omega (arith, p) in
+        let r : i % 8 ≡ i = omega (arith, p) in
+        closing-bits f i ∙ sym (ap₂ (λ (n k : ℕ). bit (getD (closingByte f ∷ []) n 0) k) e r)
+closed-bits (x ∷ s) f h zero = refl
+closed-bits (x ∷ s) f h (suc zero) = refl
+closed-bits (x ∷ s) f h (suc (suc zero)) = refl
+closed-bits (x ∷ s) f h (suc (suc (suc zero))) = refl
+closed-bits (x ∷ s) f h (suc (suc (suc (suc zero)))) = refl
+closed-bits (x ∷ s) f h (suc (suc (suc (suc (suc zero))))) = refl
+closed-bits (x ∷ s) f h (suc (suc (suc (suc (suc (suc zero)))))) = refl
+closed-bits (x ∷ s) f h (suc (suc (suc (suc (suc (suc (suc zero))))))) = refl
+closed-bits (x ∷ s) f h (suc (suc (suc (suc (suc (suc (suc (suc i)))))))) =
+    let n = suc (suc (suc (suc (suc (suc (suc (suc i))))))) in
+    let e : suc (i / 8) ≡ n / 8 = omega arith in
+    let r : i % 8 ≡ n % 8 = omega arith in
+    closed-bits s f h i ∙ ap₂ (λ (q k : ℕ). bit (getD (x ∷ s ++ closingByte f ∷ []) q 0) k) e r
+
+-- the papers' padding is one byte directly after the last one, at every length
+pub padded-byteBit : (s : List ℕ) (f : List Bool) → length f ≤ 7 → (i : ℕ)
+    → getD (padded (bitsOf (record { bytes = s; frame = f }))) i false ≡ byteBit (s ++ closingByte f ∷ []) i
+unfolding bitsOf
+padded-byteBit s f h i = padded-at (bitsOfBytes s ++ f) i ∙ closed-bits s f h i
+
+pub closed-byteBit : (s : List ℕ) (c : ℕ) → 0 < c → c < 256 → (i : ℕ) → getD (padded (bitsOf (closedBy s c))) i false ≡ byteBit (s ++ c ∷ []) i
+closed-byteBit s c p h i =
+    padded-byteBit s (frameBits 7 c) (frame-length c) i ∙ ap (λ (n : ℕ). byteBit (s ++ n ∷ []) i) (closing-frame c p h)
+
+-- ---- the blocks
+
+-- block j from 48 bytes that are the string's, its closing byte and zeros
+pub block-bytes : (s : List ℕ) (c j : ℕ) → 0 < c → c < 256 → (B : List ℕ)
+    → ((i : ℕ) → i < 48 → getD B i 0 ≡ getD (s ++ c ∷ []) (48 * j + i) 0) → block (closedBy s c) j ≡ fromBytes B
+unfolding block fromString
+block-bytes s c j p h B e = lanes-ext _ _ agree
+  where
+    agree : (x y z : ℕ) → x < 4 → y < 3 → z < 32
+        → getD (padded (bitsOf (closedBy s c))) (384 * j + (z + 32 * (x + 4 * y))) false ≡ byteBit B (z + 32 * (x + 4 * y))
+    agree x y z hx hy hz =
+        let k : ℕ = z + 32 * (x + 4 * y) in
+        let q : (384 * j + k) / 8 ≡ 48 * j + k / 8 = omega arith in
+        let r : (384 * j + k) % 8 ≡ k % 8 = omega arith in
+        closed-byteBit s c p h (384 * j + k)
+        ∙ ap₂ (λ (n m : ℕ). bit (getD (s ++ c ∷ []) n 0) m) q r
+        ∙ ap (λ (v : ℕ). bit v (k % 8)) (sym (e (k / 8) (omega arith)))
+
+pub block-tabulate : (s : List ℕ) (c j : ℕ) → 0 < c → c < 256 → block (closedBy s c) j ≡ fromBytes (tabulate 48 (λ i. getD (s ++ c ∷ []) (48 * j + i) 0))
+block-tabulate s c j p h =
+    block-bytes s c j p h (tabulate 48 (λ i. getD (s ++ c ∷ []) (48 * j + i) 0)) (λ i l. tabulate-at 48 (λ i. getD (s ++ c ∷ []) (48 * j + i) 0) i l)
+
+-- ---- how many
+
+pub bitsOfBytes-length : (s : List ℕ) → length (bitsOfBytes s) ≡ 8 * length s
+unfolding bitsOfBytes
+bitsOfBytes-length [] = refl
+bitsOfBytes-length (x ∷ s) = omega (arith, bitsOfBytes-length s)
+
+pub bitsOf-length : (s : Str) → length (bitsOf s) ≡ 8 * length (s .bytes) + length (s .frame)
+unfolding bitsOf
+bitsOf-length s = omega (arith, length-append (bitsOfBytes (s .bytes)) (s .frame), bitsOfBytes-length (s .bytes))
+
+pub padded-length : (m : List Bool) → length (padded m) ≡ 384 * (length m / 384 + 1)
+unfolding padded
+padded-length m =
+    let n : ℕ = length m in
+    let e : n + suc (383 - n % 384) ≡ 384 * (n / 384 + 1) = omega arith in
+    length-append m (true ∷ replicate (383 - length m % 384) false) ∙ ap (λ (k : ℕ). n + suc k) (length-replicate (383 - n % 384) false) ∙ e
+
+pub blocks-is : (s : Str) → length (s .frame) ≤ 7 → blocks s ≡ b (length (s .bytes))
+unfolding blocks
+blocks-is s h =
+    let L : ℕ = length (s .bytes) in
+    let e : 384 * (length (bitsOf s) / 384 + 1) / 384 ≡ L / 48 + 1 = omega (arith, bitsOf-length s) in
+    ap (λ (n : ℕ). n / 384) (padded-length (bitsOf s)) ∙ e
+
+pub closed-blocks : (s : List ℕ) (c : ℕ) → blocks (closedBy s c) ≡ b (length s)
+closed-blocks s c = blocks-is (closedBy s c) (frame-length c)
