@@ -7,14 +7,15 @@ use native.Mathlib.Numerals.{add-one}
 use native.Mathlib.Omega.{arith}
 use lib.ListN.{length}
 use Rattle.word.specs.Lists.{sum}
+use Rattle.word.proofs.Bit.{ofBits-lt}
 use Rattle.word.proofs.Lists.{sum-length}
 use Rattle.xoodoo.specs.Xoodoo.{perm, rounds, round}
 use Rattle.xoodoo.specs.Rolling.{rollIn, rollOut}
-use Rattle.xoodoo.specs.Bytes.{fromString}
+use Rattle.xoodoo.specs.Bytes.{fromString, stateByte}
 use Rattle.xoodoo.proofs.Lanes.{lanes-length}
 use Rattle.xoofff.specs.Strings.{Str, blocks, block, b}
 use Rattle.xoofff.specs.Leaves.{closedBy}
-use Rattle.xoofff.specs.Deck.{iterate, keyMask, maskAt, addBlocks, indexGrowth, outputBlock}
+use Rattle.xoofff.specs.Deck.{iterate, keyMask, maskAt, addBlocks, addHistory, indexGrowth, outputBlock, outputByte}
 use Rattle.xoofff.proofs.Strings.{closed-blocks}
 
 -- ---- rolling
@@ -70,3 +71,66 @@ addBlocks-from k i s (suc n) x =
 pub closed-growth : (s : List ℕ) (c : ℕ) → indexGrowth (closedBy s c) ≡ b (length s) + 1
 unfolding indexGrowth
 closed-growth s c = ap (λ (n : ℕ). n + 1) (closed-blocks s c)
+
+-- ---- lengths: a state has twelve lanes
+
+rounds-length : (c : ℕ) (cs l : List ℕ) → length (rounds (c ∷ cs) l) ≡ 12
+unfolding rounds round
+rounds-length c [] l = lanes-length _
+rounds-length c (d ∷ cs) l = rounds-length d cs (round c l)
+
+pub perm-length : (l : List ℕ) → length (perm l) ≡ 12
+unfolding perm
+perm-length l = rounds-length _ _ l
+
+pub rollIn-length : (l : List ℕ) → length (rollIn l) ≡ 12
+unfolding rollIn
+rollIn-length l = lanes-length _
+
+pub rollOut-length : (l : List ℕ) → length (rollOut l) ≡ 12
+unfolding rollOut
+rollOut-length l = lanes-length _
+
+pub block-length : (s : Str) (j : ℕ) → length (block s j) ≡ 12
+unfolding block fromString
+block-length s j = lanes-length _
+
+iterate-length : (f : List ℕ → List ℕ) → ((l : List ℕ) → length (f l) ≡ 12) → (n : ℕ) (l : List ℕ) → length l ≡ 12 → length (iterate n f l) ≡ 12
+unfolding iterate
+iterate-length f e zero l h = h
+iterate-length f e (suc n) l h = e (iterate n f l)
+
+pub keyMask-length : (key : List ℕ) → length (keyMask key) ≡ 12
+unfolding keyMask
+keyMask-length key = perm-length _
+
+pub maskAt-length : (k : List ℕ) (i : ℕ) → length k ≡ 12 → length (maskAt k i) ≡ 12
+unfolding maskAt
+maskAt-length k i h = iterate-length rollIn rollIn-length i k h
+
+-- the sum of two states
+pub sum-twelve : (s t : List ℕ) → length s ≡ 12 → length t ≡ 12 → length (sum s t) ≡ 12
+sum-twelve s t h g = sum-length s t (omega (arith, h, g)) ∙ h
+
+pub addBlocks-length : (k : List ℕ) (i : ℕ) (s : Str) (n : ℕ) (x : List ℕ) → length x ≡ 12 → length (addBlocks k i s n x) ≡ 12
+unfolding addBlocks
+addBlocks-length k i s zero x h = h
+addBlocks-length k i s (suc j) x h = sum-twelve _ _ (addBlocks-length k i s j x h) (perm-length _)
+
+pub addHistory-length : (k : List ℕ) (i : ℕ) (h : List Str) (x : List ℕ) → length x ≡ 12 → length (addHistory k i h x) ≡ 12
+unfolding addHistory
+addHistory-length k i [] x e = e
+addHistory-length k i (s ∷ h) x e = addHistory-length k (i + indexGrowth s) h (addBlocks k i s (blocks s) x) (addBlocks-length k i s (blocks s) x e)
+
+pub outputBlock-length : (y k : List ℕ) (j : ℕ) → length k ≡ 12 → length (outputBlock y k j) ≡ 12
+unfolding outputBlock
+outputBlock-length y k j h = sum-twelve _ _ (perm-length _) h
+
+-- a byte of a state is a byte
+pub stateByte-lt : (l : List ℕ) (i : ℕ) → stateByte l i < 256
+unfolding stateByte
+stateByte-lt l i = ofBits-lt 8 _
+
+pub outputByte-lt : (y k : List ℕ) (i : ℕ) → outputByte y k i < 256
+unfolding outputByte
+outputByte-lt y k i = stateByte-lt _ _
