@@ -1,3 +1,5 @@
 -- Laws that belong to no one function.
 pub mod Strings
 pub mod Deck
+pub mod Incremental
+pub mod Output
