@@ -1,6 +1,7 @@
 -- The mask, the blocks added one after another, and the lengths of what the deck function works on. Assumes nothing.
 use mathlib.Core.Path.{_≡_, refl, sym, ap, ap₂, _∙_}
-use mathlib.Core.List.{List, [], _∷_}
+use mathlib.Core.Bool.{Bool}
+use mathlib.Core.List.{List, [], _∷_, _++_}
 use Prim.Native.Nat.{ℕ, zero, suc, _+_, _≤_, _<_}
 use native.Mathlib.Nat.{add-zero, add-suc, zero-add}
 use native.Mathlib.Numerals.{add-one}
@@ -11,12 +12,12 @@ use Rattle.word.proofs.Bit.{ofBits-lt}
 use Rattle.word.proofs.Lists.{sum-length}
 use Rattle.xoodoo.specs.Xoodoo.{perm, rounds, round}
 use Rattle.xoodoo.specs.Rolling.{rollIn, rollOut}
-use Rattle.xoodoo.specs.Bytes.{fromString, stateByte}
+use Rattle.xoodoo.specs.Bytes.{fromString, fromBytes, stateByte}
 use Rattle.xoodoo.proofs.Lanes.{lanes-length}
 use Rattle.xoofff.specs.Strings.{Str, blocks, block, b}
 use Rattle.xoofff.specs.Leaves.{closedBy}
 use Rattle.xoofff.specs.Deck.{iterate, keyMask, maskAt, addBlocks, addHistory, indexGrowth, outputBlock, outputByte}
-use Rattle.xoofff.proofs.Strings.{closed-blocks}
+use Rattle.xoofff.proofs.Strings.{closed-blocks, block-front, block-behind, blocks-front}
 
 -- ---- rolling
 
@@ -66,6 +67,25 @@ addBlocks-from k i s zero x = refl
 addBlocks-from k i s (suc n) x =
     ap₂ (λ (y z : List ℕ). sum y (perm (sum (block s n) z))) (addBlocks-from k i s n x)
     (sym (maskAt-add k i n) ∙ ap (maskAt (maskAt k i)) (sym (zero-add n)))
+
+-- a full block in front of a string is one block step, and then the string from the next index on
+addBlocks-behind : (k : List ℕ) (i : ℕ) (p s : List ℕ) (f : List Bool) → length p ≡ 48 → (n : ℕ) (x : List ℕ)
+    → addBlocks k i (record { bytes = p ++ s; frame = f }) (suc n) x
+    ≡ addBlocks k (i + 1) (record { bytes = s; frame = f }) n (sum x (perm (sum (fromBytes p) (maskAt k i))))
+unfolding addBlocks
+addBlocks-behind k i p s f h zero x = ap₂ (λ (l : List ℕ) (n : ℕ). sum x (perm (sum l (maskAt k n)))) (block-front p s f h) (add-zero i)
+addBlocks-behind k i p s f h (suc n) x =
+    let S : Str = record { bytes = p ++ s; frame = f } in
+    let e : i + suc n ≡ i + 1 + n = omega arith in
+    ap₂ (λ (y l : List ℕ). sum y (perm (sum l (maskAt k (i + suc n))))) (addBlocks-behind k i p s f h n x) (ap (block S) (sym (add-one n)) ∙ block-behind p s f n h)
+    ∙ ap (λ (m : ℕ). sum (addBlocks k (i + 1) (record { bytes = s; frame = f }) n (sum x (perm (sum (fromBytes p) (maskAt k i))))) (perm (sum (block (record { bytes = s; frame = f }) n) (maskAt k m)))) e
+
+pub addBlocks-front : (k : List ℕ) (i : ℕ) (p s : List ℕ) (f : List Bool) → length p ≡ 48 → (x : List ℕ)
+    → addBlocks k i (record { bytes = p ++ s; frame = f }) (blocks (record { bytes = p ++ s; frame = f })) x
+    ≡ addBlocks k (i + 1) (record { bytes = s; frame = f }) (blocks (record { bytes = s; frame = f })) (sum x (perm (sum (fromBytes p) (maskAt k i))))
+addBlocks-front k i p s f h x =
+    ap (λ (n : ℕ). addBlocks k i (record { bytes = p ++ s; frame = f }) n x) (blocks-front p s f h ∙ add-one (blocks (record { bytes = s; frame = f })))
+    ∙ addBlocks-behind k i p s f h (blocks (record { bytes = s; frame = f })) x
 
 -- how far the string of these bytes and this closing byte moves the index
 pub closed-growth : (s : List ℕ) (c : ℕ) → indexGrowth (closedBy s c) ≡ b (length s) + 1

@@ -1,15 +1,22 @@
 -- Incremental equals from scratch: what a session keeps after one more string is what the longer history gives, worked out from the key
 -- and the first string on. Assumes nothing.
 use mathlib.Core.Path.{_≡_, refl, sym, ap, _∙_}
+use mathlib.Core.Bool.{Bool}
 use mathlib.Core.List.{List, [], _∷_, _++_, append-assoc, append-nil, foldl}
 use Prim.Native.Nat.{ℕ, zero, suc, _+_}
 use native.Mathlib.Nat.{add-zero, add-assoc, zero-add}
 use native.Mathlib.Omega.{arith}
+use lib.ListN.{length}
+use Rattle.word.specs.Lists.{sum}
+use Rattle.xoodoo.specs.Xoodoo.{perm}
+use Rattle.xoodoo.specs.Rolling.{rollIn}
+use Rattle.xoodoo.specs.Bytes.{fromBytes}
 use Rattle.xoofff.specs.Strings.{Str, blocks}
 use Rattle.xoofff.specs.declared.DeckState.{DeckState}
 use Rattle.xoofff.specs.Deck.{iterate, zeros, keyMask, maskAt, addBlocks, addHistory, indexOf, indexGrowth, accumulator, outputMask, deck}
 use Rattle.xoofff.specs.Incremental.{append, output, fromScratch}
-use Rattle.xoofff.proofs.Deck.{addBlocks-from, maskAt-add}
+use Rattle.xoofff.proofs.Strings.{blocks-front}
+use Rattle.xoofff.proofs.Deck.{addBlocks-from, addBlocks-front, maskAt-add, iterate-add}
 
 -- the index after one more string
 pub indexOf-more : (h : List Str) (s : Str) → indexOf (h ++ s ∷ []) ≡ indexOf h + indexGrowth s
@@ -59,3 +66,29 @@ fromScratch-all key h [] = ap (fromScratch key) (append-nil h)
 fromScratch-all key h (s ∷ g) =
     ap (fromScratch key) (sym (append-assoc h (s ∷ []) g))
     ∙ fromScratch-all key (h ++ s ∷ []) g ∙ ap (λ (d : DeckState). foldl append d g) (fromScratch-more key h s)
+
+-- a full block in front of a string is one block step, and then the string
+pub append-front : (d : DeckState) (p s : List ℕ) (f : List Bool) → length p ≡ 48
+    → append d (record { bytes = p ++ s; frame = f })
+    ≡ append (record { acc = sum (d .acc) (perm (sum (fromBytes p) (d .mask))); mask = rollIn (d .mask); index = d .index + 1 }) (record { bytes = s; frame = f })
+unfolding append maskAt iterate indexGrowth
+append-front d p s f h = λ t. record { acc = acc t; mask = mask t; index = index t }
+  where
+    P : Str
+    P = record { bytes = p ++ s; frame = f }
+
+    S : Str
+    S = record { bytes = s; frame = f }
+
+    acc : addBlocks (d .mask) 0 P (blocks P) (d .acc) ≡ addBlocks (rollIn (d .mask)) 0 S (blocks S) (sum (d .acc) (perm (sum (fromBytes p) (d .mask))))
+    acc =
+        addBlocks-front (d .mask) 0 p s f h (d .acc)
+        ∙ addBlocks-from (d .mask) 1 S (blocks S) (sum (d .acc) (perm (sum (fromBytes p) (d .mask))))
+
+    mask : iterate (blocks P + 1) rollIn (d .mask) ≡ iterate (blocks S + 1) rollIn (rollIn (d .mask))
+    mask =
+        let e : blocks P + 1 ≡ 1 + (blocks S + 1) = omega (arith, blocks-front p s f h) in
+        ap (λ (n : ℕ). iterate n rollIn (d .mask)) e ∙ iterate-add rollIn 1 (blocks S + 1) (d .mask)
+
+    index : d .index + (blocks P + 1) ≡ d .index + 1 + (blocks S + 1)
+    index = omega (arith, blocks-front p s f h)

@@ -338,3 +338,51 @@ closing-place s c w p h =
     let e : 48 * (length s / 48) + length s % 48 ≡ length s = omega arith in
     block-byte s c (length s / 48) (length s % 48) w p h (omega arith)
     ∙ ap (λ (n : ℕ). getD (s ++ c ∷ []) n 0) e ∙ getD-append-seam s c [] 0
+
+-- ---- a full block in front of a string
+
+bitsOfBytes-append : (p s : List ℕ) → bitsOfBytes (p ++ s) ≡ bitsOfBytes p ++ bitsOfBytes s
+unfolding bitsOfBytes
+bitsOfBytes-append [] s = refl
+bitsOfBytes-append (x ∷ p) s = ap (λ (m : List Bool). bitsOfByte x ++ m) (bitsOfBytes-append p s)
+
+-- the bits of the bytes in front, and then those of the string
+bits-behind : (p s : List ℕ) (f : List Bool) → (bitsOfBytes (p ++ s) ++ f) ++ true ∷ [] ≡ bitsOfBytes p ++ ((bitsOfBytes s ++ f) ++ true ∷ [])
+bits-behind p s f =
+    ap (λ (m : List Bool). (m ++ f) ++ true ∷ []) (bitsOfBytes-append p s)
+    ∙ ap (λ (m : List Bool). m ++ true ∷ []) (append-assoc (bitsOfBytes p) (bitsOfBytes s) f)
+    ∙ append-assoc (bitsOfBytes p) (bitsOfBytes s ++ f) (true ∷ [])
+
+-- it is block 0
+pub block-front : (p s : List ℕ) (f : List Bool) → length p ≡ 48 → block (record { bytes = p ++ s; frame = f }) 0 ≡ fromBytes p
+unfolding block fromString bitsOf
+block-front p s f h = lanes-ext _ _ agree
+  where
+    agree : (x y z : ℕ) → x < 4 → y < 3 → z < 32
+        → getD (padded (bitsOfBytes (p ++ s) ++ f)) (384 * 0 + (z + 32 * (x + 4 * y))) false ≡ byteBit p (z + 32 * (x + 4 * y))
+    agree x y z hx hy hz =
+        let k : ℕ = z + 32 * (x + 4 * y) in
+        let e : 384 * 0 + k ≡ k = omega arith in
+        padded-at (bitsOfBytes (p ++ s) ++ f) (384 * 0 + k)
+        ∙ ap₂ (λ (m : List Bool) (n : ℕ). getD m n false) (bits-behind p s f) e
+        ∙ List·getD-append (bitsOfBytes p) ((bitsOfBytes s ++ f) ++ true ∷ []) false k (omega (arith, bitsOfBytes-length p, h))
+        ∙ bytes-at p k
+
+-- and the string's blocks come after it
+pub block-behind : (p s : List ℕ) (f : List Bool) (j : ℕ) → length p ≡ 48 → block (record { bytes = p ++ s; frame = f }) (j + 1) ≡ block (record { bytes = s; frame = f }) j
+unfolding block bitsOf
+block-behind p s f j h = λ t. fromString (λ i. at i t)
+  where
+    at : (i : ℕ) → getD (padded (bitsOfBytes (p ++ s) ++ f)) (384 * (j + 1) + i) false ≡ getD (padded (bitsOfBytes s ++ f)) (384 * j + i) false
+    at i =
+        let e : 384 * (j + 1) + i ≡ length (bitsOfBytes p) + (384 * j + i) = omega (arith, bitsOfBytes-length p, h) in
+        padded-at (bitsOfBytes (p ++ s) ++ f) (384 * (j + 1) + i)
+        ∙ ap₂ (λ (m : List Bool) (n : ℕ). getD m n false) (bits-behind p s f) e
+        ∙ getD-append-add (bitsOfBytes p) ((bitsOfBytes s ++ f) ++ true ∷ []) (384 * j + i) false
+        ∙ sym (padded-at (bitsOfBytes s ++ f) (384 * j + i))
+
+pub blocks-front : (p s : List ℕ) (f : List Bool) → length p ≡ 48 → blocks (record { bytes = p ++ s; frame = f }) ≡ blocks (record { bytes = s; frame = f }) + 1
+blocks-front p s f h =
+    let P : Str = record { bytes = p ++ s; frame = f } in
+    let S : Str = record { bytes = s; frame = f } in
+    omega (arith, padded-blocks P, padded-blocks S, padded-length (bitsOf P), padded-length (bitsOf S), bitsOf-length P, bitsOf-length S, length-append p s, h)
