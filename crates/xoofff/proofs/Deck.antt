@@ -2,7 +2,7 @@
 use mathlib.Core.Path.{_≡_, refl, sym, ap, ap₂, _∙_}
 use mathlib.Core.Bool.{Bool}
 use mathlib.Core.List.{List, [], _∷_, _++_}
-use Prim.Native.Nat.{ℕ, zero, suc, _+_, _≤_, _<_}
+use Prim.Native.Nat.{ℕ, zero, suc, _+_, _<_}
 use native.Mathlib.Nat.{add-zero, add-suc, zero-add}
 use native.Mathlib.Numerals.{add-one}
 use native.Mathlib.Omega.{arith}
@@ -15,8 +15,8 @@ use Rattle.xoodoo.specs.Rolling.{rollIn, rollOut}
 use Rattle.xoodoo.specs.Bytes.{fromString, fromBytes, stateByte}
 use Rattle.xoodoo.proofs.Lanes.{lanes-length}
 use Rattle.xoofff.specs.Strings.{Str, blocks, block, b}
-use Rattle.xoofff.specs.Leaves.{closedBy}
-use Rattle.xoofff.specs.Deck.{iterate, keyMask, maskAt, addBlocks, addHistory, indexGrowth, outputBlock, outputByte}
+use Rattle.xoofff.specs.Leaves.{closedBy, frameBits}
+use Rattle.xoofff.specs.Deck.{iterate, zeros, keyMask, maskAt, addBlocks, addHistory, indexGrowth, indexOf, accumulator, outputMask, outputBlock, outputByte}
 use Rattle.xoofff.proofs.Strings.{closed-blocks, block-front, block-behind, blocks-front}
 
 -- ---- rolling
@@ -47,6 +47,11 @@ maskAt-more k i = iterate-more rollIn i k
 pub maskAt-add : (k : List ℕ) (i j : ℕ) → maskAt (maskAt k i) j ≡ maskAt k (i + j)
 unfolding maskAt
 maskAt-add k i j = sym (iterate-add rollIn i j k)
+
+-- a key's closing byte is 1
+pub keyMask-closed : (key : List ℕ) → keyMask key ≡ perm (block (closedBy key 1) 0)
+unfolding keyMask frameBits
+keyMask-closed key = refl
 
 -- ---- blocks added one after another
 
@@ -141,6 +146,14 @@ pub addHistory-length : (k : List ℕ) (i : ℕ) (h : List Str) (x : List ℕ) �
 unfolding addHistory
 addHistory-length k i [] x e = e
 addHistory-length k i (s ∷ h) x e = addHistory-length k (i + indexGrowth s) h (addBlocks k i s (blocks s) x) (addBlocks-length k i s (blocks s) x e)
+
+pub accumulator-length : (key : List ℕ) (h : List Str) → length (accumulator key h) ≡ 12
+unfolding accumulator
+accumulator-length key h = addHistory-length (keyMask key) 0 h zeros refl
+
+pub outputMask-length : (key : List ℕ) (h : List Str) → length (outputMask key h) ≡ 12
+unfolding outputMask
+outputMask-length key h = maskAt-length (keyMask key) (indexOf h) (keyMask-length key)
 
 pub outputBlock-length : (y k : List ℕ) (j : ℕ) → length k ≡ 12 → length (outputBlock y k j) ≡ 12
 unfolding outputBlock

@@ -18,7 +18,7 @@ use Rattle.word.proofs.Bit.{bit-shr, bit-above, word-ext}
 use Rattle.word.proofs.Lists.{tabulate-at, Words}
 use Rattle.xoodoo.specs.State.{bits}
 use Rattle.xoodoo.specs.Bytes.{stateOf, fromString, stringBit, byteBit, fromBytes, stateByte}
-use Rattle.xoodoo.proofs.Lanes.{lanes-ext, bits-of-lanes, lanes-length}
+use Rattle.xoodoo.proofs.Lanes.{lanes-ext, bits-of-lanes}
 use Rattle.xoofff.specs.Strings.{Str, bitsOfByte, bitsOfBytes, bitsOf, padded, blocks, block, b}
 use Rattle.xoofff.specs.Leaves.{closingByte, frameBits, closedBy}
 
@@ -82,7 +82,11 @@ frame-back (suc n) (f ∷ fs) h =
 pub frame-closing : (f : List Bool) → length f ≤ 7 → frameBits 7 (closingByte f) ≡ f
 frame-closing f h = frame-back 7 f h
 
--- and is the closing byte of the frame bits that it carries
+-- a string by its frame bits and by its closing byte
+pub closedBy-closing : (s : List ℕ) (f : List Bool) → length f ≤ 7 → closedBy s (closingByte f) ≡ record { bytes = s; frame = f }
+closedBy-closing s f h = λ t. record { bytes = s; frame = frame-closing f h t }
+
+-- a closing byte is that of the frame bits that it carries
 closing-back : (n c : ℕ) → 0 < c → c < 2 ^ (1 + n) → closingByte (frameBits n c) ≡ c
 unfolding closingByte frameBits
 closing-back zero c p h = omega arith
@@ -97,6 +101,7 @@ closing-back (suc n) c p h = go (decLe c 1) (λ q. closing-back n (c / 2) q (ome
 pub closing-frame : (c : ℕ) → 0 < c → c < 256 → closingByte (frameBits 7 c) ≡ c
 closing-frame c p h = closing-back 7 c p h
 
+-- which are at most seven
 frame-most : (n c : ℕ) → length (frameBits n c) ≤ n
 unfolding frameBits
 frame-most zero c = lit≤ tt
@@ -201,6 +206,7 @@ block-tabulate s c j p h =
 
 -- ---- how many
 
+-- eight bits for each byte, and the frame bits
 pub bitsOfBytes-length : (s : List ℕ) → length (bitsOfBytes s) ≡ 8 * length s
 unfolding bitsOfBytes
 bitsOfBytes-length [] = refl
@@ -210,6 +216,7 @@ pub bitsOf-length : (s : Str) → length (bitsOf s) ≡ 8 * length (s .bytes) + 
 unfolding bitsOf
 bitsOf-length s = omega (arith, length-append (bitsOfBytes (s .bytes)) (s .frame), bitsOfBytes-length (s .bytes))
 
+-- a multiple of 384, and not 0
 pub padded-length : (m : List Bool) → length (padded m) ≡ 384 * (length m / 384 + 1)
 unfolding padded
 padded-length m =
@@ -217,6 +224,7 @@ padded-length m =
     let e : n + suc (383 - n % 384) ≡ 384 * (n / 384 + 1) = omega arith in
     length-append m (true ∷ replicate (383 - length m % 384) false) ∙ ap (λ (k : ℕ). n + suc k) (length-replicate (383 - n % 384) false) ∙ e
 
+-- a string of L bytes has b(L) blocks
 pub blocks-is : (s : Str) → length (s .frame) ≤ 7 → blocks s ≡ b (length (s .bytes))
 unfolding blocks
 blocks-is s h =
@@ -227,6 +235,10 @@ blocks-is s h =
 pub closed-blocks : (s : List ℕ) (c : ℕ) → blocks (closedBy s c) ≡ b (length s)
 closed-blocks s c = blocks-is (closedBy s c) (frame-length c)
 
+-- a padded key of at most 47 bytes is one block
+pub key-blocks : (key : List ℕ) → length key ≤ 47 → blocks (record { bytes = key; frame = [] }) ≡ 1
+key-blocks key h = omega (arith, blocks-is (record { bytes = key; frame = [] }) (lit≤ tt))
+
 -- ---- the papers' padding, pinned down
 
 -- what pad10* makes of m: m, a 1-bit and fewer than 384 zeros, together a positive multiple of 384 bits
@@ -235,7 +247,7 @@ pub record Pad10 (m p : List Bool) : Type 0 where
   pub few : zeros < 384
   pub form : p ≡ m ++ true ∷ replicate zeros false
   pub whole : length p % 384 ≡ 0
-  pub some : 0 < length p
+  pub positive : 0 < length p
 
 pub padded-pads : (m : List Bool) → Pad10 m (padded m)
 unfolding padded
@@ -245,7 +257,7 @@ padded-pads m =
       few = omega arith;
       form = refl;
       whole = omega (arith, padded-length m);
-      some = omega (arith, padded-length m);
+      positive = omega (arith, padded-length m);
     }
 
 -- and nothing else is
