@@ -1,2 +1,6 @@
 -- Laws that belong to no one function.
+pub mod Strings
+pub mod Deck
+pub mod Incremental
+pub mod Output
 pub mod Leaves
