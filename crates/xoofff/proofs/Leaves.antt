@@ -1,10 +1,9 @@
 -- What the loops of the leaves hold, over plain values. Assumes nothing.
 use mathlib.Core.Path.{_≡_, refl, sym, ap, ap₂, _∙_}
 use mathlib.Core.List.{List, [], _∷_, _++_}
-use Prim.Native.Nat.{ℕ, zero, suc, _+_, _*_, _-_, _/_, _%_, _≤_, _<_, min}
+use Prim.Native.Nat.{ℕ, zero, suc, _+_, _-_, _/_, _%_, _≤_, _<_, min}
 use native.Mathlib.Decide.{decLe}
 use native.Mathlib.Nat.{zero-add}
-use native.Mathlib.Numerals.{add-one}
 use native.Mathlib.Omega.{arith}
 use lib.Bits.{bitXor}
 use lib.ListN.{length, getD, set, replicate, getD-replicate, length-set, length-append, List·getD-append, List·getD-eq-default}
@@ -20,12 +19,7 @@ use Rattle.xoofff.specs.Strings.{Str, block, blocks}
 use Rattle.xoofff.specs.Deck.{iterate, maskAt, addBlocks, indexGrowth, outputBlock, outputByte, run}
 use Rattle.xoofff.specs.Incremental.{append}
 use Rattle.xoofff.specs.Leaves.{Added, outputBlocks, compressed}
-
--- ---- one more turn
-
-pub iterate-more : (f : List ℕ → List ℕ) (y z t : List ℕ) (i : ℕ) → z ≡ iterate i f y → t ≡ f z → t ≡ iterate (i + 1) f y
-unfolding iterate
-iterate-more f y z t i h e = e ∙ ap f h ∙ ap (λ (k : ℕ). iterate k f y) (sym (add-one i))
+use Rattle.xoofff.proofs.Deck.{iterate-more, maskAt-more, addBlocks-more}
 
 -- ---- the bytes of a block
 
@@ -79,9 +73,6 @@ copied-byte s c at b i h l d =
 pub closed-block : (s : List ℕ) (c at : ℕ) (b : List ℕ) (n : ℕ) → n < 48 → at + n ≡ length s → Copied s c at b n → set b n c ≡ run (closedAt s c) at 48
 closed-block s c at b n h e d = tabulate-is 48 (λ k. closedAt s c (at + k)) (set b n c) (length-set b n c ∙ d .size) (λ k l. go k (decLe k n))
   where
-    f : ℕ → ℕ
-    f k = closedAt s c (at + k)
-
     go : (k : ℕ) → Dec (k ≤ n) → getD (set b n c) k 0 ≡ closedAt s c (at + k)
     go k (yes p) = filled-more (λ k. closedAt s c (at + k)) b n c (omega (arith, d .size)) (closed-end s c (at + n) e) (d .filled) k (omega arith)
     go k (no p) = clear-more b n c (d .clear) k (omega (arith, p)) ∙ sym (closed-past s c (at + k) (omega (arith, p)))
@@ -92,26 +83,13 @@ whole-block s c at b d = tabulate-is 48 (λ k. closedAt s c (at + k)) b (d .size
 
 -- ---- compression
 
-pub none-added : (k : List ℕ) (i : ℕ) (s : Str) (x : List ℕ) → x ≡ addBlocks k i s 0 x
-unfolding addBlocks
-none-added k i s x = refl
-
-pub unrolled : (k : List ℕ) → k ≡ maskAt k 0
-unfolding maskAt iterate
-unrolled k = refl
-
 -- one more block, by the mask at its index
 pub block-added : (k : List ℕ) (s : Str) (j : ℕ) (x a m : List ℕ) {b t : List ℕ} → a ≡ addBlocks k 0 s j x → m ≡ maskAt k j → b ≡ block s j
     → t ≡ sum a (perm (sum b m)) → t ≡ addBlocks k 0 s (j + 1) x
-unfolding addBlocks
-block-added k s j x a m {b} {t} ea em eb e =
-    e
-    ∙ ap₂ (λ (u v : List ℕ). sum u (perm v)) ea (ap₂ sum eb (em ∙ ap (maskAt k) (sym (zero-add j))))
-    ∙ ap (λ (n : ℕ). addBlocks k 0 s n x) (sym (add-one j))
+block-added k s j x a m {b} {t} ea em eb e = e ∙ ap₂ (λ (u v : List ℕ). sum u (perm v)) ea (ap₂ sum eb em) ∙ sym (addBlocks-more k s j x)
 
 pub mask-rolled : (k : List ℕ) (j : ℕ) (m t : List ℕ) → m ≡ maskAt k j → t ≡ rollIn m → t ≡ maskAt k (j + 1)
-unfolding maskAt
-mask-rolled k j m t h e = iterate-more rollIn k m t j h e
+mask-rolled k j m t h e = e ∙ ap rollIn h ∙ sym (maskAt-more k j)
 
 -- after the last block: the string's state and its count
 pub all-added : (d : DeckState) (s : Str) (a m : List ℕ) (j i : ℕ) → j ≡ blocks s → a ≡ addBlocks (d .mask) 0 s j (d .acc) → m ≡ maskAt (d .mask) (j + 1) → i ≡ d .index + j + 1
@@ -213,7 +191,7 @@ unfolding outputBlocks
 blocks-most i zero = omega arith
 blocks-most i (suc n) = omega arith
 
--- after `count` blocks, of which the last n bytes of the buffer so far took their sums: z is the state of the next block
+-- after `count` output blocks: the first n bytes of the buffer have their sums, and z is the state that the next block is made from
 pub record Expanded (y k′ : List ℕ) (from : ℕ) (o : List ℕ) (n : ℕ) (z o′ : List ℕ) (count : ℕ) : Type 0 where
   pub rolled : z ≡ iterate (from / 48 + count) rollOut y
   pub added : Added (λ k. outputByte y k′ (from + k)) 0 n o o′
@@ -223,14 +201,14 @@ expanded-none y k′ from o z e =
     let h : from / 48 ≡ from / 48 + 0 = omega arith in
     record { rolled = e ∙ ap (λ (i : ℕ). iterate i rollOut y) h; added = added-none (λ k. outputByte y k′ (from + k)) 0 o }
 
--- one more block b, of which n bytes from the byte of its place on were added
+-- one more block b, of which n bytes were added: those of the output from byte from + m on
 pub expanded-more : (y k′ : List ℕ) (from : ℕ) (o z o′ o″ : List ℕ) (m n count : ℕ) (b t : List ℕ)
     → (from + m) / 48 ≡ from / 48 + count → n ≤ 48 - (from + m) % 48 → b ≡ toBytes (sum (perm z) k′) → t ≡ rollOut z
     → Added (λ k. getD b ((from + m) % 48 + k) 0) m n o′ o″ → Expanded y k′ from o m z o′ count → Expanded y k′ from o (m + n) t o″ (count + 1)
 expanded-more y k′ from o z o′ o″ m n count b t e h eb et d x =
     let i : from / 48 + count + 1 ≡ from / 48 + (count + 1) = omega arith in
     record {
-      rolled = iterate-more rollOut y z t (from / 48 + count) (x .rolled) et ∙ ap (λ (j : ℕ). iterate j rollOut y) i;
+      rolled = et ∙ ap rollOut (x .rolled) ∙ sym (iterate-more rollOut (from / 48 + count) y) ∙ ap (λ (j : ℕ). iterate j rollOut y) i;
       added =
           added-run (λ k. outputByte y k′ (from + k)) (λ k. getD b ((from + m) % 48 + k) 0) m n o o′ o″
           (λ k l.

@@ -1,9 +1,7 @@
 -- `xoofff::block_bytes` meets its contract. The loop's invariant: the bytes below i are copied, and the others are 0. Assumes nothing.
 use mathlib.Core.Path.{_≡_, subst}
-use Prim.Native.Nat.{ℕ, _≤_, _*_, _+_, _-_, _<_, min}
-use native.Mathlib.Decide.{decLe}
+use Prim.Native.Nat.{_≤_, _*_, _-_}
 use native.Mathlib.Omega.{arith}
-use lib.ListN.{length}
 use denote.Ref.{now}
 use borrow.Author.Needs.{needs}
 use Rattle.xoofff.proofs.Leaves.{Copied, copied-none, copied-byte, closed-block, whole-block}
@@ -16,43 +14,16 @@ Inv-loop s closing j at n b₀ i₀ b i = (i ≤ n) × Copied s closing at b i
 abbrev μ-loop : tie.MeasureT-loop
 μ-loop s closing j at n b₀ i₀ b i = n - i
 
-mul-at : tie.Need-mul-at Inv-loop μ-loop
-mul-at c = omega arith
-
-sub-smaller : tie.Need-sub-smaller Inv-loop μ-loop
-sub-smaller c = omega arith
-
-smaller-requires : tie.Need-smaller-requires Inv-loop μ-loop
-smaller-requires c κs = search needs
-
 loop-holds : tie.Need-loop-holds Inv-loop μ-loop
 loop-holds c =
     let a = c .before .before .args in
     (omega arith, copied-none (now (a .s)) (a .closing) (48 * a .j))
-
-add-b : tie.Need-add-b Inv-loop μ-loop
-add-b c = omega arith
-
-shared-slice-read-b : tie.Need-shared-slice-read-b Inv-loop μ-loop
-shared-slice-read-b c = omega arith
-
-array-write-b : tie.Need-array-write-b Inv-loop μ-loop
-array-write-b c = omega arith
-
-add-i : tie.Need-add-i Inv-loop μ-loop
-add-i c = omega arith
-
-loop-less : tie.Need-loop-less Inv-loop μ-loop
-loop-less c = omega arith
 
 loop-again : tie.Need-loop-again Inv-loop μ-loop
 loop-again c =
     let l = c .before .before .loop in
     let a = c .before .before .before .before .before .args in
     (omega arith, copied-byte (now (a .s)) (a .closing) (48 * a .j) (l .b) (l .i) (omega arith) (omega arith) (l .inv .1))
-
-array-write-b-2 : tie.Need-array-write-b-2 Inv-loop μ-loop
-array-write-b-2 c = omega arith
 
 returns : tie.Need-returns Inv-loop μ-loop
 returns c =
@@ -70,21 +41,4 @@ returns-2 c =
     whole-block (now (a .s)) (a .closing) (48 * a .j) (l .b) (subst (Copied (now (a .s)) (a .closing) (48 * a .j) (l .b)) e (l .inv .1))
 
 pub block-bytes-spec : {M : Type 1} → statement M
-block-bytes-spec =
-    tie.close
-    (tie.spec
-    Inv-loop
-    μ-loop
-    mul-at
-    sub-smaller
-    smaller-requires
-    loop-holds
-    add-b
-    shared-slice-read-b
-    array-write-b
-    add-i
-    loop-less
-    loop-again
-    array-write-b-2
-    returns
-    returns-2)
+block-bytes-spec = tie.close (tie.spec Inv-loop μ-loop (λ c. omega arith) (λ c. omega arith) (λ c κs. search needs) loop-holds (λ c. omega arith) (λ c. omega arith) (λ c. omega arith) (λ c. omega arith) (λ c. omega arith) loop-again (λ c. omega arith) returns returns-2)

@@ -1,6 +1,6 @@
 -- `xoofff::compress` meets its contract. The loop's invariant: the first j blocks are added, and the mask is rolled j times. Assumes nothing.
-use mathlib.Core.Path.{_≡_, refl, ap, sym, _∙_}
-use Prim.Native.Nat.{ℕ, _≤_, _*_, _+_, _-_, _/_}
+use mathlib.Core.Path.{_≡_, refl, sym, _∙_}
+use Prim.Native.Nat.{_≤_, _*_, _+_, _-_, _/_}
 use native.Mathlib.Omega.{arith}
 use lib.ListN.{length}
 use denote.Ref.{now}
@@ -8,7 +8,8 @@ use borrow.Author.Needs.{needs}
 use Rattle.xoofff.specs.Deck.{addBlocks, maskAt}
 use Rattle.xoofff.specs.Leaves.{closedBy}
 use Rattle.xoofff.proofs.Strings.{closed-blocks}
-use Rattle.xoofff.proofs.Leaves.{none-added, unrolled, block-added, mask-rolled, all-added}
+use Rattle.xoofff.proofs.Deck.{addBlocks-none, maskAt-none}
+use Rattle.xoofff.proofs.Leaves.{block-added, mask-rolled, all-added}
 use Rattle.xoofff.proofs.compress.Statement.{statement}
 use Rattle.xoofff.proofs.compress.Tie as tie
 
@@ -19,25 +20,7 @@ abbrev μ-loop : tie.MeasureT-loop
 μ-loop d s closing acc₀ mask₀ j₀ acc mask j = length s + 48 - 48 * j
 
 loop-holds : tie.Need-loop-holds Inv-loop μ-loop
-loop-holds c = (omega arith, none-added _ 0 _ _, unrolled _)
-
-mul-loop : tie.Need-mul-loop Inv-loop μ-loop
-mul-loop c = omega arith
-
-load-block-requires : tie.Need-load-block-requires Inv-loop μ-loop
-load-block-requires c κs = search needs
-
-add-block-requires : tie.Need-add-block-requires Inv-loop μ-loop
-add-block-requires c κs = search needs
-
-roll-in-requires : tie.Need-roll-in-requires Inv-loop μ-loop
-roll-in-requires c κs = search needs
-
-add-j : tie.Need-add-j Inv-loop μ-loop
-add-j c = omega arith
-
-loop-less : tie.Need-loop-less Inv-loop μ-loop
-loop-less c = omega arith
+loop-holds c = (omega arith, sym (addBlocks-none _ 0 _ _), sym (maskAt-none _))
 
 loop-again : tie.Need-loop-again Inv-loop μ-loop
 loop-again c =
@@ -49,18 +32,6 @@ loop-again c =
       mask-rolled (a .d .mask) (l .j) (l .mask) (c .roll-in .result) (l .inv .2) (c .roll-in .ensures),
     )
 
-roll-in-requires-2 : tie.Need-roll-in-requires-2 Inv-loop μ-loop
-roll-in-requires-2 c κs = search needs
-
-cast-count : tie.Need-cast-count Inv-loop μ-loop
-cast-count c = omega arith
-
-add-index : tie.Need-add-index Inv-loop μ-loop
-add-index c = omega arith
-
-add-index-2 : tie.Need-add-index-2 Inv-loop μ-loop
-add-index-2 c = omega arith
-
 returns : tie.Need-returns Inv-loop μ-loop
 returns c =
     let l = c .before .before .before .loop in
@@ -71,21 +42,4 @@ returns c =
     (mask-rolled (a .d .mask) (l .j) (l .mask) (c .before .roll-in2 .result) (l .inv .2) (c .before .roll-in2 .ensures)) refl
 
 pub compress-spec : {M : Type 1} → statement M
-compress-spec =
-    tie.close
-    (tie.spec
-    Inv-loop
-    μ-loop
-    loop-holds
-    mul-loop
-    load-block-requires
-    add-block-requires
-    roll-in-requires
-    add-j
-    loop-less
-    loop-again
-    roll-in-requires-2
-    cast-count
-    add-index
-    add-index-2
-    returns)
+compress-spec = tie.close (tie.spec Inv-loop μ-loop loop-holds (λ c. omega arith) (λ c κs. search needs) (λ c κs. search needs) (λ c κs. search needs) (λ c. omega arith) (λ c. omega arith) loop-again (λ c κs. search needs) (λ c. omega arith) (λ c. omega arith) (λ c. omega arith) returns)

@@ -1,15 +1,15 @@
--- `xoofff::expand` meets its contract. The loop's invariant: the bytes below `at` are summed, by as many blocks as hold them, and z is the state of the
--- next block. Assumes nothing.
-use mathlib.Core.Path.{_≡_, refl, ap, sym, subst, _∙_}
+-- `xoofff::expand` meets its contract. The loop's invariant: the bytes below `at` have their sums, from the blocks that hold
+-- them, and z is the state that the next block is made from. Assumes nothing.
+use mathlib.Core.Path.{_≡_, refl, ap, _∙_}
 use mathlib.Core.List.{List}
-use Prim.Native.Nat.{ℕ, _≤_, _<_, _*_, _+_, _-_, _/_, _%_, min}
+use Prim.Native.Nat.{ℕ, _≤_, _<_, _+_, _-_, _/_}
 use native.Mathlib.Omega.{arith}
 use lib.ListN.{length}
 use denote.Ref.{now}
 use borrow.Author.Needs.{needs}
 use Rattle.xoodoo.specs.Rolling.{rollOut}
-use Rattle.xoofff.specs.Deck.{iterate, outputByte}
-use Rattle.xoofff.specs.Leaves.{Added, outputBlocks}
+use Rattle.xoofff.specs.Deck.{iterate}
+use Rattle.xoofff.specs.Leaves.{outputBlocks}
 use Rattle.xoofff.proofs.Leaves.{added-all, no-blocks, blocks-more, blocks-most, Expanded, expanded-none, expanded-more, place-more}
 use Rattle.xoofff.proofs.expand.Statement.{statement}
 use Rattle.xoofff.proofs.expand.Tie as tie
@@ -22,35 +22,14 @@ Inv-loop mask from out₀ z₀ at₀ count₀ out z at count =
 abbrev μ-loop : tie.MeasureT-loop
 μ-loop mask from out₀ z₀ at₀ count₀ out z at count = length out₀ - at
 
-roll-by-requires : tie.Need-roll-by-requires Inv-loop μ-loop
-roll-by-requires c κs = search needs
-
 loop-holds : tie.Need-loop-holds Inv-loop μ-loop
 loop-holds c = (omega arith, refl, no-blocks _, (λ h. omega arith), λ y e. expanded-none y _ _ _ _ e)
-
-output-bytes-requires : tie.Need-output-bytes-requires Inv-loop μ-loop
-output-bytes-requires c κs = search needs
-
-add-xor-bytes : tie.Need-add-xor-bytes Inv-loop μ-loop
-add-xor-bytes c = omega arith
-
-xor-bytes-requires : tie.Need-xor-bytes-requires Inv-loop μ-loop
-xor-bytes-requires c κs = search needs
-
-add-at : tie.Need-add-at Inv-loop μ-loop
-add-at c = omega arith
-
-roll-out-requires : tie.Need-roll-out-requires Inv-loop μ-loop
-roll-out-requires c κs = search needs
 
 add-count : tie.Need-add-count Inv-loop μ-loop
 add-count c =
     let l = c .before .before .before .before .before .before .before .before .loop in
     let a = c .before .before .before .before .before .before .before .before .before .before .before .args in
     omega (arith, blocks-most (a .from) (l .at), l .inv .2)
-
-loop-less : tie.Need-loop-less Inv-loop μ-loop
-loop-less c = omega arith
 
 loop-again : tie.Need-loop-again Inv-loop μ-loop
 loop-again c =
@@ -68,9 +47,6 @@ loop-again c =
           h (omega arith) (b .ensures) (c .roll-out .ensures) (x .ensures .1) (l .inv .4 y e),
     )
 
-same-length : tie.Need-same-length Inv-loop μ-loop
-same-length c = omega arith
-
 returns : tie.Need-returns Inv-loop μ-loop
 returns c =
     let l = c .before .loop in
@@ -81,20 +57,4 @@ returns c =
     )
 
 pub expand-spec : {M : Type 1} → statement M
-expand-spec =
-    tie.close
-    (tie.spec
-    Inv-loop
-    μ-loop
-    roll-by-requires
-    loop-holds
-    output-bytes-requires
-    add-xor-bytes
-    xor-bytes-requires
-    add-at
-    roll-out-requires
-    add-count
-    loop-less
-    loop-again
-    same-length
-    returns)
+expand-spec = tie.close (tie.spec Inv-loop μ-loop (λ c κs. search needs) loop-holds (λ c κs. search needs) (λ c. omega arith) (λ c κs. search needs) (λ c. omega arith) (λ c κs. search needs) add-count (λ c. omega arith) loop-again (λ c. omega arith) returns)

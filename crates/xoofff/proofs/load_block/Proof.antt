@@ -1,5 +1,5 @@
 -- `xoofff::load_block` meets its contract. Assumes nothing.
-use mathlib.Core.Path.{_≡_, refl, ap, sym, _∙_}
+use mathlib.Core.Path.{ap, sym, _∙_}
 use mathlib.Core.List.{List}
 use Prim.Native.Nat.{ℕ}
 use denote.Ref.{now}
@@ -9,12 +9,6 @@ use Rattle.xoofff.proofs.Strings.{block-tabulate}
 use Rattle.xoofff.proofs.load_block.Statement.{statement}
 use Rattle.xoofff.proofs.load_block.Tie as tie
 
-block-bytes-requires : tie.Need-block-bytes-requires
-block-bytes-requires c κs = search needs
-
-from-bytes-requires : tie.Need-from-bytes-requires
-from-bytes-requires c κs = search needs
-
 returns : tie.Need-returns
 returns c =
     let a = c .before .before .before .before .args in
@@ -23,4 +17,4 @@ returns c =
     ∙ sym (block-tabulate (now (a .s)) (a .closing) (a .j) (search needs) (search needs))
 
 pub load-block-spec : {M : Type 1} → statement M
-load-block-spec = tie.close (tie.spec block-bytes-requires from-bytes-requires returns)
+load-block-spec = tie.close (tie.spec (λ c κs. search needs) (λ c κs. search needs) returns)

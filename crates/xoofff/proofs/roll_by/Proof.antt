@@ -1,11 +1,11 @@
 -- `xoofff::roll_by` meets its contract. The loop's invariant: z is y rolled i times. Assumes nothing.
-use mathlib.Core.Path.{_≡_, refl, ap, _∙_}
+use mathlib.Core.Path.{_≡_, refl, sym, ap, _∙_}
 use Prim.Native.Nat.{ℕ, _≤_, _-_}
 use native.Mathlib.Omega.{arith}
 use borrow.Author.Needs.{needs}
 use Rattle.xoodoo.specs.Rolling.{rollOut}
 use Rattle.xoofff.specs.Deck.{iterate}
-use Rattle.xoofff.proofs.Leaves.{iterate-more}
+use Rattle.xoofff.proofs.Deck.{iterate-more}
 use Rattle.xoofff.proofs.roll_by.Statement.{statement}
 use Rattle.xoofff.proofs.roll_by.Tie as tie
 
@@ -19,17 +19,11 @@ loop-holds : tie.Need-loop-holds Inv-loop μ-loop
 unfolding iterate
 loop-holds c = (omega arith, refl)
 
-roll-out-requires : tie.Need-roll-out-requires Inv-loop μ-loop
-roll-out-requires c κs = search needs
-
-add-i : tie.Need-add-i Inv-loop μ-loop
-add-i c = omega arith
-
-loop-less : tie.Need-loop-less Inv-loop μ-loop
-loop-less c = omega arith
-
 loop-again : tie.Need-loop-again Inv-loop μ-loop
-loop-again c = let l = c .before .before .loop in (omega arith, iterate-more rollOut _ (l .z) (c .roll-out .result) (l .i) (l .inv .1) (c .roll-out .ensures))
+loop-again c =
+    let l = c .before .before .loop in
+    let y = c .before .before .before .args .y in
+    (omega arith, c .roll-out .ensures ∙ ap rollOut (l .inv .1) ∙ sym (iterate-more rollOut (l .i) y))
 
 returns : tie.Need-returns Inv-loop μ-loop
 returns c =
@@ -38,6 +32,4 @@ returns c =
     let e : l .i ≡ a .n = omega arith in l .inv .1 ∙ ap (λ (k : ℕ). iterate k rollOut (a .y)) e
 
 pub roll-by-spec : {M : Type 1} → statement M
-roll-by-spec =
-    tie.close
-    (tie.spec Inv-loop μ-loop loop-holds roll-out-requires add-i loop-less loop-again returns)
+roll-by-spec = tie.close (tie.spec Inv-loop μ-loop loop-holds (λ c κs. search needs) (λ c. omega arith) (λ c. omega arith) loop-again returns)
