@@ -15,6 +15,7 @@ use Rattle.xoofff.specs.Strings.{Str, blocks}
 use Rattle.xoofff.specs.declared.DeckState.{DeckState}
 use Rattle.xoofff.specs.Deck.{iterate, zeros, keyMask, maskAt, addBlocks, addHistory, indexOf, indexGrowth, accumulator, outputMask, deck}
 use Rattle.xoofff.specs.Incremental.{append, output, fromScratch}
+use Rattle.xoofff.proofs.Closing.{framed}
 use Rattle.xoofff.proofs.Strings.{blocks-front}
 use Rattle.xoofff.proofs.Deck.{addBlocks-from, addBlocks-front, maskAt-add, iterate-add}
 
@@ -69,16 +70,16 @@ fromScratch-all key h (s ∷ g) =
 
 -- a full block in front of a string is one block step, and then the string
 pub append-front : (d : DeckState) (p s : List ℕ) (f : List Bool) → length p ≡ 48
-    → append d (record { bytes = p ++ s; frame = f })
-    ≡ append (record { acc = sum (d .acc) (perm (sum (fromBytes p) (d .mask))); mask = rollIn (d .mask); index = d .index + 1 }) (record { bytes = s; frame = f })
+    → append d (framed (p ++ s) f)
+    ≡ append (record { acc = sum (d .acc) (perm (sum (fromBytes p) (d .mask))); mask = rollIn (d .mask); index = d .index + 1 }) (framed s f)
 unfolding append maskAt iterate indexGrowth
 append-front d p s f h = λ t. record { acc = acc t; mask = mask t; index = index t }
   where
     P : Str
-    P = record { bytes = p ++ s; frame = f }
+    P = framed (p ++ s) f
 
     S : Str
-    S = record { bytes = s; frame = f }
+    S = framed s f
 
     acc : addBlocks (d .mask) 0 P (blocks P) (d .acc) ≡ addBlocks (rollIn (d .mask)) 0 S (blocks S) (sum (d .acc) (perm (sum (fromBytes p) (d .mask))))
     acc =

@@ -1,4 +1,5 @@
 -- Laws that belong to no one function.
+pub mod Closing
 pub mod Strings
 pub mod Deck
 pub mod Incremental

@@ -1,126 +1,24 @@
--- Strings, their padding and their blocks: what a string's closing byte is, and what block j of a padded string is, by bits and by bytes.
--- Assumes nothing.
+-- Strings, their padding and their blocks: the papers' padding is one byte more, and what block j of a padded string is, by bits and by
+-- bytes. Assumes nothing.
 use mathlib.Core.Path.{_≡_, refl, sym, ap, ap₂, _∙_}
-use mathlib.Core.Bool.{Bool, true, false, cond}
+use mathlib.Core.Bool.{Bool, true, false}
 use mathlib.Core.List.{List, [], _∷_, _++_, append-assoc}
 use Prim.Native.Nat.{ℕ, zero, suc, _+_, _*_, _-_, _/_, _%_, _^_, _≤_, _<_}
 use native.Mathlib.Decide.{decLe}
-use native.Mathlib.Numerals.{one-add}
 use native.Mathlib.Omega.{arith}
-use lib.Dec.{eqb, leb, lit<, lit≤}
+use lib.Dec.{lit<, lit≤}
 use lib.ListN.{length, getD, take, replicate, length-append, length-replicate, List·getD-eq-default, List·getD-append}
-use lib.Pow.{pow-add, pow-pos}
 use lib.Seq.{getD-append-add, getD-append-seam, take-append-seam}
-use borrow.Author.Tests.{le-leb, lt-leb}
-use Rattle.word.specs.Word.{bit, digit}
+use Rattle.word.specs.Word.{bit}
 use Rattle.word.specs.Lists.{tabulate}
-use Rattle.word.proofs.Bit.{bit-shr, bit-above, word-ext}
+use Rattle.word.proofs.Bit.{bit-above, word-ext}
 use Rattle.word.proofs.Lists.{tabulate-at, Words}
 use Rattle.xoodoo.specs.State.{bits}
 use Rattle.xoodoo.specs.Bytes.{stateOf, fromString, stringBit, byteBit, fromBytes, stateByte}
 use Rattle.xoodoo.proofs.Lanes.{lanes-ext, bits-of-lanes}
 use Rattle.xoofff.specs.Strings.{Str, bitsOfByte, bitsOfBytes, bitsOf, padded, blocks, block, b}
 use Rattle.xoofff.specs.Leaves.{closingByte, frameBits, closedBy}
-
--- ---- the closing byte
-
-digit-lt : (f : Bool) → digit f < 2
-digit-lt true = lit< tt
-digit-lt false = lit< tt
-
-digit-low : (f : Bool) (n : ℕ) → bit (digit f + 2 * n) 0 ≡ f
-unfolding bit
-digit-low true n = let e : (1 + 2 * n) / 2 ^ 0 % 2 ≡ 1 = omega arith in ap (λ (m : ℕ). eqb m 1) e
-digit-low false n = let e : (0 + 2 * n) / 2 ^ 0 % 2 ≡ 0 = omega arith in ap (λ (m : ℕ). eqb m 1) e
-
-digit-half : (f : Bool) (n : ℕ) → (digit f + 2 * n) / 2 ≡ n
-digit-half true n = omega arith
-digit-half false n = omega arith
-
-digit-high : (f : Bool) (n z : ℕ) → bit (digit f + 2 * n) (suc z) ≡ bit n z
-digit-high f n z =
-    ap (bit (digit f + 2 * n)) (sym (one-add z)) ∙ sym (bit-shr (digit f + 2 * n) 1 z) ∙ ap (λ (m : ℕ). bit m z) (digit-half f n)
-
-digit-of-low : (n : ℕ) → digit (bit n 0) ≡ n % 2
-unfolding bit
-digit-of-low n = go (n % 2) (n / 2 ^ 0 % 2) (omega arith) (omega arith)
-  where
-    go : (r m : ℕ) → m ≡ r → r < 2 → digit (eqb m 1) ≡ r
-    go zero m e h = ap (λ (k : ℕ). digit (eqb k 1)) e
-    go (suc zero) m e h = ap (λ (k : ℕ). digit (eqb k 1)) e
-    go (suc (suc r)) m e h = absurd (omega arith)
-
--- a closing byte is not 0
-pub closing-pos : (f : List Bool) → 0 < closingByte f
-unfolding closingByte
-closing-pos [] = lit< tt
-closing-pos (f ∷ fs) = omega (arith, closing-pos fs)
-
--- n frame bits make a closing byte of n + 1 bits
-closing-most : (n : ℕ) (f : List Bool) → length f ≤ n → closingByte f < 2 ^ (1 + n)
-unfolding closingByte
-closing-most zero [] h = lit< tt
-closing-most (suc n) [] h = omega (arith, pow-add 2 1 (suc n), pow-pos (suc n))
-closing-most zero (f ∷ fs) h = absurd (omega (arith, h))
-closing-most (suc n) (f ∷ fs) h =
-    omega (arith, digit-lt f, closing-most n fs (omega (arith, h)), pow-add 2 1 (suc n), ap (λ (k : ℕ). 2 ^ k) (one-add n))
-
-pub closing-lt : (f : List Bool) → length f ≤ 7 → closingByte f < 256
-closing-lt f h = closing-most 7 f h
-
--- a closing byte gives its frame bits back
-frame-back : (n : ℕ) (f : List Bool) → length f ≤ n → frameBits n (closingByte f) ≡ f
-unfolding closingByte frameBits
-frame-back zero [] h = refl
-frame-back (suc n) [] h = refl
-frame-back zero (f ∷ fs) h = absurd (omega (arith, h))
-frame-back (suc n) (f ∷ fs) h =
-    let c = digit f + 2 * closingByte fs in
-    ap (λ (t : Bool). cond t [] (bit c 0 ∷ frameBits n (c / 2))) (lt-leb c 1 (omega (arith, closing-pos fs)))
-    ∙ ap₂ {C = List Bool} (λ x y. x ∷ y) (digit-low f (closingByte fs)) (ap (frameBits n) (digit-half f (closingByte fs)) ∙ frame-back n fs (omega (arith, h)))
-
-pub frame-closing : (f : List Bool) → length f ≤ 7 → frameBits 7 (closingByte f) ≡ f
-frame-closing f h = frame-back 7 f h
-
--- a string by its frame bits and by its closing byte
-pub closedBy-closing : (s : List ℕ) (f : List Bool) → length f ≤ 7 → closedBy s (closingByte f) ≡ record { bytes = s; frame = f }
-closedBy-closing s f h = λ t. record { bytes = s; frame = frame-closing f h t }
-
--- a closing byte is that of the frame bits that it carries
-closing-back : (n c : ℕ) → 0 < c → c < 2 ^ (1 + n) → closingByte (frameBits n c) ≡ c
-unfolding closingByte frameBits
-closing-back zero c p h = omega arith
-closing-back (suc n) c p h = go (decLe c 1) (λ q. closing-back n (c / 2) q (omega (arith, pow-add 2 1 (suc n), ap (λ (k : ℕ). 2 ^ k) (one-add n))))
-  where
-    go : Dec (c ≤ 1) → (0 < c / 2 → closingByte (frameBits n (c / 2)) ≡ c / 2) → closingByte (cond (leb c 1) [] (bit c 0 ∷ frameBits n (c / 2))) ≡ c
-    go (yes q) ih = ap (λ (t : Bool). closingByte (cond t [] (bit c 0 ∷ frameBits n (c / 2)))) (le-leb c 1 q) ∙ (let e : 1 ≡ c = omega arith in e)
-    go (no q) ih =
-        ap (λ (t : Bool). closingByte (cond t [] (bit c 0 ∷ frameBits n (c / 2)))) (lt-leb c 1 (omega (arith, q)))
-        ∙ (let e : digit (bit c 0) + 2 * closingByte (frameBits n (c / 2)) ≡ c = omega (arith, digit-of-low c, ih (omega (arith, q))) in e)
-
-pub closing-frame : (c : ℕ) → 0 < c → c < 256 → closingByte (frameBits 7 c) ≡ c
-closing-frame c p h = closing-back 7 c p h
-
--- which are at most seven
-frame-most : (n c : ℕ) → length (frameBits n c) ≤ n
-unfolding frameBits
-frame-most zero c = lit≤ tt
-frame-most (suc n) c = go (leb c 1) (frame-most n (c / 2))
-  where
-    go : (t : Bool) → length (frameBits n (c / 2)) ≤ n → length (cond t [] (bit c 0 ∷ frameBits n (c / 2))) ≤ suc n
-    go true h = omega arith
-    go false h = omega (arith, h)
-
-pub frame-length : (c : ℕ) → length (frameBits 7 c) ≤ 7
-frame-length c = frame-most 7 c
-
--- its bits: the frame bits, the padding bit, and then zeros
-closing-bits : (f : List Bool) (z : ℕ) → getD (f ++ true ∷ []) z false ≡ bit (closingByte f) z
-unfolding closingByte
-closing-bits [] zero = let e : true ≡ bit 1 0 = sym (digit-low true 0) in e
-closing-bits [] (suc z) = sym (bit-above 1 1 (suc z) (lit< tt) (omega arith))
-closing-bits (f ∷ fs) zero = sym (digit-low f (closingByte fs))
-closing-bits (f ∷ fs) (suc z) = closing-bits fs z ∙ sym (digit-high f (closingByte fs) z)
+use Rattle.xoofff.proofs.Closing.{framed, frame-length, closing-frame, closing-bits}
 
 -- ---- the padding
 
@@ -174,7 +72,7 @@ closed-bits (x ∷ s) f h i = eight x (s ++ closingByte f ∷ []) ((bitsOfBytes 
 
 -- the papers' padding is one byte directly after the last one, at every length
 pub padded-byteBit : (s : List ℕ) (f : List Bool) → length f ≤ 7 → (i : ℕ)
-    → getD (padded (bitsOf (record { bytes = s; frame = f }))) i false ≡ byteBit (s ++ closingByte f ∷ []) i
+    → getD (padded (bitsOf (framed s f))) i false ≡ byteBit (s ++ closingByte f ∷ []) i
 unfolding bitsOf
 padded-byteBit s f h i = padded-at (bitsOfBytes s ++ f) i ∙ closed-bits s f h i
 
@@ -200,6 +98,7 @@ block-bytes s c j p h B e = lanes-ext _ _ agree
         ∙ ap₂ (λ (n m : ℕ). bit (getD (s ++ c ∷ []) n 0) m) q r
         ∙ ap (λ (v : ℕ). bit v (k % 8)) (sym (e (k / 8) (omega arith)))
 
+-- such as these
 pub block-tabulate : (s : List ℕ) (c j : ℕ) → 0 < c → c < 256 → block (closedBy s c) j ≡ fromBytes (tabulate 48 (λ i. getD (s ++ c ∷ []) (48 * j + i) 0))
 block-tabulate s c j p h =
     block-bytes s c j p h (tabulate 48 (λ i. getD (s ++ c ∷ []) (48 * j + i) 0)) (λ i l. tabulate-at 48 (λ i. getD (s ++ c ∷ []) (48 * j + i) 0) i l)
@@ -236,8 +135,8 @@ pub closed-blocks : (s : List ℕ) (c : ℕ) → blocks (closedBy s c) ≡ b (le
 closed-blocks s c = blocks-is (closedBy s c) (frame-length c)
 
 -- a padded key of at most 47 bytes is one block
-pub key-blocks : (key : List ℕ) → length key ≤ 47 → blocks (record { bytes = key; frame = [] }) ≡ 1
-key-blocks key h = omega (arith, blocks-is (record { bytes = key; frame = [] }) (lit≤ tt))
+pub key-blocks : (key : List ℕ) → length key ≤ 47 → blocks (framed key []) ≡ 1
+key-blocks key h = omega (arith, blocks-is (framed key []) (lit≤ tt))
 
 -- ---- the papers' padding, pinned down
 
@@ -366,7 +265,7 @@ bits-behind p s f =
     ∙ append-assoc (bitsOfBytes p) (bitsOfBytes s ++ f) (true ∷ [])
 
 -- it is block 0
-pub block-front : (p s : List ℕ) (f : List Bool) → length p ≡ 48 → block (record { bytes = p ++ s; frame = f }) 0 ≡ fromBytes p
+pub block-front : (p s : List ℕ) (f : List Bool) → length p ≡ 48 → block (framed (p ++ s) f) 0 ≡ fromBytes p
 unfolding block fromString bitsOf
 block-front p s f h = lanes-ext _ _ agree
   where
@@ -381,7 +280,7 @@ block-front p s f h = lanes-ext _ _ agree
         ∙ bytes-at p k
 
 -- and the string's blocks come after it
-pub block-behind : (p s : List ℕ) (f : List Bool) (j : ℕ) → length p ≡ 48 → block (record { bytes = p ++ s; frame = f }) (j + 1) ≡ block (record { bytes = s; frame = f }) j
+pub block-behind : (p s : List ℕ) (f : List Bool) (j : ℕ) → length p ≡ 48 → block (framed (p ++ s) f) (j + 1) ≡ block (framed s f) j
 unfolding block bitsOf
 block-behind p s f j h = λ t. fromString (λ i. at i t)
   where
@@ -393,8 +292,8 @@ block-behind p s f j h = λ t. fromString (λ i. at i t)
         ∙ getD-append-add (bitsOfBytes p) ((bitsOfBytes s ++ f) ++ true ∷ []) (384 * j + i) false
         ∙ sym (padded-at (bitsOfBytes s ++ f) (384 * j + i))
 
-pub blocks-front : (p s : List ℕ) (f : List Bool) → length p ≡ 48 → blocks (record { bytes = p ++ s; frame = f }) ≡ blocks (record { bytes = s; frame = f }) + 1
+pub blocks-front : (p s : List ℕ) (f : List Bool) → length p ≡ 48 → blocks (framed (p ++ s) f) ≡ blocks (framed s f) + 1
 blocks-front p s f h =
-    let P : Str = record { bytes = p ++ s; frame = f } in
-    let S : Str = record { bytes = s; frame = f } in
+    let P : Str = framed (p ++ s) f in
+    let S : Str = framed s f in
     omega (arith, padded-blocks P, padded-blocks S, padded-length (bitsOf P), padded-length (bitsOf S), bitsOf-length P, bitsOf-length S, length-append p s, h)
