@@ -8,12 +8,11 @@ use native.Mathlib.Numerals.{add-one}
 use native.Mathlib.Omega.{arith}
 use lib.ListN.{length}
 use Rattle.word.specs.Lists.{sum}
-use Rattle.word.proofs.Bit.{ofBits-lt}
 use Rattle.word.proofs.Lists.{sum-length}
-use Rattle.xoodoo.specs.Xoodoo.{perm, rounds, round}
-use Rattle.xoodoo.specs.Rolling.{rollIn, rollOut}
-use Rattle.xoodoo.specs.Bytes.{fromString, fromBytes, stateByte}
-use Rattle.xoodoo.proofs.Lanes.{lanes-length}
+use Rattle.xoodoo.specs.Xoodoo.{perm}
+use Rattle.xoodoo.specs.Rolling.{rollIn}
+use Rattle.xoodoo.specs.Bytes.{fromBytes}
+use Rattle.xoodoo.proofs.Facts.{perm-length, rollIn-length, fromString-length, stateByte-lt}
 use Rattle.xoofff.specs.Strings.{Str, blocks, block, b}
 use Rattle.xoofff.specs.Leaves.{closedBy, frameBits}
 use Rattle.xoofff.specs.Deck.{iterate, zeros, keyMask, maskAt, addBlocks, addHistory, indexGrowth, indexOf, accumulator, outputMask, outputBlock, outputByte}
@@ -104,28 +103,10 @@ closed-growth s c = ap (λ (n : ℕ). n + 1) (closed-blocks s c)
 
 -- ---- lengths: a state has twelve lanes
 
-rounds-length : (c : ℕ) (cs l : List ℕ) → length (rounds (c ∷ cs) l) ≡ 12
-unfolding rounds round
-rounds-length c [] l = lanes-length _
-rounds-length c (d ∷ cs) l = rounds-length d cs (round c l)
-
--- the permutation and the rollings
-pub perm-length : (l : List ℕ) → length (perm l) ≡ 12
-unfolding perm
-perm-length l = rounds-length _ _ l
-
-pub rollIn-length : (l : List ℕ) → length (rollIn l) ≡ 12
-unfolding rollIn
-rollIn-length l = lanes-length _
-
-pub rollOut-length : (l : List ℕ) → length (rollOut l) ≡ 12
-unfolding rollOut
-rollOut-length l = lanes-length _
-
 -- blocks of a string
 pub block-length : (s : Str) (j : ℕ) → length (block s j) ≡ 12
-unfolding block fromString
-block-length s j = lanes-length _
+unfolding block
+block-length s j = fromString-length _
 
 iterate-length : (f : List ℕ → List ℕ) → ((l : List ℕ) → length (f l) ≡ 12) → (n : ℕ) (l : List ℕ) → length l ≡ 12 → length (iterate n f l) ≡ 12
 unfolding iterate
@@ -170,11 +151,7 @@ pub outputBlock-length : (y k : List ℕ) (j : ℕ) → length k ≡ 12 → leng
 unfolding outputBlock
 outputBlock-length y k j h = sum-twelve _ _ (perm-length _) h
 
--- a byte of a state is a byte
-pub stateByte-lt : (l : List ℕ) (i : ℕ) → stateByte l i < 256
-unfolding stateByte
-stateByte-lt l i = ofBits-lt 8 _
-
+-- a byte of the output is a byte
 pub outputByte-lt : (y k : List ℕ) (i : ℕ) → outputByte y k i < 256
 unfolding outputByte
 outputByte-lt y k i = stateByte-lt _ _
