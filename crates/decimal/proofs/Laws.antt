@@ -1,0 +1,244 @@
+-- Laws of decimal numbers: how the bytes of a number are made, and that a reader finds exactly the numbers that are spelled. Assumes nothing.
+use Prim.Native.Nat.{ℕ, zero, suc, _+_, _-_, _*_, _/_, _%_, _<_, _≤_}
+use mathlib.Core.Path.{_≡_, refl, sym, ap, _∙_, subst}
+use mathlib.Core.Bool.{Bool, true, false, cond, true≢false, false≢true}
+use mathlib.Core.Logic.{_↔_, _⊎_, inl, inr}
+use mathlib.Core.List.{List, [], _∷_, _++_, append-assoc}
+use native.Mathlib.Omega.{arith}
+use native.Mathlib.Nat.{le-refl}
+use lib.ListN.{length, take, drop, length-append}
+use lib.Seq.{drop-append-add, drop-drop}
+use lib.Dec.{ltb, leb, eqb}
+use lib.Arith.{digits-div, digits-mod}
+use borrow.Author.Tests.{lt-ltb, le-ltb, le-leb, lt-leb, eq-eqb, ne-eqb, ltb-true, ltb-false, leb-true, eqb-true, eqb-false}
+use Rattle.decimal.specs.declared.Number.{Number}
+use Rattle.decimal.specs.Decimal.{digit, decimalWithin, decimal, Spelled, digitOf, noNumber, readMore, readFirst, readDecimal}
+
+-- which of two numbers is less, as a sum
+pub lt-or-le : (a b : ℕ) → (a < b) ⊎ (b ≤ a)
+lt-or-le a b = go (ltb a b) refl
+  where
+    go : (t : Bool) → ltb a b ≡ t → (a < b) ⊎ (b ≤ a)
+    go true e = inl (ltb-true a b e)
+    go false e = inr (ltb-false a b e)
+
+within-small : (f n : ℕ) → n < 10 → decimalWithin f n ≡ digit n ∷ []
+unfolding decimalWithin
+within-small zero n h = refl
+within-small (suc f) n h = simp (lt-ltb n 10 h)
+
+within-large : (f n : ℕ) → 10 ≤ n → decimalWithin (suc f) n ≡ decimalWithin f (n / 10) ++ (digit (n % 10) ∷ [])
+unfolding decimalWithin
+within-large f n h = simp (le-ltb n 10 h)
+
+-- any number of steps from n up is enough
+within-enough : (f g n : ℕ) → n ≤ f → n ≤ g → decimalWithin f n ≡ decimalWithin g n
+within-enough zero g n hf hg = within-small zero n (omega arith) ∙ sym (within-small g n (omega arith))
+within-enough (suc f) zero n hf hg = within-small (suc f) n (omega arith) ∙ sym (within-small zero n (omega arith))
+within-enough (suc f) (suc g) n hf hg = go (lt-or-le n 10) (within-enough f g (n / 10))
+  where
+    go : (n < 10) ⊎ (10 ≤ n) → (n / 10 ≤ f → n / 10 ≤ g → decimalWithin f (n / 10) ≡ decimalWithin g (n / 10))
+        → decimalWithin (suc f) n ≡ decimalWithin (suc g) n
+    go (inl h) ih = within-small (suc f) n h ∙ sym (within-small (suc g) n h)
+    go (inr h) ih =
+        within-large f n h
+        ∙ ap (λ (l : List ℕ). l ++ (digit (n % 10) ∷ [])) (ih (omega arith) (omega arith))
+        ∙ sym (within-large g n h)
+
+-- a number below 10 is one digit
+pub decimal-small : (n : ℕ) → n < 10 → decimal n ≡ digit n ∷ []
+unfolding decimal
+decimal-small n h = within-small n n h
+
+-- any other number is its tenth part, and then the last digit
+pub decimal-large : (n : ℕ) → 10 ≤ n → decimal n ≡ decimal (n / 10) ++ (digit (n % 10) ∷ [])
+unfolding decimal
+decimal-large zero h = let no : ⊥ = omega arith in absurd no
+decimal-large (suc m) h =
+    within-large m (suc m) h
+    ∙ ap (λ (l : List ℕ). l ++ (digit (suc m % 10) ∷ [])) (within-enough m (suc m / 10) (suc m / 10) (omega arith) (omega arith))
+
+-- one more digit
+pub decimal-snoc : (v d : ℕ) → (v ≡ 0 → ⊥) → d < 10 → decimal (v * 10 + d) ≡ decimal v ++ (digit d ∷ [])
+decimal-snoc v d nz h =
+    decimal-large (v * 10 + d) (omega arith)
+    ∙ ap (λ (q : ℕ). decimal q ++ (digit ((v * 10 + d) % 10) ∷ [])) (digits-div v h)
+    ∙ ap (λ (r : ℕ). decimal v ++ (digit r ∷ [])) (digits-mod v h)
+
+-- a number has a digit
+pub decimal-some : (n : ℕ) → 1 ≤ length (decimal n)
+decimal-some n = go (lt-or-le n 10)
+  where
+    go : (n < 10) ⊎ (10 ≤ n) → 1 ≤ length (decimal n)
+    go (inl h) = omega (arith, ap length (decimal-small n h))
+    go (inr h) = omega (arith, simp length-append at (ap length (decimal-large n h)))
+
+-- the digit of a digit's character, and the character of a digit
+pub digit-back : (d : ℕ) → d < 10 → digitOf (digit d) ≡ d
+unfolding digitOf
+digit-back d h =
+    let lo : 48 ≤ 48 + d = omega arith in
+    let hi : 48 + d ≤ 57 = omega arith in
+    simp (le-leb 48 (48 + d) lo, le-leb (48 + d) 57 hi) (omega arith)
+
+pub digit-forth : (b : ℕ) → digitOf b ≤ 9 → digit (digitOf b) ≡ b
+unfolding digitOf
+digit-forth b h = go (leb 48 b) (leb b 57) refl refl
+  where
+    go : (s t : Bool) → leb 48 b ≡ s → leb b 57 ≡ t → digit (digitOf b) ≡ b
+    go true true e f = simp (e, f) (omega (arith, leb-true 48 b e))
+    go true false e f = let no : 10 ≤ 9 = simp (e, f) at h in let n : ⊥ = omega arith in absurd n
+    go false t e f = let no : 10 ≤ 9 = simp e at h in let n : ⊥ = omega arith in absurd n
+
+-- bytes of s that a reader goes over ------------------------------------------------------------------------------------------------
+
+module _ (max end : ℕ) where
+  -- one more digit is taken
+  more-digit : (v i d : ℕ) (t : List ℕ) → 9 < digitOf end → (v ≡ 0 → ⊥) → d < 10 → v * 10 + d ≤ max
+      → readMore max end v i (digit d ∷ t) ≡ readMore max end (v * 10 + d) (i + 1) t
+  unfolding readMore
+  more-digit v i d t no-digit nz small fits =
+      let back : digitOf (digit d) ≡ d = digit-back d small in
+      let differs : digit d ≡ end → ⊥ = λ e. omega (arith, ap digitOf e) in
+      let low : digitOf (digit d) ≤ 9 = omega arith in
+      let in-max : v * 10 + digitOf (digit d) ≤ max = omega arith in
+      simp (ne-eqb (digit d) end differs, le-ltb 9 (digitOf (digit d)) low, ne-eqb v 0 nz, le-ltb max (v * 10 + digitOf (digit d)) in-max)
+      (ap (λ (x : ℕ). readMore max end (v * 10 + x) (i + 1) t) back)
+
+  first-digit : (n at : ℕ) (t : List ℕ) → n < 10 → n ≤ max → readFirst max end at (digit n ∷ t) ≡ readMore max end n (at + 1) t
+  unfolding readFirst
+  first-digit n at t small fits =
+      let back : digitOf (digit n) ≡ n = digit-back n small in
+      let low : digitOf (digit n) ≤ 9 = omega arith in
+      let in-max : digitOf (digit n) ≤ max = omega arith in
+      simp (le-ltb 9 (digitOf (digit n)) low, le-ltb max (digitOf (digit n)) in-max)
+      (ap (λ (x : ℕ). readMore max end x (at + 1) t) back)
+
+  -- all digits of a number are taken, from a number of steps that is enough
+  first-all : (f n at : ℕ) (t : List ℕ) → 9 < digitOf end → n ≤ f → n ≤ max
+      → readFirst max end at (decimal n ++ t) ≡ readMore max end n (at + length (decimal n)) t
+  first-all zero n at t no-digit hf hm =
+      let small : n < 10 = omega arith in
+      rw (decimal-small n small) (first-digit n at t small hm)
+  first-all (suc f) n at t no-digit hf hm =
+      go (lt-or-le n 10) (first-all f (n / 10) at (digit (n % 10) ∷ t) no-digit)
+    where
+      go : (n < 10) ⊎ (10 ≤ n)
+          → (n / 10 ≤ f → n / 10 ≤ max → readFirst max end at (decimal (n / 10) ++ (digit (n % 10) ∷ t)) ≡ readMore max end (n / 10) (at + length (decimal (n / 10))) (digit (n % 10) ∷ t))
+          → readFirst max end at (decimal n ++ t) ≡ readMore max end n (at + length (decimal n)) t
+      go (inl h) ih = rw (decimal-small n h) (first-digit n at t h hm)
+      go (inr h) ih =
+          let whole : n / 10 * 10 + n % 10 ≡ n = omega arith in
+          let longer : at + length (decimal (n / 10)) + 1 ≡ at + length (decimal n) = omega (arith, simp length-append at (ap length (decimal-large n h))) in
+          ap (λ (l : List ℕ). readFirst max end at (l ++ t)) (decimal-large n h)
+          ∙ ap (readFirst max end at) (append-assoc (decimal (n / 10)) (digit (n % 10) ∷ []) t)
+          ∙ ih (omega arith) (omega arith)
+          ∙ more-digit (n / 10) (at + length (decimal (n / 10))) (n % 10) t no-digit (omega arith) (omega arith) (omega arith)
+          ∙ ap (λ (x : ℕ). readMore max end x (at + length (decimal (n / 10)) + 1) t) whole
+          ∙ ap (λ (x : ℕ). readMore max end n x t) longer
+
+  more-end : (v i : ℕ) (t : List ℕ) → readMore max end v i (end ∷ t) ≡ record { found = true; value = v; next = i + 1 }
+  unfolding readMore
+  more-end v i t = simp (eq-eqb end end refl)
+
+  -- a number was found: one that the bytes spell
+  abbrev MoreSound : ℕ → ℕ → List ℕ → Number → Type 0
+  MoreSound v i s r =
+      (rest : List ℕ) × (r .value ≤ max) × (decimal v ++ s ≡ decimal (r .value) ++ (end ∷ rest)) × (r .next + length (decimal v) ≡ i + length (decimal (r .value)) + 1)
+
+  more-cases : (p q r t : Bool) (x y : Number)
+      → (cond p x (cond q noNumber (cond r noNumber (cond t noNumber y)))) .found ≡ true
+      → (p ≡ true) ⊎ ((p ≡ false) × (q ≡ false) × (r ≡ false) × (t ≡ false))
+  more-cases true q r t x y e = inl refl
+  more-cases false true r t x y e = absurd (false≢true e)
+  more-cases false false true t x y e = absurd (false≢true e)
+  more-cases false false false true x y e = absurd (false≢true e)
+  more-cases false false false false x y e = inr (refl, refl, refl, refl)
+
+  more-sound : (v i : ℕ) (s : List ℕ) → v ≤ max → (readMore max end v i s) .found ≡ true → MoreSound v i s (readMore max end v i s)
+  unfolding readMore
+  more-sound v i [] hv e = absurd (false≢true e)
+  more-sound v i (b ∷ s) hv e =
+      go
+      (more-cases (eqb b end) (ltb 9 (digitOf b)) (eqb v 0) (ltb max (v * 10 + digitOf b)) (record { found = true; value = v; next = i + 1 })
+      (readMore max end (v * 10 + digitOf b) (i + 1) s) e)
+      (more-sound (v * 10 + digitOf b) (i + 1) s)
+    where
+      go : (eqb b end ≡ true) ⊎ ((eqb b end ≡ false) × (ltb 9 (digitOf b) ≡ false) × (eqb v 0 ≡ false) × (ltb max (v * 10 + digitOf b) ≡ false))
+          → (v * 10 + digitOf b ≤ max → (readMore max end (v * 10 + digitOf b) (i + 1) s) .found ≡ true → MoreSound (v * 10 + digitOf b) (i + 1) s (readMore max end (v * 10 + digitOf b) (i + 1) s))
+          → MoreSound v i (b ∷ s) (readMore max end v i (b ∷ s))
+      go (inl p) ih =
+          let is-end : readMore max end v i (b ∷ s) ≡ record { found = true; value = v; next = i + 1 } = simp p in
+          subst (MoreSound v i (b ∷ s)) (sym is-end) (s, hv, ap (λ (x : ℕ). decimal v ++ (x ∷ s)) (eqb-true b end p), omega arith)
+      go (inr c) ih =
+          let one-more : readMore max end v i (b ∷ s) ≡ readMore max end (v * 10 + digitOf b) (i + 1) s = simp (c .0, c .1, c .2, c .3) in
+          let low : digitOf b ≤ 9 = ltb-false 9 (digitOf b) (c .1) in
+          let h = ih (ltb-false max (v * 10 + digitOf b) (c .3)) (ap (λ (r : Number). r .found) (sym one-more) ∙ e) in
+          let spelled : decimal (v * 10 + digitOf b) ≡ decimal v ++ (b ∷ []) = decimal-snoc v (digitOf b) (eqb-false v 0 (c .2)) (omega arith) ∙ ap (λ (x : ℕ). decimal v ++ (x ∷ [])) (digit-forth b low) in
+          subst (MoreSound v i (b ∷ s)) (sym one-more) (
+            h .0,
+            h .1,
+            sym (append-assoc (decimal v) (b ∷ []) s) ∙ ap (λ (l : List ℕ). l ++ s) (sym spelled) ∙ h .2,
+            omega (arith, simp length-append at (ap length spelled), h .3),
+          )
+
+  first-cases : (p q : Bool) (y : Number) → (cond p noNumber (cond q noNumber y)) .found ≡ true → (p ≡ false) × (q ≡ false)
+  first-cases true q y e = absurd (false≢true e)
+  first-cases false true y e = absurd (false≢true e)
+  first-cases false false y e = (refl, refl)
+
+  abbrev FirstSound : ℕ → List ℕ → Number → Type 0
+  FirstSound at s r =
+      (rest : List ℕ) × (r .value ≤ max) × (s ≡ decimal (r .value) ++ (end ∷ rest)) × (r .next ≡ at + length (decimal (r .value)) + 1)
+
+  first-sound : (at : ℕ) (s : List ℕ) → (readFirst max end at s) .found ≡ true → FirstSound at s (readFirst max end at s)
+  unfolding readFirst
+  first-sound at [] e = absurd (false≢true e)
+  first-sound at (b ∷ s) e = go (first-cases (ltb 9 (digitOf b)) (ltb max (digitOf b)) (readMore max end (digitOf b) (at + 1) s) e)
+    where
+      go : (ltb 9 (digitOf b) ≡ false) × (ltb max (digitOf b) ≡ false) → FirstSound at (b ∷ s) (readFirst max end at (b ∷ s))
+      go c =
+          let more : readFirst max end at (b ∷ s) ≡ readMore max end (digitOf b) (at + 1) s = simp (c .0, c .1) in
+          let low : digitOf b ≤ 9 = ltb-false 9 (digitOf b) (c .0) in
+          let h = more-sound (digitOf b) (at + 1) s (ltb-false max (digitOf b) (c .1)) (ap (λ (r : Number). r .found) (sym more) ∙ e) in
+          let spelled : decimal (digitOf b) ≡ b ∷ [] = decimal-small (digitOf b) (omega arith) ∙ ap (λ (x : ℕ). x ∷ []) (digit-forth b low) in
+          subst (FirstSound at (b ∷ s)) (sym more)
+          (h .0, h .1, ap (λ (l : List ℕ). l ++ s) (sym spelled) ∙ h .2, omega (arith, ap length spelled, h .3))
+
+  -- A number that was found stands there: it is at most max, its bytes and the byte end stand at the place, and `next` is the place after them.
+  pub read-sound : (s : List ℕ) (at : ℕ) → (readDecimal max end s at) .found ≡ true
+      → Spelled max end (drop at s) ((readDecimal max end s at) .value) (drop ((readDecimal max end s at) .next) s)
+      × ((readDecimal max end s at) .next ≡ at + length (decimal ((readDecimal max end s at) .value)) + 1)
+  unfolding readDecimal
+  read-sound s at e =
+      let h = first-sound at (drop at s) e in
+      let n : ℕ = (readFirst max end at (drop at s)) .value in
+      let place : (readFirst max end at (drop at s)) .next ≡ at + (length (decimal n) + 1) = omega (arith, h .3) in
+      let behind : drop ((readFirst max end at (drop at s)) .next) s ≡ h .0 =
+      ap (λ (k : ℕ). drop k s) place
+      ∙ sym (drop-drop (length (decimal n) + 1) at s)
+      ∙ ap (drop (length (decimal n) + 1)) (h .2)
+      ∙ drop-append-add (decimal n) (end ∷ h .0) 1 in
+      ((h .1, h .2 ∙ ap (λ (l : List ℕ). decimal n ++ (end ∷ l)) (sym behind)), h .3)
+
+  -- A number that stands there is found, where the byte that ends it is no digit.
+  pub read-complete : (s : List ℕ) (at n : ℕ) (rest : List ℕ) → 9 < digitOf end → Spelled max end (drop at s) n rest
+      → readDecimal max end s at ≡ record { found = true; value = n; next = at + length (decimal n) + 1 }
+  unfolding readDecimal
+  read-complete s at n rest no-digit h =
+      ap (readFirst max end at) (h .1)
+      ∙ first-all n n at (end ∷ rest) no-digit (le-refl n) (h .0)
+      ∙ more-end n (at + length (decimal n)) rest
+
+  -- So nothing is found exactly where no such number stands.
+  pub read-refused : (s : List ℕ) (at : ℕ) → 9 < digitOf end
+      → ((readDecimal max end s at) .found ≡ false) ↔ ((n : ℕ) (rest : List ℕ) → Spelled max end (drop at s) n rest → ⊥)
+  read-refused s at no-digit = (
+    (λ e n rest h. true≢false (ap (λ (r : Number). r .found) (sym (read-complete s at n rest no-digit h)) ∙ e)),
+    (λ none. go ((readDecimal max end s at) .found) refl none),
+  )
+    where
+      go : (t : Bool) → (readDecimal max end s at) .found ≡ t → ((n : ℕ) (rest : List ℕ) → Spelled max end (drop at s) n rest → ⊥)
+          → (readDecimal max end s at) .found ≡ false
+      go true e none = absurd (none ((readDecimal max end s at) .value) (drop ((readDecimal max end s at) .next) s) (read-sound s at e .0))
+      go false e none = e
