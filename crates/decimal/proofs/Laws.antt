@@ -1,11 +1,11 @@
 -- Laws of decimal numbers: how the bytes of a number are made, and that a reader finds exactly the numbers that are spelled. Assumes nothing.
-use Prim.Native.Nat.{ℕ, zero, suc, _+_, _-_, _*_, _/_, _%_, _<_, _≤_}
+use Prim.Native.Nat.{ℕ, zero, suc, _+_, _-_, _*_, _/_, _%_, _^_, _<_, _≤_}
 use mathlib.Core.Path.{_≡_, refl, sym, ap, _∙_, subst}
 use mathlib.Core.Bool.{Bool, true, false, cond, true≢false, false≢true}
 use mathlib.Core.Logic.{_↔_, _⊎_, inl, inr}
 use mathlib.Core.List.{List, [], _∷_, _++_, append-assoc}
 use native.Mathlib.Omega.{arith}
-use native.Mathlib.Nat.{le-refl}
+use native.Mathlib.Nat.{le-refl, pow-suc}
 use lib.ListN.{length, take, drop, length-append}
 use lib.Seq.{drop-append-add, drop-drop}
 use lib.Dec.{ltb, leb, eqb}
@@ -73,6 +73,17 @@ decimal-some n = go (lt-or-le n 10)
     go (inl h) = omega (arith, ap length (decimal-small n h))
     go (inr h) = omega (arith, simp length-append at (ap length (decimal-large n h)))
 
+-- a number below 10 to the k has at most k digits
+pub decimal-within : (k n : ℕ) → n < 10 ^ suc k → length (decimal n) ≤ suc k
+decimal-within zero n h = omega (arith, ap length (decimal-small n h))
+decimal-within (suc k) n h = go (lt-or-le n 10) (decimal-within k (n / 10))
+  where
+    go : (n < 10) ⊎ (10 ≤ n) → (n / 10 < 10 ^ suc k → length (decimal (n / 10)) ≤ suc k) → length (decimal n) ≤ suc (suc k)
+    go (inl small) ih = omega (arith, ap length (decimal-small n small))
+    go (inr large) ih =
+        let tenth : n / 10 < 10 ^ suc k = omega (arith, pow-suc 10 (suc k)) in
+        omega (arith, ih tenth, simp length-append at (ap length (decimal-large n large)))
+
 -- the digit of a digit's character, and the character of a digit
 pub digit-back : (d : ℕ) → d < 10 → digitOf (digit d) ≡ d
 unfolding digitOf
@@ -89,6 +100,15 @@ digit-forth b h = go (leb 48 b) (leb b 57) refl refl
     go true true e f = simp (e, f) (omega (arith, leb-true 48 b e))
     go true false e f = let no : 10 ≤ 9 = simp (e, f) at h in let n : ⊥ = omega arith in absurd n
     go false t e f = let no : 10 ≤ 9 = simp e at h in let n : ⊥ = omega arith in absurd n
+
+-- what stands behind a number and the byte that ends it
+pub after-number : (end : ℕ) (s : List ℕ) (at n : ℕ) (rest : List ℕ) → drop at s ≡ decimal n ++ (end ∷ rest) → drop (at + length (decimal n) + 1) s ≡ rest
+after-number end s at n rest h =
+    let place : at + length (decimal n) + 1 ≡ at + (length (decimal n) + 1) = omega arith in
+    ap (λ (k : ℕ). drop k s) place
+    ∙ sym (drop-drop (length (decimal n) + 1) at s)
+    ∙ ap (drop (length (decimal n) + 1)) h
+    ∙ drop-append-add (decimal n) (end ∷ rest) 1
 
 -- bytes of s that a reader goes over ------------------------------------------------------------------------------------------------
 
@@ -213,12 +233,7 @@ module _ (max end : ℕ) where
   read-sound s at e =
       let h = first-sound at (drop at s) e in
       let n : ℕ = (readFirst max end at (drop at s)) .value in
-      let place : (readFirst max end at (drop at s)) .next ≡ at + (length (decimal n) + 1) = omega (arith, h .3) in
-      let behind : drop ((readFirst max end at (drop at s)) .next) s ≡ h .0 =
-      ap (λ (k : ℕ). drop k s) place
-      ∙ sym (drop-drop (length (decimal n) + 1) at s)
-      ∙ ap (drop (length (decimal n) + 1)) (h .2)
-      ∙ drop-append-add (decimal n) (end ∷ h .0) 1 in
+      let behind : drop ((readFirst max end at (drop at s)) .next) s ≡ h .0 = ap (λ (k : ℕ). drop k s) (h .3) ∙ after-number end s at n (h .0) (h .2) in
       ((h .1, h .2 ∙ ap (λ (l : List ℕ). decimal n ++ (end ∷ l)) (sym behind)), h .3)
 
   -- A number that stands there is found, where the byte that ends it is no digit.
