@@ -41,6 +41,23 @@ written-twice buffer at a b room =
     ∙ append-assoc (take at buffer) a (b ++ drop (at + length (a ++ b)) buffer)
     ∙ ap (λ (l : List ℕ). take at buffer ++ l) (sym (append-assoc a b (drop (at + length (a ++ b)) buffer)))
 
+-- the same, for a run that stands at the buffer's start, with the buffer after each of the two writes
+pub written-join : (buffer : List ℕ) {once twice : List ℕ} (a b : List ℕ) (at : ℕ) → at ≡ length a → length a + length b ≤ length buffer
+    → once ≡ written buffer 0 a → twice ≡ written once at b → twice ≡ written buffer 0 (a ++ b)
+written-join buffer a b at e room first second =
+    let place : at ≡ 0 + length a = omega arith in
+    second
+    ∙ ap (λ (l : List ℕ). written l at b) first
+    ∙ ap (λ (k : ℕ). written (written buffer 0 a) k b) place
+    ∙ written-twice buffer 0 a b (omega arith)
+
+-- two bytes stored at the start
+pub written-pair : (buffer : List ℕ) (x y : ℕ) → 2 ≤ length buffer → set (set buffer 0 x) 1 y ≡ written buffer 0 (x ∷ y ∷ [])
+unfolding written
+written-pair [] x y h = let none : ⊥ = omega arith in absurd none
+written-pair (a ∷ []) x y h = let none : ⊥ = omega arith in absurd none
+written-pair (a ∷ b ∷ rest) x y h = refl
+
 -- one byte written in front of a run
 pub written-before : (buffer : List ℕ) (i : ℕ) (b : ℕ) (bytes : List ℕ) → i + 1 + length bytes ≤ length buffer
     → set (written buffer (i + 1) bytes) i b ≡ written buffer i (b ∷ bytes)

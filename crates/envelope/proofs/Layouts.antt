@@ -50,6 +50,15 @@ pub tag-of-S : tagLength letterS ≡ 32
 unfolding tagLength
 tag-of-S = refl
 
+-- no letter has a tag of more than 32 bytes
+pub tag-bound : (letter : ℕ) → tagLength letter ≤ 32
+unfolding tagLength
+tag-bound letter = go (eqb letter letterS) refl
+  where
+    go : (t : Bool) → eqb letter letterS ≡ t → tagLength letter ≤ 32
+    go true e = simp e (omega arith)
+    go false e = simp e (omega arith)
+
 pub envelope-length : (letter group : ℕ) (metadata cryptogram tag : List ℕ)
     → length (envelope letter group metadata cryptogram tag) ≡ length (header letter group (length metadata) (length cryptogram)) + length metadata + length cryptogram + length tag
 unfolding envelope

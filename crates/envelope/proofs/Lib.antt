@@ -3,3 +3,4 @@ pub mod Layouts
 pub mod HeaderSteps
 pub mod Reading
 pub mod PartSteps
+pub mod WriteSteps

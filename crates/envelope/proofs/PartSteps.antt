@@ -1,26 +1,16 @@
 -- What each test of the code that finds the parts comes to: h is the header that was read, t its tag's length. Assumes nothing.
 use Prim.Native.Nat.{ℕ, _+_, _-_, _<_, _≤_}
-use mathlib.Core.Path.{_≡_, refl, sym, ap, _∙_}
-use mathlib.Core.Bool.{Bool, true, false}
+use mathlib.Core.Path.{_≡_, sym, ap, _∙_}
 use mathlib.Core.List.{List}
 use native.Mathlib.Omega.{arith}
 use lib.ListN.{length, drop, length-append}
-use lib.Dec.{eqb}
 use borrow.Author.Tests.{lt-ltb, le-ltb, eq-eqb, ne-eqb}
-use Rattle.envelope.specs.Layout.{maxLength, letterS, tagLength, header, Begins}
+use Rattle.envelope.specs.Layout.{maxLength, tagLength, header, Begins}
 use Rattle.envelope.specs.Read.{readHeader, noParts, partsOf, readParts}
 use Rattle.envelope.specs.declared.Header.{Header}
 use Rattle.envelope.specs.declared.Parts.{Parts}
+use Rattle.envelope.proofs.Layouts.{tag-bound}
 use Rattle.envelope.proofs.Reading.{Stands, header-sound}
-
--- no letter has a tag of more than 32 bytes
-tag-bound : (letter : ℕ) → tagLength letter ≤ 32
-unfolding tagLength
-tag-bound letter = go (eqb letter letterS) refl
-  where
-    go : (t : Bool) → eqb letter letterS ≡ t → tagLength letter ≤ 32
-    go true e = simp e (omega arith)
-    go false e = simp e (omega arith)
 
 -- a header that was found is small, and ends within the bytes
 pub record Small (s : List ℕ) (h : Header) (t : ℕ) : Type 0 where

@@ -17,7 +17,7 @@ use Rattle.envelope.specs.Read.{noHeader, aHeader, readHeader, noParts, 
 use Rattle.envelope.specs.Write.{writeNumber, writeAnswer, writeBuffer}
 use Rattle.envelope.proofs.Layouts.{field-length, header-length, header-longest}
 use Rattle.envelope.proofs.HeaderSteps.{too-short, no-letter, no-comma, no-group, no-alen, no-mlen, all-read}
-use Rattle.envelope.proofs.Reading.{header-sound, parts-in-order}
+use Rattle.envelope.proofs.WriteSteps.{number-3, number-6-metadata, number-6-message, number-7, number-8, number-0, sizes, header-written, envelope-written}
 use borrow.Author.Needs.{needs}
 use Rattle.envelope.proofs.copy_at.Statement.{statement}
 use Rattle.envelope.proofs.copy_at.Tie as tie
@@ -56,7 +56,19 @@ loop-less c = omega arith
 
 -- src/lib.rt:199:5
 loop-again : tie.Need-loop-again Inv-loop μ-loop
-loop-again c = ?
+loop-again c = 
+    let s = now (c .before .before .before .args .src) in
+    let i = c .before .before .loop .i in
+    let at = c .before .before .before .args .at in
+    let inside : i < length s = c .before .loop-test .taken in
+    let taken : length (take i s) ≡ i = length-take-le i s (omega arith) in
+    let place : at + i ≡ at + length (take i s) = omega arith in
+    let longer : take i s ++ (getD s i 0 ∷ []) ≡ take (i + 1) s = sym (ap (λ (k : ℕ). take k s) (add-one i) ∙ take-suc s i 0 inside) in
+    (omega arith,
+    ap (λ (l : List ℕ). set l (at + i) (getD s i 0)) (c .before .before .loop .inv .1)
+    ∙ written-after (now (c .before .before .before .args .out)) at (take i s) (at + i) (getD s i 0) place (omega arith)
+    ∙ ap (written (now (c .before .before .before .args .out)) at) longer,
+    simp length-set (c .before .before .loop .inv .2))
 
 -- src/lib.rt:203:5
 add-result : tie.Need-add-result Inv-loop μ-loop
@@ -68,7 +80,7 @@ same-length c = c .before .loop .inv .2
 
 -- src/lib.rt:194:1
 returns : tie.Need-returns Inv-loop μ-loop
-returns c = ?
+returns c = (omega arith, c .before .loop .inv .1 ∙ ap (written _ _) (take-all _ _ (c .loop-test .left)))
 
 pub copy-at-spec : {M : Type 1} → statement M
 copy-at-spec =

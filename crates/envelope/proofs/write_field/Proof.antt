@@ -17,7 +17,7 @@ use Rattle.envelope.specs.Read.{noHeader, aHeader, readHeader, noParts, 
 use Rattle.envelope.specs.Write.{writeNumber, writeAnswer, writeBuffer}
 use Rattle.envelope.proofs.Layouts.{field-length, header-length, header-longest}
 use Rattle.envelope.proofs.HeaderSteps.{too-short, no-letter, no-comma, no-group, no-alen, no-mlen, all-read}
-use Rattle.envelope.proofs.Reading.{header-sound, parts-in-order}
+use Rattle.envelope.proofs.WriteSteps.{number-3, number-6-metadata, number-6-message, number-7, number-8, number-0, sizes, header-written, envelope-written}
 use borrow.Author.Needs.{needs}
 use Rattle.envelope.proofs.write_field.Statement.{statement}
 use Rattle.envelope.proofs.write_field.Tie as tie
@@ -27,15 +27,15 @@ use Rattle.decimal.proofs.write_decimal.Reads as write-decimal-reads
 
 -- src/lib.rt:211:9
 write-decimal-requires : tie.Need-write-decimal-requires
-write-decimal-requires c κs = ?
+write-decimal-requires c κs = omega (arith, field-length (c .before .before .args .n))
 
 -- src/lib.rt:212:5
 slice-write-out : tie.Need-slice-write-out
-slice-write-out c = ?
+slice-write-out c = omega (arith, field-length (c .before .before .before .before .before .args .n), c .before .before .write-decimal .ensures .0, c .before .before .write-decimal .kept .1 .0)
 
 -- src/lib.rt:213:5
 add-result : tie.Need-add-result
-add-result c = ?
+add-result c = omega (arith, field-length (c .before .before .before .before .before .args .n), c .before .before .write-decimal .ensures .0)
 
 -- src/lib.rt:207:1
 same-length : tie.Need-same-length
@@ -43,7 +43,13 @@ same-length c = search needs
 
 -- src/lib.rt:207:1
 returns : tie.Need-returns
-returns c = ?
+unfolding field
+returns c = 
+    let a = c .before .before .before .before .before .args in
+    let e = c .before .before .write-decimal .ensures in
+    (omega (arith, field-length (a .n), e .0),
+    ap (λ (l : List ℕ). set l (c .before .before .write-decimal .result) 44) (e .1)
+    ∙ written-after (now (a .out)) (a .at) (decimal (a .n)) (c .before .before .write-decimal .result) 44 (e .0) (omega (arith, field-length (a .n), e .0, c .before .before .before .before .before .pre)))
 
 pub write-field-spec : {M : Type 1} → statement M
 write-field-spec =

@@ -17,7 +17,7 @@ use Rattle.envelope.specs.Read.{noHeader, aHeader, readHeader, noParts, 
 use Rattle.envelope.specs.Write.{writeNumber, writeAnswer, writeBuffer}
 use Rattle.envelope.proofs.Layouts.{field-length, header-length, header-longest}
 use Rattle.envelope.proofs.HeaderSteps.{too-short, no-letter, no-comma, no-group, no-alen, no-mlen, all-read}
-use Rattle.envelope.proofs.Reading.{header-sound, parts-in-order}
+use Rattle.envelope.proofs.WriteSteps.{number-3, number-6-metadata, number-6-message, number-7, number-8, number-0, sizes, header-written, envelope-written}
 use borrow.Author.Needs.{needs}
 use Rattle.envelope.proofs.write_number.Statement.{statement}
 use Rattle.envelope.proofs.write_number.Tie as tie
@@ -28,8 +28,7 @@ use Rattle.envelope.proofs.tag_len.Reads as tag-len-reads
 
 -- src/lib.rt:240:9
 returns : tie.Need-returns
-unfolding writeNumber
-returns c = sym (simp (lt-ltb _ _ (c .if1 .taken)))
+returns c = sym (number-3 _ _ _ _ _ _ (c .if1 .taken))
 
 -- src/lib.rt:242:9
 cast-if2 : tie.Need-cast-if2
@@ -37,8 +36,7 @@ cast-if2 c = search needs
 
 -- src/lib.rt:243:9
 returns-2 : tie.Need-returns-2
-unfolding writeNumber
-returns-2 c = sym (simp (le-ltb _ _ (c .before .if1 .left), lt-ltb _ _ (c .if2 .taken)))
+returns-2 c = sym (number-6-metadata _ _ _ _ _ _ (c .before .if1 .left) (c .if2 .taken))
 
 -- src/lib.rt:245:9
 cast-if3 : tie.Need-cast-if3
@@ -46,8 +44,7 @@ cast-if3 c = search needs
 
 -- src/lib.rt:246:9
 returns-3 : tie.Need-returns-3
-unfolding writeNumber
-returns-3 c = sym (simp (le-ltb _ _ (c .before .before .if1 .left), le-ltb _ _ (c .before .if2 .left), lt-ltb _ _ (c .if3 .taken)))
+returns-3 c = sym (number-6-message _ _ _ _ _ _ (c .before .before .if1 .left) (c .before .if2 .left) (c .if3 .taken))
 
 -- src/lib.rt:248:16
 tag-len-requires : tie.Need-tag-len-requires
@@ -55,8 +52,7 @@ tag-len-requires c κs = search needs
 
 -- src/lib.rt:249:9
 returns-4 : tie.Need-returns-4
-unfolding writeNumber
-returns-4 c = ?
+returns-4 c = sym (number-7 _ _ _ _ _ _ (c .before .before .before .before .if1 .left) (c .before .before .before .if2 .left) (c .before .before .if3 .left) (λ e. c .if4 .taken (e ∙ sym (c .before .tag-len .ensures))))
 
 -- src/lib.rt:251:33
 cast-header-len : tie.Need-cast-header-len
@@ -72,25 +68,23 @@ header-len-requires c κs = search needs
 
 -- src/lib.rt:251:15
 add-if5 : tie.Need-add-if5
-add-if5 c = ?
+add-if5 c = omega (arith, sizes (c .before .before .before .before .before .before .args .letter) (c .before .before .before .before .before .before .args .group) (c .before .before .before .before .before .before .args .alen) (c .before .before .before .before .before .before .args .mlen) (c .before .before .before .before .before .before .args .tlen) (c .before .before .before .before .before .before .args .room) (c .before .before .before .before .before .if1 .left) (c .before .before .before .before .if2 .left) (c .before .before .before .if3 .left) (c .before .if4 .left ∙ c .before .before .tag-len .ensures) (c .header-len .result) (c .header-len .ensures (c .before .before .before .before .before .before .args .letter)))
 
 -- src/lib.rt:251:15
 add-if5-2 : tie.Need-add-if5-2
-add-if5-2 c = ?
+add-if5-2 c = omega (arith, sizes (c .before .before .before .before .before .before .args .letter) (c .before .before .before .before .before .before .args .group) (c .before .before .before .before .before .before .args .alen) (c .before .before .before .before .before .before .args .mlen) (c .before .before .before .before .before .before .args .tlen) (c .before .before .before .before .before .before .args .room) (c .before .before .before .before .before .if1 .left) (c .before .before .before .before .if2 .left) (c .before .before .before .if3 .left) (c .before .if4 .left ∙ c .before .before .tag-len .ensures) (c .header-len .result) (c .header-len .ensures (c .before .before .before .before .before .before .args .letter)))
 
 -- src/lib.rt:251:15
 add-if5-3 : tie.Need-add-if5-3
-add-if5-3 c = ?
+add-if5-3 c = omega (arith, sizes (c .before .before .before .before .before .before .args .letter) (c .before .before .before .before .before .before .args .group) (c .before .before .before .before .before .before .args .alen) (c .before .before .before .before .before .before .args .mlen) (c .before .before .before .before .before .before .args .tlen) (c .before .before .before .before .before .before .args .room) (c .before .before .before .before .before .if1 .left) (c .before .before .before .before .if2 .left) (c .before .before .before .if3 .left) (c .before .if4 .left ∙ c .before .before .tag-len .ensures) (c .header-len .result) (c .header-len .ensures (c .before .before .before .before .before .before .args .letter)))
 
 -- src/lib.rt:252:9
 returns-5 : tie.Need-returns-5
-unfolding writeNumber
-returns-5 c = ?
+returns-5 c = sym (number-8 _ _ _ _ _ _ (c .before .before .before .before .before .before .if1 .left) (c .before .before .before .before .before .if2 .left) (c .before .before .before .before .if3 .left) (c .before .before .if4 .left ∙ c .before .before .before .tag-len .ensures) _ (c .before .header-len .ensures _) (c .if5 .taken))
 
 -- src/lib.rt:236:1
 returns-6 : tie.Need-returns-6
-unfolding writeNumber
-returns-6 c = ?
+returns-6 c = sym (number-0 _ _ _ _ _ _ (c .before .before .before .before .before .before .if1 .left) (c .before .before .before .before .before .if2 .left) (c .before .before .before .before .if3 .left) (c .before .before .if4 .left ∙ c .before .before .before .tag-len .ensures) _ (c .before .header-len .ensures _) (c .if5 .left))
 
 pub write-number-spec : {M : Type 1} → statement M
 write-number-spec =
