@@ -4,3 +4,4 @@ pub mod HeaderSteps
 pub mod Reading
 pub mod PartSteps
 pub mod WriteSteps
+pub mod Writing
