@@ -1,12 +1,12 @@
 -- Laws of a buffer that was written to. Assumes nothing.
-use Prim.Native.Nat.{ℕ, suc, _+_, _-_, _<_, _≤_}
+use Prim.Native.Nat.{ℕ, suc, _+_, _<_, _≤_}
 use mathlib.Core.Path.{_≡_, refl, sym, ap, _∙_}
 use mathlib.Core.List.{List, [], _∷_, _++_, append-assoc}
 use native.Mathlib.Omega.{arith}
 use native.Mathlib.Nat.{add-zero}
 use native.Mathlib.Numerals.{add-one}
 use lib.ListN.{length, take, drop, getD, set, length-append, length-drop, take-append-drop}
-use lib.Seq.{length-take-le, take-at, drop-at, take-take, drop-drop, drop-append-add, set-at, drop-cons, take-suc}
+use lib.Seq.{length-take-le, take-at, drop-at, drop-drop, set-at, drop-cons, take-suc}
 use Rattle.decimal.specs.Buffer.{written}
 
 -- writing keeps the length

@@ -22,7 +22,6 @@ decimalWithin (suc steps) n =
 
 -- the number n in decimal: one digit below 10, else n / 10 in decimal and then the last digit
 unfoldable pub decimal : ℕ → List ℕ
-unfolding decimalWithin
 decimal n = decimalWithin n n
 
 -- the bytes s are a number n, at most max, in decimal, then the byte end, and then the bytes rest
@@ -57,5 +56,4 @@ readFirst max end at (b ∷ s) =
 
 -- What stands at the place `at` of the bytes s: a number up to `max` and the byte `end`, with the place after that byte, or no number
 unfoldable pub readDecimal : (max end : ℕ) → List ℕ → ℕ → Number
-unfolding readFirst
 readDecimal max end s at = readFirst max end at (drop at s)

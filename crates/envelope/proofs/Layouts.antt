@@ -1,13 +1,13 @@
 -- Laws of the layout: how long a header is, and how it continues. Assumes nothing.
 use Prim.Native.Nat.{ℕ, _+_, _≤_}
-use mathlib.Core.Path.{_≡_, refl, sym, ap, _∙_}
+use mathlib.Core.Path.{_≡_, refl}
 use mathlib.Core.Bool.{Bool, true, false}
 use mathlib.Core.List.{List, [], _∷_, _++_, append-assoc}
 use native.Mathlib.Omega.{arith}
 use lib.ListN.{length, length-append}
 use lib.Dec.{eqb}
 use borrow.Author.Tests.{eqb-true}
-use Rattle.decimal.specs.Decimal.{decimal}
+use Rattle.decimal.specs.Decimal.{decimal, decimalWithin}
 use Rattle.decimal.proofs.Laws.{decimal-within}
 use Rattle.envelope.specs.Layout.{letterS, comma, tagLength, field, header, envelope, InRange}
 
@@ -28,7 +28,7 @@ header-longest {letter} {group} {alen} {mlen} h =
 
 -- There is one of 17: `S,31,16384,16384,`.
 pub header-of-17 : length (header letterS 31 16384 16384) ≡ 17
-unfolding decimal
+unfolding decimal decimalWithin
 header-of-17 = header-length letterS 31 16384 16384
 
 -- a header and what follows it, number by number

@@ -5,12 +5,11 @@ use mathlib.Core.List.{List}
 use native.Mathlib.Omega.{arith}
 use lib.ListN.{length, drop, length-append}
 use borrow.Author.Tests.{lt-ltb, le-ltb, eq-eqb, ne-eqb}
-use Rattle.envelope.specs.Layout.{maxLength, tagLength, header, Begins}
+use Rattle.envelope.specs.Layout.{maxLength, tagLength, header}
 use Rattle.envelope.specs.Read.{readHeader, noParts, partsOf, readParts}
 use Rattle.envelope.specs.declared.Header.{Header}
-use Rattle.envelope.specs.declared.Parts.{Parts}
 use Rattle.envelope.proofs.Layouts.{tag-bound}
-use Rattle.envelope.proofs.Reading.{Stands, header-sound}
+use Rattle.envelope.proofs.Headers.{Stands, header-sound}
 
 -- a header that was found is small, and ends within the bytes
 pub record Small (s : List ℕ) (h : Header) (t : ℕ) : Type 0 where
@@ -21,8 +20,15 @@ pub record Small (s : List ℕ) (h : Header) (t : ℕ) : Type 0 where
 
 small-of : (s : List ℕ) (h : Header) (t : ℕ) → Stands s h → t ≡ tagLength (h .letter) → Small s h t
 small-of s h t st is =
-    omega (arith, tag-bound (h .letter), st .0 .in-range .metadata-fits, st .0 .in-range .message-fits, ap length (st .0 .bytes),
-    length-append (header (h .letter) (h .group) (h .alen) (h .mlen)) (drop (h .place) s), st .1)
+    omega (
+      arith,
+      tag-bound (h .letter),
+      st .0 .in-range .metadata-fits,
+      st .0 .in-range .message-fits,
+      ap length (st .0 .bytes),
+      length-append (header (h .letter) (h .group) (h .alen) (h .mlen)) (drop (h .place) s),
+      st .1,
+    )
 
 module _ (s : List ℕ) (h : Header) (is-h : h ≡ readHeader s) where
   pub refused-header : (h .number ≡ 0 → ⊥) → readParts s ≡ noParts (h .number)
@@ -45,7 +51,7 @@ module _ (s : List ℕ) (h : Header) (is-h : h ≡ readHeader s) where
           metadata = h .place;
           cryptogram = h .place + h .alen;
           tag = h .place + h .alen + h .mlen;
-          place = h .place + (h .alen + h .mlen + t)
+          place = h .place + (h .alen + h .mlen + t);
         }
     unfolding readParts partsOf
     all-parts enough =

@@ -41,16 +41,26 @@ module _ (letter group alen mlen tlen room : ℕ) where
           pub number-8 : room < n + alen + mlen + tlen → writeNumber letter group alen mlen tlen room ≡ 8
           unfolding writeNumber
           number-8 h =
-              simp
-              (le-ltb maxGroup group g, le-ltb maxLength alen a, le-ltb maxLength mlen m, eq-eqb tlen (tagLength letter) t, sym is-n,
-              lt-ltb room (n + alen + mlen + tlen) h)
+              simp (
+                le-ltb maxGroup group g,
+                le-ltb maxLength alen a,
+                le-ltb maxLength mlen m,
+                eq-eqb tlen (tagLength letter) t,
+                sym is-n,
+                lt-ltb room (n + alen + mlen + tlen) h,
+              )
 
           pub number-0 : n + alen + mlen + tlen ≤ room → writeNumber letter group alen mlen tlen room ≡ 0
           unfolding writeNumber
           number-0 h =
-              simp
-              (le-ltb maxGroup group g, le-ltb maxLength alen a, le-ltb maxLength mlen m, eq-eqb tlen (tagLength letter) t, sym is-n,
-              le-ltb room (n + alen + mlen + tlen) h)
+              simp (
+                le-ltb maxGroup group g,
+                le-ltb maxLength alen a,
+                le-ltb maxLength mlen m,
+                eq-eqb tlen (tagLength letter) t,
+                sym is-n,
+                le-ltb room (n + alen + mlen + tlen) h,
+              )
 
 -- letter and comma, and then the three numbers, one behind the other, are the header
 pub header-written : (letter group alen mlen p q : ℕ) (out o₁ o₂ o₃ : List ℕ) → length (header letter group alen mlen) ≤ length out
@@ -60,7 +70,7 @@ pub header-written : (letter group alen mlen p q : ℕ) (out o₁ o₂ o₃ : Li
 unfolding header
 header-written letter group alen mlen p q out o₁ o₂ o₃ room is-p is-q e₁ e₂ e₃ =
     let total : length (header letter group alen mlen) ≡ 2 + length (field group) + length (field alen) + length (field mlen) =
-        omega (arith, header-length letter group alen mlen, field-length group, field-length alen, field-length mlen) in
+    omega (arith, header-length letter group alen mlen, field-length group, field-length alen, field-length mlen) in
     let start = letter ∷ comma ∷ [] in
     let w₁ = written-join out start (field group) 2 refl (omega arith) (written-pair out letter comma (omega arith)) e₁ in
     let w₂ = written-join out (start ++ field group) (field alen) p (omega (arith, length-append start (field group))) (omega (arith, length-append start (field group))) w₁ e₂ in

@@ -1,6 +1,6 @@
 -- A writer gives a number exactly where its condition holds. Assumes nothing.
 use Prim.Native.Nat.{ℕ, _+_, _<_, _≤_}
-use mathlib.Core.Path.{_≡_, refl, sym, ap, _∙_, subst}
+use mathlib.Core.Path.{_≡_, refl, sym, _∙_, subst}
 use mathlib.Core.Logic.{_↔_, _⊎_, inl, inr}
 use mathlib.Core.Bool.{Bool, true, false}
 use mathlib.Core.List.{List}
@@ -42,25 +42,30 @@ module _ (letter group alen mlen tlen room : ℕ) where
           → (n : ℕ) × WriteStop letter group alen mlen tlen room n
       by-room g a m t (inl h) = (8, no-room g a m t h)
       by-room g a m t (inr h) = (0, writable g a m t h)
+
       by-tag : group ≤ maxGroup → alen ≤ maxLength → mlen ≤ maxLength → (tlen ≡ tagLength letter) ⊎ (tlen ≡ tagLength letter → ⊥)
           → (n : ℕ) × WriteStop letter group alen mlen tlen room n
       by-tag g a m (inl t) = by-room g a m t (lt-or-le room _)
       by-tag g a m (inr h) = (7, tag-wrong g a m h)
+
       by-message : group ≤ maxGroup → alen ≤ maxLength → (maxLength < mlen) ⊎ (mlen ≤ maxLength) → (n : ℕ) × WriteStop letter group alen mlen tlen room n
       by-message g a (inl h) = (6, message-long g a h)
       by-message g a (inr m) = by-tag g a m (eq-or-ne tlen (tagLength letter))
+
       by-metadata : group ≤ maxGroup → (maxLength < alen) ⊎ (alen ≤ maxLength) → (n : ℕ) × WriteStop letter group alen mlen tlen room n
       by-metadata g (inl h) = (6, metadata-long g h)
       by-metadata g (inr a) = by-message g a (lt-or-le maxLength mlen)
+
       by-group : (maxGroup < group) ⊎ (group ≤ maxGroup) → (n : ℕ) × WriteStop letter group alen mlen tlen room n
       by-group (inl h) = (3, group-above h)
       by-group (inr g) = by-metadata g (lt-or-le maxLength alen)
 
   -- Writing gives a number exactly where its condition holds.
   pub write-number-exact : (n : ℕ) → (writeNumber letter group alen mlen tlen room ≡ n) ↔ WriteStop letter group alen mlen tlen room n
-  write-number-exact n =
-      ((λ e. subst (WriteStop letter group alen mlen tlen room) (sym (stop-given (some-stop .0) (some-stop .1)) ∙ e) (some-stop .1)),
-      stop-given n)
+  write-number-exact n = (
+    (λ e. subst (WriteStop letter group alen mlen tlen room) (sym (stop-given (some-stop .0) (some-stop .1)) ∙ e) (some-stop .1)),
+    stop-given n,
+  )
 
   -- what is known where nothing stops the call
   pub record Writable : Type 0 where

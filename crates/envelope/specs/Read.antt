@@ -27,16 +27,13 @@ headerM letter g a m =
     cond (m .found) (aHeader letter (g .value) (a .value) (m .value) (m .next)) noHeader
 
 unfoldable pub headerA : List ℕ → (letter : ℕ) → Number → Number → Header
-unfolding headerM
 headerA s letter g a = cond (a .found) (headerM letter g a (readDecimal maxLength comma s (a .next))) noHeader
 
 unfoldable pub headerG : List ℕ → (letter : ℕ) → Number → Header
-unfolding headerA
 headerG s letter g = cond (g .found) (headerA s letter g (readDecimal maxLength comma s (g .next))) noHeader
 
 -- the header at the start of the bytes s: letter, comma, group, A length, M length, and the place after it
 unfoldable pub readHeader : List ℕ → Header
-unfolding headerG
 readHeader s =
     cond (eqb (tagLength (getD s 0 0)) 0) noHeader
     (cond (eqb (getD s 1 0) comma) (headerG s (getD s 0 0) (readDecimal maxGroup comma s 2)) noHeader)
@@ -60,17 +57,19 @@ partsOf n h =
       metadata = h .place;
       cryptogram = h .place + h .alen;
       tag = h .place + h .alen + h .mlen;
-      place = h .place + bodyLength h
+      place = h .place + bodyLength h;
     }))
     (noParts (h .number))
 
 unfoldable pub readParts : List ℕ → Parts
-unfolding partsOf readHeader
 readParts s = partsOf (length s) (readHeader s)
+
+-- number 0: an envelope for a group, that ends at a place
+abbrev pub anEnvelope : (group place : ℕ) → Envelope
+anEnvelope group place = record { number = 0; group = group; place = place }
 
 -- what reading an envelope answers: the number, the group, and the place after the envelope
 unfoldable pub readEnvelope : List ℕ → Envelope
-unfolding readParts
 readEnvelope s = record { number = readParts s .number; group = readParts s .group; place = readParts s .place }
 
 -- the bytes of s from the place i up to the place j
@@ -79,13 +78,10 @@ between i j s = take (j - i) (drop i s)
 
 -- the three parts
 unfoldable pub metadataOf : List ℕ → List ℕ
-unfolding readParts
 metadataOf s = between (readParts s .metadata) (readParts s .cryptogram) s
 
 unfoldable pub cryptogramOf : List ℕ → List ℕ
-unfolding readParts
 cryptogramOf s = between (readParts s .cryptogram) (readParts s .tag) s
 
 unfoldable pub tagOf : List ℕ → List ℕ
-unfolding readParts
 tagOf s = between (readParts s .tag) (readParts s .place) s

@@ -26,7 +26,7 @@ unfoldable pub writeAnswer : ℕ → (metadata cryptogram tag buffer : List ℕ)
 writeAnswer group metadata cryptogram tag buffer =
     record {
       number = writeCheck group metadata cryptogram tag buffer;
-      len = cond (eqb (writeCheck group metadata cryptogram tag buffer) 0) (length (envelope letterS group metadata cryptogram tag)) 0
+      len = cond (eqb (writeCheck group metadata cryptogram tag buffer) 0) (length (envelope letterS group metadata cryptogram tag)) 0;
     }
 
 -- the buffer afterwards: the envelope at its start and the rest kept, or, on a refusal, as it was

@@ -15,8 +15,11 @@ ghost use Rattle.envelope.specs.Write.{writeNumber, writeAnswer, writeBu
 
 // The largest group, and the most bytes that metadata and message have.
 const MAX_GROUP: u32 = 31;
+
 const MAX_LENGTH: u32 = 16384;
+
 const COMMA: u8 = b',';
+
 const LETTER_S: u8 = b'S';
 
 // A header: letter, group, the lengths of metadata and message, and the place after it; number 1 and zeros where there is none.
@@ -256,15 +259,34 @@ fn write_number(letter: u8, group: u32, alen: usize, mlen: usize, tlen: usize, r
 
 // Writes an envelope to the start of a buffer and gives how many bytes that are; the rest of the buffer is kept. Refusals: 3 (the group), 6
 // (metadata or cryptogram too long), 7 (the tag is not 32 bytes), 8 (the buffer is shorter than the envelope); then the buffer is unaltered.
-pub fn write_envelope(group: u32, metadata: &[u8], cryptogram: &[u8], tag: &[u8], out: &mut [u8]) -> WriteResult
+pub fn write_envelope(
+    group: u32,
+    metadata: &[u8],
+    cryptogram: &[u8],
+    tag: &[u8],
+    out: &mut [u8],
+) -> WriteResult
     ensures { λ r. ⌜ (r ≡ writeAnswer group (now (metadata .entry)) (now (cryptogram .entry)) (now (tag .entry)) (now (out .entry)))
-      × (now (out .exit) ≡ writeBuffer group (now (metadata .entry)) (now (cryptogram .entry)) (now (tag .entry)) (now (out .entry))) ⌝ }
+        × (now (out .exit) ≡ writeBuffer group (now (metadata .entry)) (now (cryptogram .entry)) (now (tag .entry)) (now (out .entry))) ⌝ }
 {
-    let number = write_number(LETTER_S, group, metadata.len(), cryptogram.len(), tag.len(), out.len());
+    let number = write_number(
+        LETTER_S,
+        group,
+        metadata.len(),
+        cryptogram.len(),
+        tag.len(),
+        out.len(),
+    );
     if number != 0 {
         return WriteResult { number, len: 0 };
     }
-    let p = write_header(LETTER_S, group, metadata.len() as u32, cryptogram.len() as u32, out);
+    let p = write_header(
+        LETTER_S,
+        group,
+        metadata.len() as u32,
+        cryptogram.len() as u32,
+        out,
+    );
     let q = copy_at(metadata, out, p);
     let r = copy_at(cryptogram, out, q);
     let n = copy_at(tag, out, r);
