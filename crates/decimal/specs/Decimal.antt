@@ -1,6 +1,6 @@
 -- Decimal numbers in bytes, as document 01 has them in "Envelope": decimal without leading zeros, zero being `0`.
 -- First what the bytes of a number are; then what a reader finds who looks for a number up to a maximum and the byte that ends it.
--- proofs/Laws.antt shows that the reader finds exactly the numbers that are spelled so.
+-- proofs/Reading.antt shows that the reader finds exactly the numbers that are spelled so.
 use Prim.Native.Nat.{ℕ, suc, zero, _+_, _-_, _*_, _/_, _%_, _≤_}
 use mathlib.Core.Path.{_≡_}
 use mathlib.Core.Bool.{Bool, true, false, cond}
@@ -23,6 +23,11 @@ decimalWithin (suc steps) n =
 -- the number n in decimal: one digit below 10, else n / 10 in decimal and then the last digit
 unfoldable pub decimal : ℕ → List ℕ
 decimal n = decimalWithin n n
+
+-- the number that digits stand for, where v is the number of those before them
+unfoldable pub valueFrom : ℕ → List ℕ → ℕ
+valueFrom v [] = v
+valueFrom v (b ∷ s) = valueFrom (v * 10 + (b - 48)) s
 
 -- the bytes s are a number n, at most max, in decimal, then the byte end, and then the bytes rest
 abbrev pub Spelled : (max end : ℕ) → List ℕ → ℕ → List ℕ → Type 0

@@ -1,5 +1,5 @@
 // Decimal numbers without leading zeros, read from bytes and written to them. A number is read up to a maximum and to the byte that ends
-// it, so that a long run of digits cannot overflow anything; specs/Decimal.antt says what is found, and proofs/Laws.antt that this is just
+// it, so that a long run of digits cannot overflow anything; specs/Decimal.antt says what is found, and proofs/Reading.antt that this is just
 // what is spelled there.
 ghost use mathlib.Core.Path.{_≡_};
 ghost use Prim.Native.Nat.{_+_, _<_, _≤_};

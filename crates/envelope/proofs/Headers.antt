@@ -10,7 +10,8 @@ use lib.Dec.{eqb, lit<}
 use borrow.Author.Tests.{ne-eqb, eqb-true, eqb-false}
 use Rattle.decimal.specs.Decimal.{decimal, digitOf, readDecimal, Spelled}
 use Rattle.decimal.specs.declared.Number.{Number}
-use Rattle.decimal.proofs.Laws.{read-sound, read-complete, after-number}
+use Rattle.decimal.proofs.Laws.{after-number}
+use Rattle.decimal.proofs.Reading.{read-sound, read-complete}
 use Rattle.envelope.specs.Layout.{comma, maxGroup, maxLength, tagLength, header, Begins}
 use Rattle.envelope.specs.Read.{noHeader, aHeader, headerM, headerA, headerG, readHeader}
 use Rattle.envelope.specs.declared.Header.{Header}

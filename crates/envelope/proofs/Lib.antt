@@ -6,3 +6,4 @@ pub mod Reading
 pub mod PartSteps
 pub mod WriteSteps
 pub mod Writing
+pub mod RoundTrip
