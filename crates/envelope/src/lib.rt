@@ -224,7 +224,7 @@ pub fn header_len(group: u32, alen: u32, mlen: u32) -> usize
 }
 
 // Writes a header to the start of a buffer that has room for it, and gives the place after it.
-pub fn write_header(letter: u8, group: u32, alen: u32, mlen: u32, out: &mut [u8]) -> usize
+fn write_header(letter: u8, group: u32, alen: u32, mlen: u32, out: &mut [u8]) -> usize
     requires { ⌜ length (header letter group alen mlen) ≤ length (now out) ⌝ }
     ensures { λ r. ⌜ (r ≡ length (header letter group alen mlen)) × (now (out .exit) ≡ written (now (out .entry)) 0 (header letter group alen mlen)) ⌝ }
 {
