@@ -7,6 +7,7 @@ demo: tools
 test: tools
 	rt fmt --check
 	python3 scripts/vectors.py --check
+	python3 scripts/envelope_vectors.py --check
 	rt ci
 
 bench: tools
