@@ -1,3 +1,5 @@
 -- Laws and theorems that belong to no one function.
 pub mod Modes
 pub mod Papers
+pub mod Sessions
+pub mod Ledgers

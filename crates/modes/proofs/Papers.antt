@@ -22,7 +22,7 @@ use Rattle.modes.specs.Ledger.{PaperMode, sansePaper, sansePermutations}
 abbrev pub toPaper : Mode → Bool → StepResult (List Str) → PaperResult
 toPaper m e r = record { history = r .after; toggle = m .parameters .nextToggle e; text = r .body; tag = r .tag }
 
-abbrev pub paperOf : Mode → PaperMode
+unfoldable pub paperOf : Mode → PaperMode
 paperOf m =
     record {
       tagLength = m .parameters .tagLength;
@@ -102,6 +102,7 @@ module _ (key : List ℕ) (h : List Str) (e : Bool) where
 
 -- the papers' SANSE is the mode SANSE
 pub sanse-paper : paperOf sanse ≡ sansePaper
+unfolding paperOf
 sanse-paper =
     λ i. record {
       tagLength = 32;
