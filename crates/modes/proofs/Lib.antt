@@ -3,3 +3,4 @@ pub mod Modes
 pub mod Papers
 pub mod Sessions
 pub mod Ledgers
+pub mod Delivery
