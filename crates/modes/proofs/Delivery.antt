@@ -57,6 +57,13 @@ equalTags-true (x ∷ s) (y ∷ t) h = go (eqb x y) refl h (equalTags-true s t)
     go true e r ih = ap₂ {C = List ℕ} (λ y z. y ∷ z) (eqb-true x y e) (ih r)
     go false e r ih = cc
 
+pub equalTags-false : (s t : List ℕ) → s ≢ t → equalTags s t ≡ false
+equalTags-false s t h = go (equalTags s t) refl
+  where
+    go : (q : Bool) → equalTags s t ≡ q → q ≡ false
+    go true e = absurd (h (equalTags-true s t e))
+    go false e = refl
+
 -- ---- one call at a ledger
 
 module _ (m : PaperMode) (l : Ledger) (i : CallInput) where
@@ -81,6 +88,20 @@ module _ (m : PaperMode) (l : Ledger) (i : CallInput) where
           → onCheck m n l i (accepts m l i (wrapFinds m l i) (wrapFinds m l i .tag)) .ledger ≡ l
       go zero g = absurd (g refl)
       go (suc n) g = refl
+
+  -- an arrival that meets none of the checks 6 to 9, by its tag
+  pub unwrap-same : checkBefore11 m (unwrapFinds m l i) i ≡ 0 → i .tag ≡ unwrapFinds m l i .tag
+      → ledgerUnwrap m l i ≡ accepts m l i (unwrapFinds m l i) (i .tag)
+  unfolding ledgerUnwrap
+  unwrap-same h g =
+      ap₂ (λ (n : ℕ) (q : Bool). onCheck m n l i (cond q (accepts m l i (unwrapFinds m l i) (i .tag)) (refuses11 m l i)))
+      h (ap (equalTags (i .tag)) (sym g) ∙ equalTags-refl (i .tag))
+
+  pub unwrap-differs : checkBefore11 m (unwrapFinds m l i) i ≡ 0 → i .tag ≢ unwrapFinds m l i .tag → ledgerUnwrap m l i ≡ refuses11 m l i
+  unfolding ledgerUnwrap
+  unwrap-differs h g =
+      ap₂ (λ (n : ℕ) (q : Bool). onCheck m n l i (cond q (accepts m l i (unwrapFinds m l i) (i .tag)) (refuses11 m l i)))
+      h (equalTags-false (i .tag) (unwrapFinds m l i .tag) g)
 
   -- an arrival that meets a check, 11 included, is refused and leaves the ledger
   pub unwrap-stopped : (checkBefore11 m (unwrapFinds m l i) i ≢ 0) ⊎ (i .tag ≢ unwrapFinds m l i .tag)

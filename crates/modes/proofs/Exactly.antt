@@ -14,7 +14,7 @@ use Rattle.modes.specs.Paper.{PaperResult}
 use Rattle.modes.specs.Rules.{Opening, closed, newSession, keyFits, startAt}
 use Rattle.modes.specs.Ledger.{PaperMode, Ledger, Entry, equalTags, wrapFinds, unwrapFinds, checkBefore11, onCheck, accepts, refuses11, ledgerWrap, ledgerUnwrap}
 use Rattle.modes.specs.Exactly.{Check6, Check7, Check8, Check9, Check11, NoneBefore11, Exactly5to9, WrapExactly, UnwrapExactly, StartExactly}
-use Rattle.modes.proofs.Delivery.{equalTags-true, equalTags-refl}
+use Rattle.modes.proofs.Delivery.{equalTags-refl, equalTags-true, equalTags-false}
 
 -- a number that is 0 or 11 is no other
 past : {n q : ℕ} → (n ≡ 0) ⊎ (n ≡ 11) → q ≢ 0 → q ≢ 11 → n ≢ q
@@ -170,14 +170,6 @@ module _ (m : PaperMode) (l : Ledger) (i : CallInput) where
 
 -- ---- unwrap
 
--- two runs of bytes that differ are found to differ
-differs : (s t : List ℕ) → s ≢ t → equalTags s t ≡ false
-differs s t h = go (equalTags s t) refl
-  where
-    go : (q : Bool) → equalTags s t ≡ q → q ≡ false
-    go true e = absurd (h (equalTags-true s t e))
-    go false e = refl
-
 module _ (m : PaperMode) (l : Ledger) (i : CallInput) where
   -- a check before 11 decides; otherwise the comparison does
   unwrap-number : (checkBefore11 m (unwrapFinds m l i) i ≢ 0 → ledgerUnwrap m l i .answer .number ≡ checkBefore11 m (unwrapFinds m l i) i)
@@ -219,7 +211,7 @@ module _ (m : PaperMode) (l : Ledger) (i : CallInput) where
             (λ e. subst (λ (n : ℕ). (n ≡ 0) ⊎ (n ≡ 11)) (sym (unwrap-number .1 e)) (zero-or-11 (equalTags (i .tag) (r .tag)))) (unwrap-number .0);
         eleven = (
           λ h. let k = none-met 11 (inr refl) h in (check-none m r i k, λ e. eleven-not-0 (sym h ∙ unwrap-number .1 k ∙ ap (λ (q : Bool). cond q 0 11) (same e))),
-          λ h. unwrap-number .1 (none-check m r i (h .0)) ∙ ap (λ (q : Bool). cond q 0 11) (differs (i .tag) (r .tag) (h .1)),
+          λ h. unwrap-number .1 (none-check m r i (h .0)) ∙ ap (λ (q : Bool). cond q 0 11) (equalTags-false (i .tag) (r .tag) (h .1)),
         );
         accepted = (
           λ h. let k = none-met 0 (inl refl) h in (check-none m r i k, equal (equalTags (i .tag) (r .tag)) refl (sym (unwrap-number .1 k) ∙ h)),

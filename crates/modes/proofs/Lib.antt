@@ -5,3 +5,5 @@ pub mod Sessions
 pub mod Ledgers
 pub mod Delivery
 pub mod Exactly
+pub mod TwoEnds
+pub mod OneCall
