@@ -4,7 +4,7 @@ use mathlib.Core.Bool.{Bool, true, false, not, _||_, cond}
 use mathlib.Core.List.{List, [], _∷_, _++_, map}
 use mathlib.Core.Logic.{_≢_, _⊎_, inl, inr}
 use mathlib.Core.Path.{_≡_, refl, sym, ap, ap₂, _∙_, subst, subst₂}
-use Prim.Native.Nat.{ℕ, zero, suc, _≤_}
+use Prim.Native.Nat.{ℕ, zero, suc, _+_, _≤_}
 use native.Mathlib.Omega.{arith}
 use borrow.Author.Tests.{le-ltb, eq-eqb, eqb-true}
 use lib.Dec.{ltb, eqb}
@@ -15,10 +15,12 @@ use Rattle.xoofff.specs.Deck.{indexOf}
 use Rattle.modes.specs.Call.{CallInput, Side, office, group, other, Call, wrap, unwrap, sideOf}
 use Rattle.modes.specs.Mode.{Mode, wholeHistory}
 use Rattle.modes.specs.Paper.{PaperResult}
-use Rattle.modes.specs.Ledger.{PaperMode, Ledger, Answer, Entry, equalTags, wrapFinds, unwrapFinds, checkBefore11, onCheck, accepts, refuses11, ledgerWrap, ledgerUnwrap}
+use Rattle.modes.specs.Rules.{growth}
+use Rattle.modes.specs.Ledger.{PaperMode, sansePaper, Ledger, Answer, Entry, equalTags, wrapFinds, unwrapFinds, checkBefore11, onCheck, accepts, refuses11, ledgerWrap, ledgerUnwrap}
 use Rattle.modes.specs.TwoEnds.{Ledgers, ledgerAt, setLedger, ledgerStep, nextLedgers, entries, finishLedgers, Sent, delivery, InFlight, nothing, sent, Delivers, Returned}
-use Rattle.modes.proofs.Modes.{ModeLaws}
-use Rattle.modes.proofs.Papers.{toPaper, paperOf}
+use Rattle.modes.proofs.Modes.{ModeLaws, sanse-laws}
+use Rattle.modes.proofs.Papers.{toPaper, paperOf, sanse-paper}
+use Rattle.modes.proofs.Sessions.{wholeHistory-grows}
 
 -- ---- what is asked of a mode
 
@@ -31,6 +33,10 @@ pub record PaperLaws (m : PaperMode) : Type 0 where
       → m .unwraps key h e a (m .wraps key h e a p .text) (m .wraps key h e a p .tag) ≡ restoredPaper (m .wraps key h e a p) p
   pub wraps-length : (key : List ℕ) (h : List Str) (e : Bool) (a p : List ℕ) → length (m .wraps key h e a p .text) ≡ length p
   pub wraps-tag : (key : List ℕ) (h : List Str) (e : Bool) (a p : List ℕ) → length (m .wraps key h e a p .tag) ≡ m .tagLength
+  pub wraps-index : (key : List ℕ) (h : List Str) (e : Bool) (a p : List ℕ)
+      → indexOf (m .wraps key h e a p .history) ≡ indexOf h + growth (length a) (length p)
+  pub unwraps-index : (key : List ℕ) (h : List Str) (e : Bool) (a c t : List ℕ)
+      → indexOf (m .unwraps key h e a c t .history) ≡ indexOf h + growth (length a) (length c)
 
 pub paper-laws : {m : Mode} → ModeLaws m → PaperLaws (paperOf m)
 unfolding paperOf
@@ -39,7 +45,12 @@ paper-laws {m} laws =
       undone = λ key h e a p. ap (toPaper m e) (laws .undone (wholeHistory key) h e a p);
       wraps-length = λ key. laws .wraps-length (wholeHistory key);
       wraps-tag = λ key. laws .wraps-tag (wholeHistory key);
+      wraps-index = λ key. laws .wraps-index (wholeHistory key) (wholeHistory-grows key);
+      unwraps-index = λ key. laws .unwraps-index (wholeHistory key) (wholeHistory-grows key);
     }
+
+pub sanse-paper-laws : PaperLaws sansePaper
+sanse-paper-laws = subst PaperLaws sanse-paper (paper-laws sanse-laws)
 
 -- ---- tags
 

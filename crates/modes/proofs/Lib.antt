@@ -7,3 +7,6 @@ pub mod Delivery
 pub mod Exactly
 pub mod TwoEnds
 pub mod OneCall
+pub mod Fresh
+pub mod Edges
+pub mod Leaves
