@@ -18,8 +18,8 @@ use Rattle.modes.specs.Paper.{PaperResult}
 use Rattle.modes.specs.Rules.{growth}
 use Rattle.modes.specs.Ledger.{PaperMode, sansePaper, Ledger, Answer, Entry, equalTags, wrapFinds, unwrapFinds, checkBefore11, onCheck, accepts, refuses11, ledgerWrap, ledgerUnwrap}
 use Rattle.modes.specs.TwoEnds.{Ledgers, ledgerAt, setLedger, ledgerStep, nextLedgers, entries, finishLedgers, Sent, delivery, InFlight, nothing, sent, Delivers, Returned}
-use Rattle.modes.proofs.Modes.{ModeLaws, sanse-laws}
 use Rattle.modes.proofs.Papers.{toPaper, paperOf, sanse-paper}
+use Rattle.modes.proofs.Steps.{ModeLaws, sanse-laws}
 use Rattle.modes.proofs.Sessions.{wholeHistory-grows}
 
 -- ---- what is asked of a mode

@@ -16,8 +16,8 @@ use Rattle.modes.specs.Rules.{SessionState, Outcome, firstCheck, growth,
 use Rattle.modes.specs.Ledger.{PaperMode, Ledger, Answer, Entry, equalTags, wrapFinds, unwrapFinds, checkBefore11, onCheck, accepts, refuses11, ledgerWrap, ledgerUnwrap}
 use Rattle.modes.specs.OneCall.{sessionOf}
 use Rattle.modes.specs.TwoEnds.{Ends, at, put, outcome, next, outcomes, finish, Ledgers, ledgerAt, setLedger, ledgerStep, nextLedgers, entries, finishLedgers, outcomeOf}
-use Rattle.modes.proofs.Modes.{ModeLaws}
 use Rattle.modes.proofs.Papers.{toPaper, paperOf}
+use Rattle.modes.proofs.Steps.{ModeLaws}
 use Rattle.modes.proofs.Sessions.{mapSession, mapOutcome, incremental-simulates, wholeHistory-grows, wrapAt-simulates, unwrapAt-simulates}
 
 -- ---- one call
@@ -87,7 +87,7 @@ module _ {m : Mode} (laws : ModeLaws m) (l : Ledger) (i : CallInput) where
             out = replicate (length (i .text)) 0 ++ drop n (i .out);
             tag = i .tag;
           })
-          (length-replicate (length (i .text)) 0)
+          (length-replicate {A = ℕ} (length (i .text)) 0)
 
   -- a call leaves the ledger's key
   onCheck-key : (n : ℕ) (e : Entry) → e .ledger .key ≡ l .key → onCheck (paperOf m) n l i e .ledger .key ≡ l .key

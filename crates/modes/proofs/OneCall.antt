@@ -15,8 +15,8 @@ use Rattle.modes.specs.Ledger.{PaperMode, sansePaper, Ledger, Entry, equ
 use Rattle.modes.specs.Exactly.{NoneBefore11}
 use Rattle.modes.specs.OneCall.{sessionOf, Within, Accepted, WrongTag, WrapClaim, UnwrapClaim, OneCall}
 use Rattle.modes.specs.TwoEnds.{outcomeOf}
-use Rattle.modes.proofs.Modes.{sanse-laws}
 use Rattle.modes.proofs.Papers.{paperOf, sanse-paper}
+use Rattle.modes.proofs.Steps.{sanse-laws}
 use Rattle.modes.proofs.Ledgers.{wrap-by-ledger, unwrap-by-ledger}
 use Rattle.modes.proofs.Delivery.{wrap-done, unwrap-same, unwrap-differs}
 use Rattle.modes.proofs.Exactly.{none-check}

@@ -14,7 +14,7 @@ use Rattle.xoofff.proofs.Incremental.{indexOf-more, fromScratch-more, output-fr
 use Rattle.modes.specs.Call.{CallInput}
 use Rattle.modes.specs.Mode.{HistoryRep, StepResult, Mode, wholeHistory, incremental}
 use Rattle.modes.specs.Rules.{SessionState, Outcome, firstCheck, growth, metadataString, sameBytes, ifNoCheck, checkNumber, wrapSteps, unwrapSteps, accepted, wrongTag, compareTag, wrapAt, unwrapAt}
-use Rattle.modes.proofs.Modes.{Simulates, mapResult, Grows, ModeLaws}
+use Rattle.modes.proofs.Steps.{Simulates, mapResult, Grows, ModeLaws}
 
 -- ---- the two ways to hold a history
 

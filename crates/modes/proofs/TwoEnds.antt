@@ -12,8 +12,8 @@ use Rattle.modes.specs.Rules.{SessionState, Outcome, Opening, newSession
 use Rattle.modes.specs.Ledger.{PaperMode, sansePaper, Answer, Entry}
 use Rattle.modes.specs.OneCall.{sessionOf}
 use Rattle.modes.specs.TwoEnds.{Ends, outcomes, finish, Ledgers, entries, finishLedgers, freshLedgers, nothing, Delivers, Returned, outcomeOf, answerOf, ByLedgers, StartAccepted, Demand3}
-use Rattle.modes.proofs.Modes.{ModeLaws, sanse-laws}
 use Rattle.modes.proofs.Papers.{paperOf, sanse-paper}
+use Rattle.modes.proofs.Steps.{ModeLaws, sanse-laws}
 use Rattle.modes.proofs.Ledgers.{endsOf, outcomes-are, finish-is}
 use Rattle.modes.proofs.Delivery.{paper-laws, returned, level}
 use Rattle.modes.proofs.Exactly.{start-accepted}
