@@ -1,21 +1,26 @@
 -- The theorems are not empty: a ledger with room in its index, and so a fresh one, accepts every wrap within the limits; and a list with
 -- messages both ways, and a refused arrival among them, is one of those in which each message is delivered. Assumes nothing.
 use mathlib.Core.Bool.{Bool, true, false, cond}
-use mathlib.Core.List.{List, [], _∷_}
-use mathlib.Core.Logic.{_≢_, inl}
-use mathlib.Core.Path.{_≡_, refl, sym, ap, _∙_}
-use Prim.Native.Nat.{ℕ, zero, suc, _+_, _≤_, _/_}
+use mathlib.Core.List.{List, []}
+use mathlib.Core.Logic.{inl}
+use mathlib.Core.Path.{_≡_, refl, ap, _∙_}
+use Prim.Native.Nat.{ℕ, zero, suc, _+_, _≤_}
 use native.Mathlib.Omega.{arith}
 use lib.ListN.{length}
+use Rattle.xoofff.specs.declared.DeckState.{DeckState}
 use Rattle.xoofff.specs.Deck.{indexOf}
-use Rattle.modes.specs.Call.{CallInput, Side, office, group, Call, wrap, unwrap}
+use Rattle.modes.specs.Call.{CallInput, office, group}
 use Rattle.modes.specs.Paper.{PaperResult}
-use Rattle.modes.specs.Rules.{growth}
-use Rattle.modes.specs.Ledger.{PaperMode, sansePaper, Ledger, Entry, equalTags, wrapFinds, unwrapFinds, checkBefore11, onCheck, accepts, refuses11, ledgerWrap, ledgerUnwrap, freshLedger}
+use Rattle.modes.specs.Mode.{incremental, sanse}
+use Rattle.modes.specs.Rules.{SessionState, Outcome, growth, wrapAt}
+use Rattle.modes.specs.Ledger.{PaperMode, sansePaper, Ledger, equalTags, wrapFinds, unwrapFinds, checkBefore11, onCheck, accepts, refuses11, ledgerWrap, ledgerUnwrap, freshLedger}
 use Rattle.modes.specs.Exactly.{NoneBefore11}
-use Rattle.modes.specs.TwoEnds.{Ledgers, ledgerAt, nextLedgers, freshLedgers, Sent, delivery, nothing, Delivers}
-use Rattle.modes.proofs.Delivery.{PaperLaws, sanse-paper-laws}
+use Rattle.modes.specs.TwoEnds.{ledgerAt, finishLedgers, freshLedgers, delivery, Delivers}
+use Rattle.modes.specs.Fresh.{InLimits, FreshAccepts, noTag, sentBy, afterThere, BothWays}
+use Rattle.modes.proofs.Entries.{PaperLaws, sanse-paper-laws}
 use Rattle.modes.proofs.Exactly.{check-none, wrap-exactly}
+use Rattle.modes.proofs.OneCall.{wrap-is}
+use Rattle.modes.proofs.TwoEnds.{new-session}
 
 -- a call within the limits moves the index by at most 686
 growth-most : (a n : ℕ) → a ≤ 16384 → n ≤ 16384 → growth a n ≤ 686
@@ -23,13 +28,6 @@ unfolding growth
 growth-most a zero h g = omega arith
 growth-most zero (suc n) h g = omega arith
 growth-most (suc a) (suc n) h g = omega arith
-
--- what a wrap is handed within the limits
-pub record InLimits (m : PaperMode) (i : CallInput) : Type 0 where
-  pub metadata : length (i .metadata) ≤ 16384
-  pub text : length (i .text) ≤ 16384
-  pub tag : length (i .tag) ≡ m .tagLength
-  pub out : length (i .text) ≤ length (i .out)
 
 module _ {m : PaperMode} (laws : PaperLaws m) (l : Ledger) (i : CallInput) where
   -- a ledger with room accepts it
@@ -70,50 +68,48 @@ module _ {m : PaperMode} (laws : PaperLaws m) (l : Ledger) (i : CallInput) where
 
 -- ---- SANSE
 
--- a fresh ledger accepts every wrap within the limits
-pub fresh-accepts : (key : List ℕ) (i : CallInput) → InLimits sansePaper i → ledgerWrap sansePaper (freshLedger sansePaper key) i .answer .number ≡ 0
+index-none : indexOf [] ≡ 0
 unfolding indexOf
-fresh-accepts key i w = accepts-within sanse-paper-laws (freshLedger sansePaper key) i w (omega arith)
+index-none = refl
 
--- an arrival that is refused at every ledger: its tag has no bytes
-abbrev pub short : CallInput
-short = record { metadata = []; text = []; out = []; tag = [] }
+fresh-ledger : (key : List ℕ) (i : CallInput) → InLimits sansePaper i → ledgerWrap sansePaper (freshLedger sansePaper key) i .answer .number ≡ 0
+unfolding indexOf
+fresh-ledger key i w = accepts-within sanse-paper-laws (freshLedger sansePaper key) i w (omega arith)
 
-module _ (key : List ℕ) (i j : CallInput) (out₁ out₂ : List ℕ) where
-  abbrev sentBy : Side → CallInput → Ledgers → Sent
-  sentBy x i p = record { from = x; input = i; cryptogram = wrapFinds sansePaper (ledgerAt x p) i .text; tag = wrapFinds sansePaper (ledgerAt x p) i .tag }
+-- a fresh ledger, and the session that a start gives, accept every wrap within the limits
+pub fresh-accepts : (key : List ℕ) (i : CallInput) → FreshAccepts key i
+fresh-accepts key i =
+    record {
+      ledger = fresh-ledger key i;
+      session = λ w.
+          ap (λ (s : SessionState DeckState). wrapAt sanse incremental s i .number) (new-session key)
+          ∙ ap (λ (o : Outcome DeckState). o .number) (wrap-is key [] false i) ∙ fresh-ledger key i w;
+    }
 
-  abbrev first : Ledgers
-  first = freshLedgers sansePaper key
+-- messages both ways
+pub both-ways : (key : List ℕ) (i j : CallInput) (out out′ : List ℕ) → BothWays key i j out out′
+unfolding finishLedgers
+both-ways key i j out out′ w v f g =
+    Delivers.wrap-accepted (fresh-ledger key i w)
+    (Delivers.other-arrival (inl refused)
+    (Delivers.delivered f
+    (Delivers.wrap-accepted (accepts-within sanse-paper-laws (ledgerAt group (afterThere key i out)) j v room)
+    (Delivers.delivered g Delivers.finished))))
+  where
+    refused : _≢_ {A = ℕ} 7 0
+    refused e = omega arith
 
-  abbrev arrivesFirst : Call
-  arrivesFirst = unwrap group (delivery (sentBy office i first) out₁)
+    fresh : Ledger
+    fresh = freshLedger sansePaper key
 
-  -- the ledgers after the first message
-  abbrev second : Ledgers
-  second = nextLedgers sansePaper arrivesFirst (nextLedgers sansePaper (unwrap group short) (nextLedgers sansePaper (wrap office i) first))
+    none : indexOf (fresh .history) ≡ 0
+    none = index-none
 
-  -- the office sends i, and after a refused arrival it is delivered; the group sends j, and it is delivered
-  abbrev pub bothWays : List Call
-  bothWays = wrap office i ∷ unwrap group short ∷ arrivesFirst ∷ wrap group j ∷ unwrap office (delivery (sentBy group j second) out₂) ∷ []
-
-  pub both-ways : InLimits sansePaper i → InLimits sansePaper j → length (i .text) ≤ length out₁ → length (j .text) ≤ length out₂
-      → Delivers sansePaper nothing bothWays (freshLedgers sansePaper key)
-  unfolding indexOf
-  both-ways w v f g =
-      Delivers.wrap-accepted (fresh-accepts key i w)
-      (Delivers.other-arrival (inl refused)
-      (Delivers.delivered f
-      (Delivers.wrap-accepted (accepts-within sanse-paper-laws (ledgerAt group second) j v room)
-      (Delivers.delivered g Delivers.finished))))
-    where
-      refused : _≢_ {A = ℕ} 7 0
-      refused e = omega arith
-
-      room : indexOf (ledgerAt group second .history) + 686 ≤ 1048576
-      room =
-          omega (
-            arith,
-            unwrap-moves sanse-paper-laws (ledgerUnwrap sansePaper (freshLedger sansePaper key) short .ledger) (delivery (sentBy office i first) out₁),
-            unwrap-moves sanse-paper-laws (freshLedger sansePaper key) short,
-          )
+    room : indexOf (ledgerAt group (afterThere key i out) .history) + 686 ≤ 1048576
+    room =
+        omega (
+          arith,
+          none,
+          unwrap-moves sanse-paper-laws (ledgerUnwrap sansePaper fresh noTag .ledger) (delivery (sentBy office i (freshLedgers sansePaper key)) out),
+          unwrap-moves sanse-paper-laws fresh noTag,
+        )

@@ -2,15 +2,15 @@
 -- permutations that the leaves do sum to document 01's formula. Assumes nothing.
 use mathlib.Core.Bool.{Bool, true, false, not, _||_, cond}
 use mathlib.Core.List.{List, [], _∷_}
-use mathlib.Core.Path.{_≡_, refl, sym, ap, ap₂, _∙_}
-use Prim.Native.Nat.{ℕ, zero, suc, _+_, _-_, _/_, _≤_}
+use mathlib.Core.Path.{_≡_, refl}
+use Prim.Native.Nat.{ℕ, zero, suc, _+_}
 use native.Mathlib.Omega.{arith}
 use lib.ListN.{length}
-use Rattle.xoofff.specs.Strings.{Str, b, blocks}
+use Rattle.xoofff.specs.Strings.{blocks}
 use Rattle.xoofff.specs.Leaves.{closingByte, closedBy, outputBlocks}
 use Rattle.xoofff.proofs.Closing.{closedBy-closing}
 use Rattle.xoofff.proofs.Strings.{blocks-is}
-use Rattle.modes.specs.Mode.{framed, isEmpty, sanseParameters, sanseCount, ceiling48, blocksOfA}
+use Rattle.modes.specs.Mode.{framed, isEmpty, sanseParameters, sanseCount, ceiling48}
 
 -- ---- closing bytes
 

@@ -3,7 +3,7 @@
 use mathlib.Core.Bool.{Bool, true, false, cond, _&&_}
 use mathlib.Core.List.{List, [], _∷_, _++_, map}
 use mathlib.Core.Path.{_≡_, refl, sym, ap, ap₂, _∙_}
-use Prim.Native.Nat.{ℕ, zero, suc, _+_}
+use Prim.Native.Nat.{ℕ, zero, suc}
 use lib.Dec.{eqb}
 use lib.ListN.{length, drop, replicate, length-replicate}
 use Rattle.xoofff.specs.declared.DeckState.{DeckState}
@@ -12,13 +12,13 @@ use Rattle.xoofff.specs.Deck.{outputMask}
 use Rattle.xoofff.specs.Incremental.{fromScratch}
 use Rattle.modes.specs.Call.{CallInput, Side, office, group, Call, wrap, unwrap, sideOf}
 use Rattle.modes.specs.Mode.{StepResult, Mode, wholeHistory, incremental}
-use Rattle.modes.specs.Rules.{SessionState, Outcome, firstCheck, growth, metadataString, sameBytes, ifNoCheck, checkNumber, wrapSteps, unwrapSteps, accepted, wrongTag, compareTag, wrapAt, unwrapAt}
-use Rattle.modes.specs.Ledger.{PaperMode, Ledger, Answer, Entry, equalTags, wrapFinds, unwrapFinds, checkBefore11, onCheck, accepts, refuses11, ledgerWrap, ledgerUnwrap}
+use Rattle.modes.specs.Rules.{SessionState, Outcome, firstCheck, metadataString, sameBytes, ifNoCheck, checkNumber, wrapSteps, unwrapSteps, accepted, wrongTag, compareTag, wrapAt, unwrapAt}
+use Rattle.modes.specs.Ledger.{Ledger, Entry, equalTags, wrapFinds, unwrapFinds, checkBefore11, onCheck, accepts, refuses11, ledgerWrap, ledgerUnwrap}
 use Rattle.modes.specs.OneCall.{sessionOf}
 use Rattle.modes.specs.TwoEnds.{Ends, at, put, outcome, next, outcomes, finish, Ledgers, ledgerAt, setLedger, ledgerStep, nextLedgers, entries, finishLedgers, outcomeOf}
-use Rattle.modes.proofs.Papers.{toPaper, paperOf}
+use Rattle.modes.proofs.Papers.{paperOf}
 use Rattle.modes.proofs.Steps.{ModeLaws}
-use Rattle.modes.proofs.Sessions.{mapSession, mapOutcome, incremental-simulates, wholeHistory-grows, wrapAt-simulates, unwrapAt-simulates}
+use Rattle.modes.proofs.Sessions.{mapOutcome, incremental-simulates, wholeHistory-grows, wrapAt-simulates, unwrapAt-simulates}
 
 -- ---- one call
 

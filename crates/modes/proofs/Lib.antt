@@ -3,6 +3,7 @@ pub mod Papers
 pub mod Steps
 pub mod Sessions
 pub mod Ledgers
+pub mod Entries
 pub mod Delivery
 pub mod Exactly
 pub mod TwoEnds

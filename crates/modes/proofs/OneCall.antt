@@ -1,8 +1,7 @@
 -- Demand 2 for one call, from the ledger with that history. Assumes nothing.
-use mathlib.Core.Bool.{Bool, true, false, cond}
-use mathlib.Core.List.{List, [], _∷_, _++_}
-use mathlib.Core.Logic.{_≢_}
-use mathlib.Core.Path.{_≡_, refl, sym, ap, ap₂, _∙_, subst}
+use mathlib.Core.Bool.{Bool}
+use mathlib.Core.List.{List, _++_}
+use mathlib.Core.Path.{_≡_, refl, sym, ap, _∙_}
 use Prim.Native.Nat.{ℕ}
 use lib.ListN.{length, drop, replicate, length-replicate}
 use Rattle.xoofff.specs.declared.DeckState.{DeckState}
@@ -10,28 +9,27 @@ use Rattle.xoofff.specs.Strings.{Str}
 use Rattle.modes.specs.Call.{CallInput}
 use Rattle.modes.specs.Mode.{incremental, sanse}
 use Rattle.modes.specs.Paper.{PaperResult, sanseWrap, sanseUnwrap}
-use Rattle.modes.specs.Rules.{SessionState, Outcome, wrapAt, unwrapAt}
-use Rattle.modes.specs.Ledger.{PaperMode, sansePaper, Ledger, Entry, equalTags, checkBefore11, onCheck, accepts, refuses11, ledgerWrap, ledgerUnwrap}
-use Rattle.modes.specs.Exactly.{NoneBefore11}
+use Rattle.modes.specs.Rules.{Outcome, wrapAt, unwrapAt}
+use Rattle.modes.specs.Ledger.{PaperMode, sansePaper, Ledger, checkBefore11, accepts, refuses11, ledgerWrap, ledgerUnwrap}
 use Rattle.modes.specs.OneCall.{sessionOf, Within, Accepted, WrongTag, WrapClaim, UnwrapClaim, OneCall}
 use Rattle.modes.specs.TwoEnds.{outcomeOf}
-use Rattle.modes.proofs.Papers.{paperOf, sanse-paper}
+use Rattle.modes.proofs.Papers.{sanse-paper}
 use Rattle.modes.proofs.Steps.{sanse-laws}
 use Rattle.modes.proofs.Ledgers.{wrap-by-ledger, unwrap-by-ledger}
-use Rattle.modes.proofs.Delivery.{wrap-done, unwrap-same, unwrap-differs}
+use Rattle.modes.proofs.Entries.{wrap-done, unwrap-same, unwrap-differs}
 use Rattle.modes.proofs.Exactly.{none-check}
 
 module _ (key : List ℕ) (h : List Str) (e : Bool) (i : CallInput) where
-  abbrev ledger : Ledger
+  abbrev pub ledger : Ledger
   ledger = record { key = key; history = h; toggle = e }
 
   none : (r : PaperResult) → Within i (r .history) → checkBefore11 sansePaper r i ≡ 0
   none r w = none-check sansePaper r i (record { metadata = w .metadata; text = w .text; tag = w .tag; out = w .out; index = w .index })
 
-  wrap-is : wrapAt sanse incremental (sessionOf key h e) i ≡ outcomeOf (ledgerWrap sansePaper ledger i)
+  pub wrap-is : wrapAt sanse incremental (sessionOf key h e) i ≡ outcomeOf (ledgerWrap sansePaper ledger i)
   wrap-is = wrap-by-ledger sanse-laws ledger i ∙ ap (λ (m : PaperMode). outcomeOf (ledgerWrap m ledger i)) sanse-paper
 
-  unwrap-is : unwrapAt sanse incremental (sessionOf key h e) i ≡ outcomeOf (ledgerUnwrap sansePaper ledger i)
+  pub unwrap-is : unwrapAt sanse incremental (sessionOf key h e) i ≡ outcomeOf (ledgerUnwrap sansePaper ledger i)
   unwrap-is = unwrap-by-ledger sanse-laws ledger i ∙ ap (λ (m : PaperMode). outcomeOf (ledgerUnwrap m ledger i)) sanse-paper
 
   -- the outcome of an entry of an accepted call, and of one with number 11

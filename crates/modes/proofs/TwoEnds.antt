@@ -1,21 +1,22 @@
 -- Demand 3: for any lawful mode, and for SANSE with its two starts. Assumes nothing.
 use mathlib.Core.Bool.{false}
 use mathlib.Core.List.{List, [], _∷_, map}
-use mathlib.Core.Path.{_≡_, refl, sym, ap, ap₂, _∙_, subst}
+use mathlib.Core.Path.{_≡_, refl, sym, ap, ap₂, _∙_, subst, subst₂}
 use Prim.Native.Nat.{ℕ, _≤_}
 use lib.ListN.{length}
 use Rattle.xoofff.specs.declared.DeckState.{DeckState}
 use Rattle.xoofff.specs.Deck.{iterate, maskAt, addHistory, indexOf, accumulator}
-use Rattle.modes.specs.Call.{Call}
-use Rattle.modes.specs.Mode.{Mode, incremental, sanse}
+use Rattle.modes.specs.Call.{Call, sideOf}
+use Rattle.modes.specs.Mode.{HistoryRep, Mode, incremental, sanse}
 use Rattle.modes.specs.Rules.{SessionState, Outcome, Opening, newSession, startAt}
 use Rattle.modes.specs.Ledger.{PaperMode, sansePaper, Answer, Entry}
 use Rattle.modes.specs.OneCall.{sessionOf}
-use Rattle.modes.specs.TwoEnds.{Ends, outcomes, finish, Ledgers, entries, finishLedgers, freshLedgers, nothing, Delivers, Returned, outcomeOf, answerOf, ByLedgers, StartAccepted, Demand3}
+use Rattle.modes.specs.TwoEnds.{Ends, put, outcomes, finish, Runs, Ledgers, entries, freshLedgers, nothing, Returned, outcomeOf, answerOf, ByLedgers, StartAccepted, Demand3}
 use Rattle.modes.proofs.Papers.{paperOf, sanse-paper}
 use Rattle.modes.proofs.Steps.{ModeLaws, sanse-laws}
 use Rattle.modes.proofs.Ledgers.{endsOf, outcomes-are, finish-is}
-use Rattle.modes.proofs.Delivery.{paper-laws, returned, level}
+use Rattle.modes.proofs.Entries.{paper-laws}
+use Rattle.modes.proofs.Delivery.{returned, level}
 use Rattle.modes.proofs.Exactly.{start-accepted}
 
 -- what the outcomes show beside the sessions are the ledgers' answers
@@ -55,7 +56,7 @@ sanse-by-ledgers key cs =
 -- ---- with the two starts
 
 -- a start's session is that of the history with no string
-new-session : (key : List ℕ) → newSession key ≡ sessionOf key [] false
+pub new-session : (key : List ℕ) → newSession key ≡ sessionOf key [] false
 unfolding accumulator addHistory maskAt iterate indexOf
 new-session key = refl
 
@@ -67,14 +68,40 @@ start-claim key h g =
     let e = start-is key h g in
     record { number = ap (λ (o : Opening). o .number) e; count = ap (λ (o : Opening). o .count) e; session = ap (λ (o : Opening). o .session) e }
 
-pub demand-3 : (key : List ℕ) → 16 ≤ length key → length key ≤ 47 → (cs : List Call)
-    → (let p : Ends DeckState = record { office = startAt key .session; group = startAt key .session } in
-    Demand3 key cs (startAt key) (startAt key) (outcomes sanse incremental cs p) (finish sanse incremental cs p))
-demand-3 key h g cs =
+-- ---- runs of which only each call's equation is known
+
+module _ {m : Mode} {S : Type 0} {d : HistoryRep S} where
+  runs-are : {cs : List Call} {p q : Ends S} {os : List (Outcome S)} → Runs m d cs p os q → (os ≡ outcomes m d cs p) × (q ≡ finish m d cs p)
+  unfolding outcomes finish
+  runs-are Runs.none = (refl, refl)
+  runs-are (Runs.more {c = c} {cs = cs} {p = p} e r) =
+      let z = runs-are r in
+      let n = ap (λ (o : Outcome S). put (sideOf c) (o .session) p) e in
+      (ap₂ {C = List (Outcome S)} (λ o os. o ∷ os) e (z .0 ∙ ap (outcomes m d cs) n), z .1 ∙ ap (finish m d cs) n)
+
+-- ---- demand 3
+
+-- two starts under one key of 16 to 47 bytes, and any list of calls after them, all known by their equations alone
+pub demand-3 : (key : List ℕ) → 16 ≤ length key → length key ≤ 47
+    → (first second : Opening) → first ≡ startAt key → second ≡ startAt key
+    → (cs : List Call) (os : List (Outcome DeckState)) (q : Ends DeckState)
+    → Runs sanse incremental cs (record { office = first .session; group = second .session }) os q
+    → Demand3 key cs first second os q
+demand-3 key h g first second e e′ cs os q r =
     record {
-      office-start = start-claim key h g;
-      group-start = start-claim key h g;
-      calls = subst (λ (s : SessionState DeckState). let p : Ends DeckState = record { office = s; group = s } in
-          ByLedgers sansePaper key cs (outcomes sanse incremental cs p) (finish sanse incremental cs p))
-          (sym (start-claim key h g .session)) (sanse-by-ledgers key cs);
+      office-start = subst (StartAccepted key) (sym e) (start-claim key h g);
+      group-start = subst (StartAccepted key) (sym e′) (start-claim key h g);
+      calls = subst₂ (ByLedgers sansePaper key cs) (sym (z .0 ∙ ap (outcomes sanse incremental cs) from)) (sym (z .1 ∙ ap (finish sanse incremental cs) from))
+          (sanse-by-ledgers key cs);
     }
+  where
+    session : Opening → SessionState DeckState
+    session o = o .session
+
+    from : _≡_ {A = Ends DeckState} (record { office = first .session; group = second .session })
+        (record { office = sessionOf key [] false; group = sessionOf key [] false })
+    from = λ i. record { office = (ap session e ∙ start-claim key h g .session) i; group = (ap session e′ ∙ start-claim key h g .session) i }
+
+    z : (os ≡ outcomes sanse incremental cs (record { office = first .session; group = second .session }))
+        × (q ≡ finish sanse incremental cs (record { office = first .session; group = second .session }))
+    z = runs-are r
