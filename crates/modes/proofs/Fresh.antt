@@ -2,7 +2,7 @@
 -- messages both ways, and a refused arrival among them, is one of those in which each message is delivered. Assumes nothing.
 use mathlib.Core.Bool.{Bool, true, false, cond}
 use mathlib.Core.List.{List, []}
-use mathlib.Core.Logic.{inl}
+use mathlib.Core.Logic.{_≢_, inl}
 use mathlib.Core.Path.{_≡_, refl, ap, _∙_}
 use Prim.Native.Nat.{ℕ, zero, suc, _+_, _≤_}
 use native.Mathlib.Omega.{arith}

@@ -35,20 +35,6 @@ module _ (m : Mode) {S : Type 0} (d : HistoryRep S) where
   outcome (wrap x i) p = wrapAt m d (at x p) i
   outcome (unwrap x i) p = unwrapAt m d (at x p) i
 
-  -- the two ends after it: a call takes the session as the last call at its end left it
-  abbrev pub next : Call → Ends S → Ends S
-  next c p = put (sideOf c) (outcome c p .session) p
-
-  -- what each call of a list gives, in order; the session in it is the one at the call's end after it
-  unfoldable pub outcomes : List Call → Ends S → List (Outcome S)
-  outcomes [] p = []
-  outcomes (c ∷ cs) p = outcome c p ∷ outcomes cs (next c p)
-
-  -- the two ends after a list
-  unfoldable pub finish : List Call → Ends S → Ends S
-  finish [] p = p
-  finish (c ∷ cs) p = finish cs (next c p)
-
   -- `Runs cs p os q`: the calls cs, made in order from the sessions p, each at its end with the session that the last call there left, gave os
   -- and left q. Of each call only its equation with the rules is known
   pub data Runs : List Call → Ends S → List (Outcome S) → Ends S → Type 0 where
