@@ -1,0 +1,63 @@
+-- "Accepted exactly when it meets no check" (demand 3; document 01, "What stops a call"), with each check's condition as a plain statement:
+-- a number is given if and only if its condition holds and no earlier one does. Of the ledger's wrap and unwrap, for any mode. Assumes
+-- nothing.
+use mathlib.Core.Logic.{_↔_, _≢_, _⊎_}
+use mathlib.Core.Path.{_≡_}
+use Prim.Native.Nat.{ℕ, _<_, _≤_}
+use lib.ListN.{length}
+use Rattle.xoofff.specs.Deck.{indexOf}
+use Rattle.modes.specs.Call.{CallInput}
+use Rattle.modes.specs.Paper.{PaperResult}
+use Rattle.modes.specs.Ledger.{PaperMode, Ledger, wrapFinds, unwrapFinds, ledgerWrap, ledgerUnwrap}
+
+-- ---- the conditions, for a call for which the algorithm finds r
+
+module _ (m : PaperMode) (r : PaperResult) (i : CallInput) where
+  -- 6: metadata or message is too long
+  abbrev pub Check6 : Type 0
+  Check6 = (16384 < length (i .metadata)) ⊎ (16384 < length (i .text))
+
+  -- 7: the tag buffer, or the tag handed in, does not have the mode's length
+  abbrev pub Check7 : Type 0
+  Check7 = length (i .tag) ≢ m .tagLength
+
+  -- 8: the output buffer is shorter than the message
+  abbrev pub Check8 : Type 0
+  Check8 = length (i .out) < length (i .text)
+
+  -- 9: the index after the call would exceed its limit
+  abbrev pub Check9 : Type 0
+  Check9 = 1048576 < indexOf (r .history)
+
+  -- 11: the tag differs
+  abbrev pub Check11 : Type 0
+  Check11 = i .tag ≢ r .tag
+
+  -- the call meets none of the checks 6 to 9
+  pub record NoneBefore11 : Type 0 where
+    pub metadata : length (i .metadata) ≤ 16384
+    pub text : length (i .text) ≤ 16384
+    pub tag : length (i .tag) ≡ m .tagLength
+    pub out : length (i .text) ≤ length (i .out)
+    pub index : indexOf (r .history) ≤ 1048576
+
+  -- the numbers 5 to 9 that a call gets, where n is its number
+  pub record Exactly5to9 (n : ℕ) : Type 0 where
+    pub five : n ≢ 5
+    pub six : (n ≡ 6) ↔ Check6
+    pub seven : (n ≡ 7) ↔ ((Check6 → ⊥) × Check7)
+    pub eight : (n ≡ 8) ↔ ((Check6 → ⊥) × (Check7 → ⊥) × Check8)
+    pub nine : (n ≡ 9) ↔ ((Check6 → ⊥) × (Check7 → ⊥) × (Check8 → ⊥) × Check9)
+
+-- ---- the claims
+
+-- a wrap is accepted exactly when it meets none of the checks
+pub record WrapExactly (m : PaperMode) (l : Ledger) (i : CallInput) : Type 0 where
+  pub refused : Exactly5to9 m (wrapFinds m l i) i (ledgerWrap m l i .answer .number)
+  pub accepted : (ledgerWrap m l i .answer .number ≡ 0) ↔ NoneBefore11 m (wrapFinds m l i) i
+
+-- an unwrap is accepted exactly when it meets none of the checks, 11 among them
+pub record UnwrapExactly (m : PaperMode) (l : Ledger) (i : CallInput) : Type 0 where
+  pub refused : Exactly5to9 m (unwrapFinds m l i) i (ledgerUnwrap m l i .answer .number)
+  pub eleven : (ledgerUnwrap m l i .answer .number ≡ 11) ↔ (NoneBefore11 m (unwrapFinds m l i) i × Check11 m (unwrapFinds m l i) i)
+  pub accepted : (ledgerUnwrap m l i .answer .number ≡ 0) ↔ (NoneBefore11 m (unwrapFinds m l i) i × (i .tag ≡ unwrapFinds m l i .tag))
