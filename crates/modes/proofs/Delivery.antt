@@ -43,7 +43,7 @@ paper-laws {m} laws =
 
 -- ---- tags
 
-equalTags-refl : (s : List ℕ) → equalTags s s ≡ true
+pub equalTags-refl : (s : List ℕ) → equalTags s s ≡ true
 equalTags-refl [] = refl
 equalTags-refl (x ∷ s) = rw (eq-eqb x x refl) (equalTags-refl s)
 

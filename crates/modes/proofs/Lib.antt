@@ -4,3 +4,4 @@ pub mod Papers
 pub mod Sessions
 pub mod Ledgers
 pub mod Delivery
+pub mod Exactly

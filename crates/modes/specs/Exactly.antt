@@ -1,6 +1,7 @@
 -- "Accepted exactly when it meets no check" (demand 3; document 01, "What stops a call"), with each check's condition as a plain statement:
--- a number is given if and only if its condition holds and no earlier one does. Of the ledger's wrap and unwrap, for any mode. Assumes
--- nothing.
+-- a number is given if and only if its condition holds and no earlier one does. Of the ledger's wrap and unwrap, for any mode, and of a
+-- start. Assumes nothing.
+use mathlib.Core.List.{List}
 use mathlib.Core.Logic.{_↔_, _≢_, _⊎_}
 use mathlib.Core.Path.{_≡_}
 use Prim.Native.Nat.{ℕ, _<_, _≤_}
@@ -8,6 +9,7 @@ use lib.ListN.{length}
 use Rattle.xoofff.specs.Deck.{indexOf}
 use Rattle.modes.specs.Call.{CallInput}
 use Rattle.modes.specs.Paper.{PaperResult}
+use Rattle.modes.specs.Rules.{Opening, closed, startAt}
 use Rattle.modes.specs.Ledger.{PaperMode, Ledger, wrapFinds, unwrapFinds, ledgerWrap, ledgerUnwrap}
 
 -- ---- the conditions, for a call for which the algorithm finds r
@@ -61,3 +63,9 @@ pub record UnwrapExactly (m : PaperMode) (l : Ledger) (i : CallInput) : Type 0 w
   pub refused : Exactly5to9 m (unwrapFinds m l i) i (ledgerUnwrap m l i .answer .number)
   pub eleven : (ledgerUnwrap m l i .answer .number ≡ 11) ↔ (NoneBefore11 m (unwrapFinds m l i) i × Check11 m (unwrapFinds m l i) i)
   pub accepted : (ledgerUnwrap m l i .answer .number ≡ 0) ↔ (NoneBefore11 m (unwrapFinds m l i) i × (i .tag ≡ unwrapFinds m l i .tag))
+
+-- a start is refused by 4 exactly when the key's length is outside its limits, and gives a closed session then
+pub record StartExactly (key : List ℕ) : Type 0 where
+  pub accepted : (startAt key .number ≡ 0) ↔ ((16 ≤ length key) × (length key ≤ 47))
+  pub four : (startAt key .number ≡ 4) ↔ ((length key < 16) ⊎ (47 < length key))
+  pub refused : (length key < 16) ⊎ (47 < length key) → startAt key ≡ record { number = 4; count = 0; session = closed }
