@@ -19,10 +19,11 @@ use Rattle.xoofff.specs.Deck.{run, zeros, keyMask}
 use Rattle.xoofff.specs.Incremental.{append, output}
 use Rattle.xoofff.specs.Leaves.{closingByte, closedBy, compressed, outputBlocks}
 use Rattle.xoofff.proofs.Closing.{closedBy-closing}
-use Rattle.xoofff.proofs.Strings.{blocks-is}
+use Rattle.xoofff.proofs.Strings.{blocks-is, closed-blocks}
+use Rattle.xoofff.proofs.Leaves.{blocks-most}
 use Rattle.modes.specs.Call.{CallInput}
 use Rattle.modes.specs.Mode.{framed, isEmpty, incremental, withA, withText, sivBody, sivWrap, sivUnwrap, sanse, sanseParameters, sanseCount}
-use Rattle.modes.specs.Rules.{SessionState, Outcome, Opening, growth, firstCheck, checkNumber, metadataString, written, sameBytes, accepted, wrongTag, compareTag, ifNoCheck, unwrapSteps, wrapAt, unwrapAt, startAt, newSession, closed}
+use Rattle.modes.specs.Rules.{SessionState, Outcome, Opening, growth, firstCheck, checkNumber, metadataString, written, sameBytes, accepted, wrongTag, compareTag, ifNoCheck, wrapSteps, unwrapSteps, wrapAt, unwrapAt, startAt, newSession, closed}
 use Rattle.modes.proofs.Sessions.{incremental-grows}
 use Rattle.steps.specs.Steps.{compressedIf, outputCount}
 use Rattle.steps.proofs.History.{Passed, passed}
@@ -150,13 +151,22 @@ count-most (suc a) (suc x) h g = omega arith
 
 -- ---- refusals before any work
 
+-- what a call gives that meets none of the checks 5 to 9
+abbrev wrapDone : Session → (a x out tag : List ℕ) → Outcome DeckState
+wrapDone s a x out tag =
+    accepted sanse incremental (stateOf s) (handed a x out tag) (wrapSteps sanse incremental (stateOf s) (handed a x out tag))
+    (wrapSteps sanse incremental (stateOf s) (handed a x out tag) .tag)
+
+abbrev unwrapDone : Session → (a x out tag : List ℕ) → Outcome DeckState
+unwrapDone s a x out tag = compareTag sanse incremental (stateOf s) (handed a x out tag) (unwrapSteps sanse incremental (stateOf s) (handed a x out tag))
+
 pub wrap-refusal : (s : Session) (a x out tag : List ℕ) (n : ℕ)
     → n ≡ firstCheck (s .opened) (s .index + growth (length a) (length x)) 32 (length a) (length x) (length tag) (length out) → n ≢ 0
     → _≡_ {A = Outcome DeckState} (record { number = n; count = 0; session = stateOf s; out = out; tag = tag })
     (wrapAt sanse incremental (stateOf s) (handed a x out tag))
 unfolding wrapAt checkNumber metadataString
 wrap-refusal s a x out tag zero h g = absurd (g refl)
-wrap-refusal s a x out tag (suc n) h g = ap (λ (i : ℕ). ifNoCheck i (stateOf s) (handed a x out tag) _) h
+wrap-refusal s a x out tag (suc n) h g = ap (λ (i : ℕ). ifNoCheck i (stateOf s) (handed a x out tag) (wrapDone s a x out tag)) h
 
 pub unwrap-refusal : (s : Session) (a x out tag : List ℕ) (n : ℕ)
     → n ≡ firstCheck (s .opened) (s .index + growth (length a) (length x)) 32 (length a) (length x) (length tag) (length out) → n ≢ 0
@@ -164,7 +174,7 @@ pub unwrap-refusal : (s : Session) (a x out tag : List ℕ) (n : ℕ)
     (unwrapAt sanse incremental (stateOf s) (handed a x out tag))
 unfolding unwrapAt checkNumber metadataString
 unwrap-refusal s a x out tag zero h g = absurd (g refl)
-unwrap-refusal s a x out tag (suc n) h g = ap (λ (i : ℕ). ifNoCheck i (stateOf s) (handed a x out tag) _) h
+unwrap-refusal s a x out tag (suc n) h g = ap (λ (i : ℕ). ifNoCheck i (stateOf s) (handed a x out tag) (unwrapDone s a x out tag)) h
 
 -- ---- wrap
 
@@ -193,7 +203,7 @@ module _ {s : Session} {a m tag out : List ℕ} {n ca cm ct : ℕ} {h g : Compre
       (record { number = 0; count = r; session = record { history = g .state; toggle = not (s .toggle); opened = s .opened }; out = out′; tag = tag′ })
       (wrapAt sanse incremental (stateOf s) (handed a m out tag))
   unfolding wrapAt metadataString sivWrap
-  wrap-acceptance r er = whole ∙ sym (ap (λ (i : ℕ). ifNoCheck i (stateOf s) (handed a m out tag) _) (no-check (k .begun)))
+  wrap-acceptance r er = whole ∙ sym (ap (λ (i : ℕ). ifNoCheck i (stateOf s) (handed a m out tag) (wrapDone s a m out tag)) (no-check (k .begun)))
     where
       q₁ : h .state ≡ withA sanseParameters incremental (stateOf s .history) (s .toggle) a m
       q₁ = begun-state (k .begun)
@@ -210,8 +220,7 @@ module _ {s : Session} {a m tag out : List ℕ} {n ca cm ct : ℕ} {h g : Compre
           ∙ ap₂ (λ (u : DeckState) (v : List ℕ). written (sivBody sanseParameters incremental u (s .toggle) m v) out) q₁ T
       whole : _≡_ {A = Outcome DeckState}
           (record { number = 0; count = r; session = record { history = g .state; toggle = not (s .toggle); opened = s .opened }; out = out′; tag = tag′ })
-          (accepted sanse incremental (stateOf s) (handed a m out tag) (sivWrap sanseParameters incremental (stateOf s .history) (s .toggle) a m)
-          (sivWrap sanseParameters incremental (stateOf s .history) (s .toggle) a m .tag))
+          (wrapDone s a m out tag)
       whole =
           λ i. record {
             number = 0;
@@ -283,7 +292,7 @@ module _ {s : Session} {a x tag out : List ℕ} {n ca cm ct : ℕ} {h g : Compre
       (wrongTag sanse incremental (stateOf s) (handed a x out tag))
   unfolding unwrapAt
   compared v e =
-      ap (λ (i : ℕ). ifNoCheck i (stateOf s) (handed a x out tag) (compareTag sanse incremental (stateOf s) (handed a x out tag) (unwrapSteps sanse incremental (stateOf s) (handed a x out tag)))) (no-check (k .begun))
+      ap (λ (i : ℕ). ifNoCheck i (stateOf s) (handed a x out tag) (unwrapDone s a x out tag)) (no-check (k .begun))
       ∙ ap (λ (i : Bool). cond i (accepted sanse incremental (stateOf s) (handed a x out tag) (unwrapSteps sanse incremental (stateOf s) (handed a x out tag)) tag)
       (wrongTag sanse incremental (stateOf s) (handed a x out tag))) (ap (sameBytes tag) (sym tag-is) ∙ e)
 
@@ -341,3 +350,30 @@ pub start-refused : (key : List ℕ) → (leb 16 (length key) && leb (length key
 unfolding startAt
 start-refused key h =
     sym (ap (λ (t : Bool). cond t (record { number = 0; count = 1; session = newSession key }) (record { number = 4; count = 0; session = closed })) h)
+
+-- ---- the body: a text plus keystream
+
+pub body-none : (f : ℕ → ℕ) (n : ℕ) (text out : List ℕ) → length text ≡ 0 → (out ≡ written (sum text (run f 0 (length text))) out) × (0 ≡ cond (isEmpty text) 0 n)
+unfolding sum
+body-none f n [] out h = (refl, refl)
+body-none f n (y ∷ text) out h = absurd (omega (arith, h))
+
+module _ (d : DeckState) (h : Compressed) (text tag out out′ : List ℕ) (closing c : ℕ) (e : h ≡ compressed d (closedBy tag closing))
+    (g : c ≡ outputCount 0 (length text)) where
+  body-blocks : h .count ≡ b (length tag)
+  unfolding compressed
+  body-blocks = ap (λ (r : Compressed). r .count) e ∙ closed-blocks tag closing
+
+  pub body-most : h .count + c ≤ length tag + length text + 2
+  body-most = omega (arith, body-blocks, blocks-most 0 (length text), g)
+
+  pub body-done : length text ≢ 0 → out′ ≡ written (sum text (run (output (h .state)) 0 (length text))) out
+      → (out′ ≡ written (sum text (run (output (append d (closedBy tag closing))) 0 (length text))) out)
+      × (h .count + c ≡ cond (isEmpty text) 0 (b (length tag) + outputCount 0 (length text)))
+  unfolding compressed
+  body-done n o = (o ∙ ap (λ (r : Compressed). written (sum text (run (output (r .state)) 0 (length text))) out) e, total text n (λ i. body-blocks i + g i))
+    where
+      total : (x : List ℕ) → length x ≢ 0 → h .count + c ≡ b (length tag) + outputCount 0 (length text)
+          → h .count + c ≡ cond (isEmpty x) 0 (b (length tag) + outputCount 0 (length text))
+      total [] n q = absurd (n refl)
+      total (y ∷ x) n q = q

@@ -1,153 +1,144 @@
+-- `sanse::unwrap` meets its contract. Assumes nothing.
+use mathlib.Core.Path.{_≡_, refl, sym, ap, _∙_}
+use mathlib.Core.Bool.{not, _||_}
+use mathlib.Core.List.{List}
+use Prim.Native.Nat.{ℕ, _+_, _≤_, _<_}
+use native.Mathlib.Omega.{arith}
+use lib.ListN.{length, take}
+use lib.Seq.{length-take-le}
+use denote.Ref.{now}
 use borrow.Author.Needs.{needs}
+use Rattle.xoofff.specs.declared.DeckState.{DeckState}
+use Rattle.xoofff.specs.declared.Compressed.{Compressed}
+use Rattle.xoofff.specs.Incremental.{append, output}
+use Rattle.xoofff.specs.Leaves.{closedBy}
+use Rattle.xoofff.proofs.Closing.{closing-pos}
+use Rattle.modes.specs.Mode.{isEmpty}
+use Rattle.modes.specs.Rules.{growth}
+use Rattle.modes.specs.Mode.{sanseCount}
+use Rattle.steps.specs.Steps.{compressedIf}
+use Rattle.steps.proofs.History.{Passed, passed}
+use Rattle.sanse.specs.declared.CallResult.{CallResult}
+use Rattle.sanse.specs.Session.{callResult, stateOf}
+use Rattle.modes.specs.Rules.{sameBytes}
+use Rattle.sanse.proofs.Calls.{bitsA, bitsM, bitsT, Begun, limits, begun-index, body-length, Unwrapped, unwrap-refusal, unwrap-counted, unwrap-acceptance, unwrap-wrong, count-most}
 use Rattle.sanse.proofs.unwrap.Statement.{statement}
 use Rattle.sanse.proofs.unwrap.Tie as tie
-use Rattle.sanse.proofs.unwrap.Reads as reads
-use Rattle.sanse.proofs.unwrap.Lts as lts
-use Rattle.sanse.proofs.accepted.Reads as accepted-reads
-use Rattle.sanse.proofs.add_body.Reads as add-body-reads
-use Rattle.sanse.proofs.check.Reads as check-reads
-use Rattle.sanse.proofs.closing_a.Reads as closing-a-reads
-use Rattle.sanse.proofs.closing_m.Reads as closing-m-reads
-use Rattle.sanse.proofs.closing_t.Reads as closing-t-reads
-use Rattle.sanse.proofs.deck_of.Reads as deck-of-reads
-use Rattle.sanse.proofs.refused.Reads as refused-reads
-use Rattle.steps.proofs.append_metadata.Reads as append-metadata-reads
-use Rattle.steps.proofs.append_text.Reads as append-text-reads
-use Rattle.steps.proofs.clear.Reads as clear-reads
-use Rattle.steps.proofs.same_bytes.Reads as same-bytes-reads
-use Rattle.steps.proofs.tag_of.Reads as tag-of-reads
 
--- src/lib.rt:186:9
-check-requires : tie.Need-check-requires
-check-requires c κs = search needs
+-- the function's entry, from the place where no check was met
+abbrev entry : tie.Else1 → tie.Start
+entry c = c .before .before .before .before .before .before
 
--- src/lib.rt:188:9
-refused-requires : tie.Need-refused-requires
-refused-requires c κs = search needs
+-- what the checks showed
+within : (c : tie.Else1) → (let a = entry c .args in
+    Passed (a .s .index + growth (length (now (a .metadata))) (length (now (a .cryptogram)))) 32 (length (now (a .metadata))) (length (now (a .cryptogram)))
+    (length (now (a .tag))) (length (now (a .out))))
+within c =
+    let a = entry c .args in
+    passed (a .s .opened) (a .s .index + growth (length (now (a .metadata))) (length (now (a .cryptogram)))) 32 (length (now (a .metadata)))
+    (length (now (a .cryptogram))) (length (now (a .tag))) (length (now (a .out))) (sym (c .before .check .ensures) ∙ c .if1 .left)
 
--- src/lib.rt:188:9
+-- what is known once the string of A is in the history
+begun : (c : tie.After-append-metadata) → (let a = entry (c .before .before .before) .args in
+    Begun (a .s) (now (a .metadata)) (now (a .cryptogram)) (now (a .tag)) (now (a .out)) (c .before .before .before .before .check .result) (c .before .closing-a .result) (c .append-metadata .result))
+begun c =
+    let a = entry (c .before .before .before) .args in
+    record {
+      checked = c .before .before .before .before .check .ensures;
+      none = c .before .before .before .if1 .left;
+      closes = c .before .closing-a .ensures;
+      isA =
+          c .append-metadata .ensures
+          ∙ ap (λ (d : DeckState). compressedIf (not (isEmpty (now (a .metadata))) || isEmpty (now (a .cryptogram))) d (closedBy (now (a .metadata)) (c .before .closing-a .result)))
+          (c .before .before .deck-of .ensures);
+    }
+
+-- what is known once the tag is found
+found : (c : tie.After-struct-known2) → (let x = c .before .before .before .before .before .before .before .before .before .before .before .before .before .before .before in let a = entry (x .before .before .before) .args in
+    Unwrapped (a .s) (now (a .metadata)) (now (a .cryptogram)) (now (a .tag)) (now (a .out)) (x .before .before .before .before .check .result) (x .before .closing-a .result)
+    (c .before .before .before .before .before .before .before .closing-m .result) (c .before .before .before .before .before .before .before .before .before .before .before .before .before .closing-t .result) (x .append-metadata .result) (c .before .before .before .before .before .before .append-text .result) (c .before .before .before .tag-of .result)
+    (c .before .before .before .before .before .before .before .before .before .before .before .add-body .result) (c .before .before .before .before .before .before .before .before .before .before .before .add-body .last .1 .1 .1 .1 .0) (c .before .before .before .tag-of .last .1 .0))
+found c =
+    record {
+      begun = begun (c .before .before .before .before .before .before .before .before .before .before .before .before .before .before .before);
+      closesM = c .before .before .before .before .before .before .before .closing-m .ensures;
+      closesT = c .before .before .before .before .before .before .before .before .before .before .before .before .before .closing-t .ensures;
+      isOut = c .before .before .before .before .before .before .before .before .before .before .before .add-body .ensures .0;
+      outCount = c .before .before .before .before .before .before .before .before .before .before .before .add-body .ensures .1;
+      isM = c .before .before .before .before .before .before .append-text .ensures;
+      isTag = c .before .before .before .tag-of .ensures .0;
+      tagCount = c .before .before .before .tag-of .ensures .1;
+    }
+
+-- the message is as long as the cryptogram
+taken : (c : tie.After-add-body) → (let a = entry (c .before .before .before .before .before .before .before) .args in
+    length (take (length (now (a .cryptogram))) (c .add-body .last .1 .1 .1 .1 .0)) ≡ length (now (a .cryptogram)))
+taken c = let a = entry (c .before .before .before .before .before .before .before) .args in body-length (output (append (c .before .before .before .before .append-metadata .result .state) (closedBy (now (a .tag)) (c .before .before .closing-t .result)))) (now (a .cryptogram)) (now (a .out)) _ (c .add-body .ensures .0)
+
 returns : tie.Need-returns
-returns c = ?
+returns c =
+    let a = c .before .before .before .before .before .before .before .args in
+    ap (λ (r : CallResult). callResult r (now (a .out)) (now (a .tag))) (c .refused .ensures)
+    ∙ unwrap-refusal (a .s) (now (a .metadata)) (now (a .cryptogram)) (now (a .out)) (now (a .tag)) (c .before .before .check .result) (c .before .before .check .ensures) (c .before .if1 .taken)
 
--- src/lib.rt:191:9
-deck-of-requires : tie.Need-deck-of-requires
-deck-of-requires c κs = search needs
-
--- src/lib.rt:192:61
-closing-a-requires : tie.Need-closing-a-requires
-closing-a-requires c κs = search needs
-
--- src/lib.rt:192:9
 append-metadata-requires : tie.Need-append-metadata-requires
-append-metadata-requires c κs = ?
+append-metadata-requires c κs =
+    let w = within (c .before .before) in (
+      omega (arith, c .closing-a .ensures, closing-pos (bitsA (entry (c .before .before) .args .s .toggle))),
+      omega (arith, w .metadata),
+      omega (arith, ap (λ (d : DeckState). d .index) (c .before .deck-of .ensures), w .index),
+    )
 
--- src/lib.rt:194:43
-closing-t-requires : tie.Need-closing-t-requires
-closing-t-requires c κs = search needs
-
--- src/lib.rt:194:9
 add-body-requires : tie.Need-add-body-requires
-add-body-requires c κs = ?
+add-body-requires c κs =
+    let w = within (c .before .before .before .before .before .before) in (
+      omega (arith, c .before .closing-t .ensures, closing-pos (bitsT (entry (c .before .before .before .before .before .before) .args .s .toggle))),
+      omega (arith, w .tag),
+      begun-index (begun (c .before .before .before)),
+      omega (arith, w .text),
+      omega (arith, w .holds),
+    )
 
--- src/lib.rt:195:36
 slice-reshare-prefix-append-text : tie.Need-slice-reshare-prefix-append-text
-slice-reshare-prefix-append-text c = ?
+slice-reshare-prefix-append-text c = omega (arith, within (c .before .before .before .before .before .before .before .before .before) .holds, c .before .before .add-body .kept .1 .1 .1 .1 .0)
 
--- src/lib.rt:195:36
 slice-aggregate-append-text : tie.Need-slice-aggregate-append-text
-slice-aggregate-append-text c = ?
+slice-aggregate-append-text c = sym (taken (c .before .before .before))
 
--- src/lib.rt:195:47
-closing-m-requires : tie.Need-closing-m-requires
-closing-m-requires c κs = search needs
-
--- src/lib.rt:195:9
 append-text-requires : tie.Need-append-text-requires
-append-text-requires c κs = ?
+append-text-requires c κs = (
+      omega (arith, c .closing-m .ensures, closing-pos (bitsM (entry (c .before .before .before .before .before .before .before .before .before .before .before) .args .s .toggle))),
+      omega (arith, taken (c .before .before .before .before), within (c .before .before .before .before .before .before .before .before .before .before .before) .text),
+      begun-index (begun (c .before .before .before .before .before .before .before .before)),
+    )
 
--- src/lib.rt:198:31
-slice-aggregate-tag-of : tie.Need-slice-aggregate-tag-of
-slice-aggregate-tag-of c = search needs
+-- the count is small
+small : (c : tie.After-struct-known2) → c .before .before .before .before .before .before .before .before .before .before .before .before .before .before .before .append-metadata .result .count + c .before .before .before .before .before .before .append-text .result .count + c .before .before .before .tag-of .result + c .before .before .before .before .before .before .before .before .before .before .before .add-body .result ≤ 1030
+small c =
+    let w = within (c .before .before .before .before .before .before .before .before .before .before .before .before .before .before .before .before .before .before) in
+    let a = entry (c .before .before .before .before .before .before .before .before .before .before .before .before .before .before .before .before .before .before) .args in
+    omega (arith, unwrap-counted (found c), count-most (length (now (a .metadata))) (length (now (a .cryptogram))) (w .metadata) (w .text))
 
--- src/lib.rt:198:9
-tag-of-requires : tie.Need-tag-of-requires
-tag-of-requires c κs = search needs
-
--- src/lib.rt:199:17
-add-count : tie.Need-add-count
-add-count c = ?
-
--- src/lib.rt:199:17
-add-count-2 : tie.Need-add-count-2
-add-count-2 c = ?
-
--- src/lib.rt:199:17
-add-count-3 : tie.Need-add-count-3
-add-count-3 c = ?
-
--- src/lib.rt:200:31
-slice-aggregate-same-bytes : tie.Need-slice-aggregate-same-bytes
-slice-aggregate-same-bytes c = search needs
-
--- src/lib.rt:200:8
 same-bytes-requires : tie.Need-same-bytes-requires
-same-bytes-requires c κs = ?
+same-bytes-requires c κs = within (c .before .before .before .before .before .before .before .before .before .before .before .before .before .before .before .before .before .before .before) .tag ∙ sym (c .before .before .before .before .tag-of .kept .1 .0)
 
--- src/lib.rt:201:9
-accepted-requires : tie.Need-accepted-requires
-accepted-requires c κs = search needs
-
--- src/lib.rt:201:9
-same-length : tie.Need-same-length
-same-length c = search needs
-
--- src/lib.rt:201:9
 returns-2 : tie.Need-returns-2
-returns-2 c = ?
+returns-2 c =
+    ap (λ (r : CallResult). callResult r (c .before .before .before .before .before .before .before .before .before .before .before .before .before .before .before .add-body .last .1 .1 .1 .1 .0) (now (entry (c .before .before .before .before .before .before .before .before .before .before .before .before .before .before .before .before .before .before .before .before .before .before) .args .tag))) (c .accepted .ensures)
+    ∙ unwrap-acceptance (found (c .before .before .before .before)) (sym (c .before .before .same-bytes .ensures) ∙ c .before .if2 .taken) _ refl
 
--- src/lib.rt:203:5
 clear-requires : tie.Need-clear-requires
-clear-requires c κs = ?
+clear-requires c κs = omega (arith, within (c .before .before .before .before .before .before .before .before .before .before .before .before .before .before .before .before .before .before .before .before .before .before) .holds, c .before .before .before .before .before .before .before .before .before .before .before .before .before .before .before .add-body .kept .1 .1 .1 .1 .0)
 
--- src/lib.rt:204:5
-refused-requires-2 : tie.Need-refused-requires-2
-refused-requires-2 c κs = search needs
-
--- src/lib.rt:181:1
-same-length-2 : tie.Need-same-length-2
-same-length-2 c = search needs
-
--- src/lib.rt:181:1
 returns-3 : tie.Need-returns-3
-returns-3 c = ?
+returns-3 c =
+    ap (λ (r : CallResult). callResult r (c .before .before .before .clear .last .0) (now (entry (c .before .before .before .before .before .before .before .before .before .before .before .before .before .before .before .before .before .before .before .before .before .before .before .before .before .before) .args .tag))) (c .refused2 .ensures)
+    ∙ unwrap-wrong (found (c .before .before .before .before .before .before .before .before)) (sym (c .before .before .before .before .before .before .same-bytes .ensures) ∙ c .before .before .before .before .before .if2 .left) (c .before .before .before .clear .last .0) (c .before .before .before .clear .ensures) _ refl
 
 pub unwrap-spec : {M : Type 1} → statement M
 unwrap-spec =
     tie.close
-    (tie.spec
-    check-requires
-    refused-requires
-    returns
-    deck-of-requires
-    closing-a-requires
-    append-metadata-requires
-    closing-t-requires
-    add-body-requires
-    slice-reshare-prefix-append-text
-    slice-aggregate-append-text
-    closing-m-requires
-    append-text-requires
-    slice-aggregate-tag-of
-    tag-of-requires
-    add-count
-    add-count-2
-    add-count-3
-    slice-aggregate-same-bytes
-    same-bytes-requires
-    accepted-requires
-    same-length
-    returns-2
-    clear-requires
-    refused-requires-2
-    same-length-2
-    returns-3)
+    (tie.spec (λ c κs. search needs) (λ c κs. search needs) returns (λ c κs. search needs) (λ c κs. search needs) append-metadata-requires (λ c κs. search needs)
+    add-body-requires slice-reshare-prefix-append-text slice-aggregate-append-text (λ c κs. search needs) append-text-requires (λ c. search needs) (λ c κs. search needs)
+    (λ c. omega (arith, small c)) (λ c. omega (arith, small c)) (λ c. omega (arith, small c)) (λ c. search needs) same-bytes-requires (λ c κs. search needs)
+    (λ c. search needs) returns-2 clear-requires (λ c κs. search needs) (λ c. search needs) returns-3)
