@@ -1,9 +1,9 @@
 -- Each number is given if and only if its condition holds and no earlier one does. Assumes nothing.
 use mathlib.Core.Bool.{Bool, true, false, not, _||_, _&&_, cond, and-false}
-use mathlib.Core.List.{List, [], _∷_}
+use mathlib.Core.List.{List}
 use mathlib.Core.Logic.{_↔_, _≢_, _⊎_, inl, inr}
 use mathlib.Core.Path.{_≡_, refl, sym, ap, ap₂, _∙_, subst}
-use Prim.Native.Nat.{ℕ, zero, suc, _<_, _≤_}
+use Prim.Native.Nat.{ℕ, zero, suc, _+_, _<_, _≤_}
 use native.Mathlib.Omega.{arith}
 use borrow.Author.Tests.{ltb-true, ltb-false, eqb-true, eqb-false, leb-true, leb-false, le-leb, lt-leb, eq-eqb, le-ltb}
 use lib.Dec.{ltb, leb, eqb}
@@ -11,10 +11,11 @@ use lib.ListN.{length}
 use Rattle.xoofff.specs.Deck.{indexOf}
 use Rattle.modes.specs.Call.{CallInput}
 use Rattle.modes.specs.Paper.{PaperResult}
-use Rattle.modes.specs.Rules.{Opening, closed, newSession, keyFits, startAt}
+use Rattle.modes.specs.Mode.{HistoryRep, Mode}
+use Rattle.modes.specs.Rules.{SessionState, Opening, growth, metadataString, firstCheck, checkNumber, ifNoCheck, wrapSteps, unwrapSteps, accepted, compareTag, wrapAt, unwrapAt, closed, newSession, keyFits, startAt}
 use Rattle.modes.specs.Ledger.{PaperMode, Ledger, Entry, equalTags, wrapFinds, unwrapFinds, checkBefore11, onCheck, accepts, refuses11, ledgerWrap, ledgerUnwrap}
-use Rattle.modes.specs.Exactly.{Check6, Check7, Check8, Check9, Check11, NoneBefore11, Exactly5to9, WrapExactly, UnwrapExactly, StartExactly}
-use Rattle.modes.proofs.Delivery.{equalTags-true, equalTags-refl}
+use Rattle.modes.specs.Exactly.{Check6, Check7, Check8, Check9, NoneBefore11, Exactly5to9, WrapExactly, UnwrapExactly, StartExactly, ClosedRefused}
+use Rattle.modes.proofs.Entries.{equalTags-refl, equalTags-true, equalTags-false}
 
 -- a number that is 0 or 11 is no other
 past : {n q : ℕ} → (n ≡ 0) ⊎ (n ≡ 11) → q ≢ 0 → q ≢ 11 → n ≢ q
@@ -170,14 +171,6 @@ module _ (m : PaperMode) (l : Ledger) (i : CallInput) where
 
 -- ---- unwrap
 
--- two runs of bytes that differ are found to differ
-differs : (s t : List ℕ) → s ≢ t → equalTags s t ≡ false
-differs s t h = go (equalTags s t) refl
-  where
-    go : (q : Bool) → equalTags s t ≡ q → q ≡ false
-    go true e = absurd (h (equalTags-true s t e))
-    go false e = refl
-
 module _ (m : PaperMode) (l : Ledger) (i : CallInput) where
   -- a check before 11 decides; otherwise the comparison does
   unwrap-number : (checkBefore11 m (unwrapFinds m l i) i ≢ 0 → ledgerUnwrap m l i .answer .number ≡ checkBefore11 m (unwrapFinds m l i) i)
@@ -219,7 +212,7 @@ module _ (m : PaperMode) (l : Ledger) (i : CallInput) where
             (λ e. subst (λ (n : ℕ). (n ≡ 0) ⊎ (n ≡ 11)) (sym (unwrap-number .1 e)) (zero-or-11 (equalTags (i .tag) (r .tag)))) (unwrap-number .0);
         eleven = (
           λ h. let k = none-met 11 (inr refl) h in (check-none m r i k, λ e. eleven-not-0 (sym h ∙ unwrap-number .1 k ∙ ap (λ (q : Bool). cond q 0 11) (same e))),
-          λ h. unwrap-number .1 (none-check m r i (h .0)) ∙ ap (λ (q : Bool). cond q 0 11) (differs (i .tag) (r .tag) (h .1)),
+          λ h. unwrap-number .1 (none-check m r i (h .0)) ∙ ap (λ (q : Bool). cond q 0 11) (equalTags-false (i .tag) (r .tag) (h .1)),
         );
         accepted = (
           λ h. let k = none-met 0 (inl refl) h in (check-none m r i k, equal (equalTags (i .tag) (r .tag)) refl (sym (unwrap-number .1 k) ∙ h)),
@@ -277,3 +270,18 @@ start-exactly key = record { accepted = either .0; four = either .1; refused = s
 
     either : ((startAt key .number ≡ 0) ↔ ((16 ≤ length key) × (length key ≤ 47))) × ((startAt key .number ≡ 4) ↔ ((length key < 16) ⊎ (47 < length key)))
     either = go (leb 16 (length key)) (leb (length key) 47) refl refl
+
+-- ---- a session that is not open
+
+pub closed-refused : (m : Mode) {S : Type 0} (d : HistoryRep S) (s : SessionState S) (i : CallInput) → ClosedRefused m d s i
+unfolding wrapAt unwrapAt checkNumber
+closed-refused m d s i =
+    record {
+      wraps = λ h. ap (λ (q : Bool). ifNoCheck (number q) s i (accepted m d s i (wrapSteps m d s i) (wrapSteps m d s i .tag))) h;
+      unwraps = λ h. ap (λ (q : Bool). ifNoCheck (number q) s i (compareTag m d s i (unwrapSteps m d s i))) h;
+    }
+  where
+    number : Bool → ℕ
+    number q =
+        firstCheck q (d .index (s .history) + growth (length (metadataString i)) (length (i .text))) (m .parameters .tagLength)
+        (length (i .metadata)) (length (i .text)) (length (i .tag)) (length (i .out))

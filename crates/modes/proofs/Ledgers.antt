@@ -3,7 +3,7 @@
 use mathlib.Core.Bool.{Bool, true, false, cond, _&&_}
 use mathlib.Core.List.{List, [], _∷_, _++_, map}
 use mathlib.Core.Path.{_≡_, refl, sym, ap, ap₂, _∙_}
-use Prim.Native.Nat.{ℕ, zero, suc, _+_}
+use Prim.Native.Nat.{ℕ, zero, suc}
 use lib.Dec.{eqb}
 use lib.ListN.{length, drop, replicate, length-replicate}
 use Rattle.xoofff.specs.declared.DeckState.{DeckState}
@@ -12,13 +12,13 @@ use Rattle.xoofff.specs.Deck.{outputMask}
 use Rattle.xoofff.specs.Incremental.{fromScratch}
 use Rattle.modes.specs.Call.{CallInput, Side, office, group, Call, wrap, unwrap, sideOf}
 use Rattle.modes.specs.Mode.{StepResult, Mode, wholeHistory, incremental}
-use Rattle.modes.specs.Rules.{SessionState, Outcome, firstCheck, growth, metadataString, sameBytes, ifNoCheck, checkNumber, wrapSteps, unwrapSteps, accepted, wrongTag, compareTag, wrapAt, unwrapAt}
-use Rattle.modes.specs.Ledger.{PaperMode, Ledger, Answer, Entry, equalTags, wrapFinds, unwrapFinds, checkBefore11, onCheck, accepts, refuses11, ledgerWrap, ledgerUnwrap}
+use Rattle.modes.specs.Rules.{SessionState, Outcome, firstCheck, metadataString, sameBytes, ifNoCheck, checkNumber, wrapSteps, unwrapSteps, accepted, wrongTag, compareTag, wrapAt, unwrapAt}
+use Rattle.modes.specs.Ledger.{Ledger, Entry, equalTags, wrapFinds, unwrapFinds, checkBefore11, onCheck, accepts, refuses11, ledgerWrap, ledgerUnwrap}
 use Rattle.modes.specs.OneCall.{sessionOf}
-use Rattle.modes.specs.TwoEnds.{Ends, at, put, outcome, next, outcomes, finish, Ledgers, ledgerAt, setLedger, ledgerStep, nextLedgers, entries, finishLedgers, outcomeOf}
-use Rattle.modes.proofs.Modes.{ModeLaws}
-use Rattle.modes.proofs.Papers.{toPaper, paperOf}
-use Rattle.modes.proofs.Sessions.{mapSession, mapOutcome, incremental-simulates, wholeHistory-grows, wrapAt-simulates, unwrapAt-simulates}
+use Rattle.modes.specs.TwoEnds.{Ends, at, put, outcome, Runs, Ledgers, ledgerAt, setLedger, ledgerStep, nextLedgers, entries, finishLedgers, outcomeOf}
+use Rattle.modes.proofs.Papers.{paperOf}
+use Rattle.modes.proofs.Steps.{ModeLaws}
+use Rattle.modes.proofs.Sessions.{mapOutcome, incremental-simulates, wholeHistory-grows, wrapAt-simulates, unwrapAt-simulates}
 
 -- ---- one call
 
@@ -87,7 +87,7 @@ module _ {m : Mode} (laws : ModeLaws m) (l : Ledger) (i : CallInput) where
             out = replicate (length (i .text)) 0 ++ drop n (i .out);
             tag = i .tag;
           })
-          (length-replicate (length (i .text)) 0)
+          (length-replicate {A = ℕ} (length (i .text)) 0)
 
   -- a call leaves the ledger's key
   onCheck-key : (n : ℕ) (e : Entry) → e .ledger .key ≡ l .key → onCheck (paperOf m) n l i e .ledger .key ≡ l .key
@@ -147,18 +147,14 @@ module _ {m : Mode} (laws : ModeLaws m) where
   outcome-is (wrap x i) p = ap (λ (s : SessionState DeckState). wrapAt m incremental s i) (at-endsOf x p) ∙ wrap-by-ledger laws (ledgerAt x p) i
   outcome-is (unwrap x i) p = ap (λ (s : SessionState DeckState). unwrapAt m incremental s i) (at-endsOf x p) ∙ unwrap-by-ledger laws (ledgerAt x p) i
 
-  next-is : (c : Call) (p : Ledgers) → next m incremental c (endsOf p) ≡ endsOf (nextLedgers (paperOf m) c p)
-  next-is c p =
-      ap (λ (o : Outcome DeckState). put (sideOf c) (o .session) (endsOf p)) (outcome-is c p) ∙ put-endsOf (sideOf c) (ledgerStep (paperOf m) c p .ledger) p
-
-  pub outcomes-are : (cs : List Call) (p : Ledgers) → outcomes m incremental cs (endsOf p) ≡ map outcomeOf (entries (paperOf m) cs p)
-  unfolding outcomes entries
-  outcomes-are [] p = refl
-  outcomes-are (c ∷ cs) p =
-      ap₂ {C = List (Outcome DeckState)} (λ o os. o ∷ os) (outcome-is c p)
-      (ap (outcomes m incremental cs) (next-is c p) ∙ outcomes-are cs (nextLedgers (paperOf m) c p))
-
-  pub finish-is : (cs : List Call) (p : Ledgers) → finish m incremental cs (endsOf p) ≡ endsOf (finishLedgers (paperOf m) cs p)
-  unfolding finish finishLedgers
-  finish-is [] p = refl
-  finish-is (c ∷ cs) p = ap (finish m incremental cs) (next-is c p) ∙ finish-is cs (nextLedgers (paperOf m) c p)
+  -- a run from the sessions of ledgers has the ledgers' answers, and leaves the sessions of the ledgers after it
+  pub runs-are : {cs : List Call} {s q : Ends DeckState} {os : List (Outcome DeckState)} → Runs m incremental cs s os q
+      → (p : Ledgers) → s ≡ endsOf p → (os ≡ map outcomeOf (entries (paperOf m) cs p)) × (q ≡ endsOf (finishLedgers (paperOf m) cs p))
+  unfolding entries finishLedgers
+  runs-are Runs.none p h = (refl, h)
+  runs-are (Runs.more {c = c} {o = o} e r) p h =
+      let g : o ≡ outcomeOf (ledgerStep (paperOf m) c p) = e ∙ ap (outcome m incremental c) h ∙ outcome-is c p in
+      let z = runs-are r (nextLedgers (paperOf m) c p)
+      (ap₂ (λ (o : Outcome DeckState) (s : Ends DeckState). put (sideOf c) (o .session) s) g h
+      ∙ put-endsOf (sideOf c) (ledgerStep (paperOf m) c p .ledger) p) in
+      (ap₂ {C = List (Outcome DeckState)} (λ o os. o ∷ os) g (z .0), z .1)

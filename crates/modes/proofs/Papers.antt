@@ -1,19 +1,19 @@
 -- The modes over the whole history are the papers' algorithms as printed, and their counts document 01's. Assumes nothing.
-use mathlib.Core.Bool.{Bool, true, false, not, _||_, cond}
+use mathlib.Core.Bool.{Bool, true, false, not, cond}
 use mathlib.Core.List.{List, [], _∷_}
 use mathlib.Core.Path.{_≡_, refl, sym, ap, ap₂, _∙_}
-use Prim.Native.Nat.{ℕ, zero, suc, _+_, _/_, _%_, _<_}
+use Prim.Native.Nat.{ℕ, zero, suc, _+_, _/_, _%_}
 use native.Mathlib.Omega.{arith}
-use borrow.Author.Tests.{lt-ltb, ne-eqb, eqb-true, eqb-false}
+use borrow.Author.Tests.{lt-ltb, eqb-true, eqb-false}
 use lib.Bits.{bitXor}
-use lib.Dec.{ltb, eqb, eqb·suc-zero}
+use lib.Dec.{eqb, eqb·suc-zero}
 use lib.ListN.{length, replicate}
 use Rattle.word.specs.Lists.{tabulate, sum}
 use Rattle.word.proofs.Lists.{cons, tabulate-ext, tabulate-length, sum-comm, sum-zero}
 use Rattle.xoofff.specs.Strings.{Str}
 use Rattle.xoofff.specs.Deck.{run, deck}
-use Rattle.modes.specs.Mode.{Mode, StepResult, wholeHistory, withA, withText, tagOf, sivBody, sivWrap, sivUnwrap, sanse, sanseParameters, sanseCount, blocksOfA, ceiling48}
-use Rattle.modes.specs.Paper.{PaperResult, plusFrom, _⊞_, first32, newest, some, none, afterA, sanseWrap, sanseUnwrap}
+use Rattle.modes.specs.Mode.{Mode, StepResult, wholeHistory, withA, sivBody, sivWrap, sivUnwrap, sanse, sanseParameters, sanseCount, ceiling48}
+use Rattle.modes.specs.Paper.{PaperResult, plusFrom, _⊞_, first32, newest, some, afterA, sanseWrap, sanseUnwrap}
 use Rattle.modes.specs.Ledger.{PaperMode, sansePaper, sansePermutations}
 
 -- ---- a mode as the papers would give it
@@ -67,7 +67,7 @@ module _ (key : List ℕ) (h : List Str) (e : Bool) where
   some-more : (y : ℕ) (x : List ℕ) → some (y ∷ x) ≡ true
   some-more y x = lt-ltb 0 (length (y ∷ x)) (omega arith)
 
-  afterA-is : (a x : List ℕ) → afterA key h e a x ≡ withA sanseParameters (wholeHistory key) h e a x
+  afterA-is : (a x : List ℕ) → afterA h e a x ≡ withA sanseParameters (wholeHistory key) h e a x
   afterA-is [] [] = refl
   afterA-is [] (y ∷ x) = rw (eqb·suc-zero (length x)) refl
   afterA-is (z ∷ a) x = rw (some-more z a) refl

@@ -1,20 +1,18 @@
 -- The accumulator, the mask and the index stand for the whole history: for any lawful mode, wrap and unwrap of the session that holds them
 -- give what wrap and unwrap over all the strings give. Assumes nothing.
 use mathlib.Core.Bool.{Bool, true, false, cond}
-use mathlib.Core.List.{List, [], _∷_, _++_}
-use mathlib.Core.Path.{_≡_, refl, sym, ap, ap₂, _∙_}
-use Prim.Native.Nat.{ℕ, zero, suc, _+_, _≤_}
+use mathlib.Core.List.{List}
+use mathlib.Core.Path.{_≡_, refl, ap, ap₂, _∙_}
+use Prim.Native.Nat.{ℕ, zero, suc, _+_}
 use lib.ListN.{length}
-use Rattle.xoofff.specs.declared.DeckState.{DeckState}
-use Rattle.xoofff.specs.Strings.{Str, blocks, b}
 use Rattle.xoofff.specs.Deck.{indexOf, indexGrowth}
 use Rattle.xoofff.specs.Incremental.{append, fromScratch}
 use Rattle.xoofff.proofs.Strings.{blocks-is}
 use Rattle.xoofff.proofs.Incremental.{indexOf-more, fromScratch-more, output-fromScratch}
 use Rattle.modes.specs.Call.{CallInput}
 use Rattle.modes.specs.Mode.{HistoryRep, StepResult, Mode, wholeHistory, incremental}
-use Rattle.modes.specs.Rules.{SessionState, Outcome, firstCheck, growth, metadataString, sameBytes, ifNoCheck, checkNumber, wrapSteps, unwrapSteps, accepted, wrongTag, compareTag, wrapAt, unwrapAt}
-use Rattle.modes.proofs.Modes.{Simulates, mapResult, Grows, ModeLaws}
+use Rattle.modes.specs.Rules.{SessionState, Outcome, firstCheck, growth, metadataString, sameBytes, ifNoCheck, checkNumber, unwrapSteps, accepted, wrongTag, compareTag, wrapAt, unwrapAt}
+use Rattle.modes.proofs.Steps.{Simulates, mapResult, Grows, ModeLaws}
 
 -- ---- the two ways to hold a history
 

@@ -1,12 +1,12 @@
 -- Document 01, "Edges, marked for proof": the whole table as rows of one table with one statement over it (`Hold`), with a few rows more;
 -- and the bytes after A, M and T at every length. Assumes nothing.
 use mathlib.Core.Bool.{Bool, true, false, cond}
-use mathlib.Core.List.{List, [], _∷_, _++_}
+use mathlib.Core.List.{List, [], _∷_}
 use mathlib.Core.Path.{_≡_}
 use Prim.Native.Nat.{ℕ, _+_, _*_}
 use lib.ListN.{length, getD, replicate}
 use Rattle.word.specs.Word.{ofBits}
-use Rattle.xoodoo.specs.Edges.{Row, Hold, rollingRows}
+use Rattle.xoodoo.specs.Edges.{Row, rollingRows}
 use Rattle.xoofff.specs.Strings.{Str, b, bitsOf, padded}
 use Rattle.xoofff.specs.Leaves.{closingByte}
 use Rattle.modes.specs.Mode.{sanseCount, sanseParameters, framed}

@@ -1,6 +1,7 @@
 -- "Accepted exactly when it meets no check" (demand 3; document 01, "What stops a call"), with each check's condition as a plain statement:
--- a number is given if and only if its condition holds and no earlier one does. Of the ledger's wrap and unwrap, for any mode, and of a
--- start. Assumes nothing.
+-- a number is given if and only if its condition holds and no earlier one does. Of the ledger's wrap and unwrap, for any mode, where 5 is
+-- never met; of a start; and of a session that is not open. Assumes nothing.
+use mathlib.Core.Bool.{false}
 use mathlib.Core.List.{List}
 use mathlib.Core.Logic.{_↔_, _≢_, _⊎_}
 use mathlib.Core.Path.{_≡_}
@@ -9,7 +10,8 @@ use lib.ListN.{length}
 use Rattle.xoofff.specs.Deck.{indexOf}
 use Rattle.modes.specs.Call.{CallInput}
 use Rattle.modes.specs.Paper.{PaperResult}
-use Rattle.modes.specs.Rules.{Opening, closed, startAt}
+use Rattle.modes.specs.Mode.{HistoryRep, Mode}
+use Rattle.modes.specs.Rules.{SessionState, closed, startAt, wrapAt, unwrapAt}
 use Rattle.modes.specs.Ledger.{PaperMode, Ledger, wrapFinds, unwrapFinds, ledgerWrap, ledgerUnwrap}
 
 -- ---- the conditions, for a call for which the algorithm finds r
@@ -69,3 +71,8 @@ pub record StartExactly (key : List ℕ) : Type 0 where
   pub accepted : (startAt key .number ≡ 0) ↔ ((16 ≤ length key) × (length key ≤ 47))
   pub four : (startAt key .number ≡ 4) ↔ ((length key < 16) ⊎ (47 < length key))
   pub refused : (length key < 16) ⊎ (47 < length key) → startAt key ≡ record { number = 4; count = 0; session = closed }
+
+-- a call of a session that is not open gets 5, and nothing is altered: in any mode, and whatever the session holds
+pub record ClosedRefused (m : Mode) {S : Type 0} (d : HistoryRep S) (s : SessionState S) (i : CallInput) : Type 0 where
+  pub wraps : s .opened ≡ false → wrapAt m d s i ≡ record { number = 5; count = 0; session = s; out = i .out; tag = i .tag }
+  pub unwraps : s .opened ≡ false → unwrapAt m d s i ≡ record { number = 5; count = 0; session = s; out = i .out; tag = i .tag }

@@ -7,4 +7,5 @@ pub mod Ledger
 pub mod Exactly
 pub mod OneCall
 pub mod TwoEnds
+pub mod Fresh
 pub mod Edges

@@ -1,7 +1,7 @@
 -- Demand 2, one call: for every key, history and e, the session that this history gives, wrapped or unwrapped, gives what Algorithm 3 of 003
 -- gives over the whole history, and the session of the longer history. First what the words mean, then the two claims. `sanseWrap` and
 -- `sanseUnwrap` are the algorithm as printed. Assumes nothing.
-use mathlib.Core.Bool.{Bool, true, not}
+use mathlib.Core.Bool.{Bool, true}
 use mathlib.Core.List.{List, _++_}
 use mathlib.Core.Logic.{_≢_}
 use mathlib.Core.Path.{_≡_}

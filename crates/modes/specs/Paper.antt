@@ -48,11 +48,11 @@ pub record PaperResult : Type 0 where
 abbrev pub sanseOpens : List Str
 sanseOpens = []
 
-module _ (key : List ℕ) where
-  -- if |A| > 0 or |X| = 0: history ← A‖0‖e ◦ history
-  abbrev pub afterA : List Str → Bool → (A X : List ℕ) → List Str
-  afterA h e A X = cond (some A || none X) (newest h A (false ∷ e ∷ [])) h
+-- if |A| > 0 or |X| = 0: history ← A‖0‖e ◦ history
+abbrev pub afterA : List Str → Bool → (A X : List ℕ) → List Str
+afterA h e A X = cond (some A || none X) (newest h A (false ∷ e ∷ [])) h
 
+module _ (key : List ℕ) where
   -- Wrap, of A and P
   unfoldable pub sanseWrap : List Str → Bool → (A P : List ℕ) → PaperResult
   sanseWrap h e A P =

@@ -1,6 +1,6 @@
 -- Demand 3 (document 01, "The two ends of demand 3"): the calls of a list at the two ends, by the rules and by the ledgers; the lists in
 -- which each message is delivered, and what it is that it comes back; and the claim. Assumes nothing.
-use mathlib.Core.Bool.{false, true}
+use mathlib.Core.Bool.{false}
 use mathlib.Core.List.{List, [], _∷_, _++_, map}
 use mathlib.Core.Logic.{_≢_, _⊎_}
 use mathlib.Core.Path.{_≡_}
@@ -35,19 +35,12 @@ module _ (m : Mode) {S : Type 0} (d : HistoryRep S) where
   outcome (wrap x i) p = wrapAt m d (at x p) i
   outcome (unwrap x i) p = unwrapAt m d (at x p) i
 
-  -- the two ends after it: a call takes the session as the last call at its end left it
-  abbrev pub next : Call → Ends S → Ends S
-  next c p = put (sideOf c) (outcome c p .session) p
-
-  -- what each call of a list gives, in order; the session in it is the one at the call's end after it
-  unfoldable pub outcomes : List Call → Ends S → List (Outcome S)
-  outcomes [] p = []
-  outcomes (c ∷ cs) p = outcome c p ∷ outcomes cs (next c p)
-
-  -- the two ends after a list
-  unfoldable pub finish : List Call → Ends S → Ends S
-  finish [] p = p
-  finish (c ∷ cs) p = finish cs (next c p)
+  -- `Runs cs p os q`: the calls cs, made in order from the sessions p, each at its end with the session that the last call there left, gave os
+  -- and left q. Of each call only its equation with the rules is known
+  pub data Runs : List Call → Ends S → List (Outcome S) → Ends S → Type 0 where
+    none : {p : Ends S} → Runs [] p [] p
+    more : {c : Call} {cs : List Call} {p q : Ends S} {o : Outcome S} {os : List (Outcome S)}
+        → o ≡ outcome c p → Runs cs (put (sideOf c) (o .session) p) os q → Runs (c ∷ cs) p (o ∷ os) q
 
 -- ---- the two ends by the ledgers
 

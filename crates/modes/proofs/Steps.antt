@@ -1,9 +1,9 @@
 -- What the theorems ask of a mode (`ModeLaws`), and that the modes with SANSE's steps have it, for any parameters with short frames: their
 -- steps go by what they see of the history, what was wrapped is unwrapped, and the index grows by the lengths. Assumes nothing.
-use mathlib.Core.Bool.{Bool, true, false}
+use mathlib.Core.Bool.{Bool}
 use mathlib.Core.List.{List, [], _∷_}
-use mathlib.Core.Path.{_≡_, refl, sym, ap, ap₂, _∙_}
-use Prim.Native.Nat.{ℕ, zero, suc, _+_, _≤_}
+use mathlib.Core.Path.{_≡_, refl, sym, ap, _∙_}
+use Prim.Native.Nat.{ℕ, _+_, _≤_}
 use native.Mathlib.Omega.{arith}
 use lib.ListN.{length}
 use Rattle.word.specs.Lists.{tabulate, sum}
