@@ -207,10 +207,13 @@ module _ {s : Session} {a m tag out : List ℕ} {n ca cm ct : ℕ} {h g : Compre
     where
       q₁ : h .state ≡ withA sanseParameters incremental (stateOf s .history) (s .toggle) a m
       q₁ = begun-state (k .begun)
+
       q₂ : g .state ≡ withText sanseParameters incremental (withA sanseParameters incremental (stateOf s .history) (s .toggle) a m) (s .toggle) m
       q₂ = text-state (h .state) (s .toggle) m cm g (k .closesM) (k .isM) ∙ ap (λ (u : DeckState). withText sanseParameters incremental u (s .toggle) m) q₁
+
       T : tag′ ≡ run (output (withText sanseParameters incremental (withA sanseParameters incremental (stateOf s .history) (s .toggle) a m) (s .toggle) m)) 0 32
       T = k .isTag ∙ ap₂ (λ (u : DeckState) (i : ℕ). run (output u) 0 i) q₂ (limits (k .begun) .tag)
+
       O : out′ ≡ written
           (sivBody sanseParameters incremental (withA sanseParameters incremental (stateOf s .history) (s .toggle) a m) (s .toggle) m
           (run (output (withText sanseParameters incremental (withA sanseParameters incremental (stateOf s .history) (s .toggle) a m) (s .toggle) m)) 0 32)) out
@@ -218,6 +221,7 @@ module _ {s : Session} {a m tag out : List ℕ} {n ca cm ct : ℕ} {h g : Compre
           k .isOut
           ∙ ap (λ (u : Str). written (sum m (run (output (append (h .state) u)) 0 (length m))) out) (closed-is tag′ ct (bitsT (s .toggle)) (short₃ true true (s .toggle)) (k .closesT))
           ∙ ap₂ (λ (u : DeckState) (v : List ℕ). written (sivBody sanseParameters incremental u (s .toggle) m v) out) q₁ T
+
       whole : _≡_ {A = Outcome DeckState}
           (record { number = 0; count = r; session = record { history = g .state; toggle = not (s .toggle); opened = s .opened }; out = out′; tag = tag′ })
           (wrapDone s a m out tag)
@@ -329,6 +333,7 @@ module _ {s : Session} {a x tag out : List ℕ} {n ca cm ct : ℕ} {h g : Compre
           (ap (drop (length x)) out-is
           ∙ drop-at message _ (length x) message-length
           ∙ ap (λ (i : ℕ). drop i out) (message-length ∙ sym (length-replicate (length x) 0)))
+
       whole : _≡_ {A = Outcome DeckState} (record { number = 11; count = r; session = stateOf s; out = out₂; tag = tag })
           (wrongTag sanse incremental (stateOf s) (handed a x out tag))
       whole = λ i. record { number = 11; count = (er ∙ unwrap-counted) i; session = stateOf s; out = zeroed i; tag = tag }

@@ -13,7 +13,6 @@ ghost use Rattle.modes.specs.Mode.{sanse, incremental, isEmpty};
 ghost use Rattle.modes.specs.Rules.{growth, firstCheck, written, wrapAt, unwrapAt, startAt};
 ghost use Rattle.steps.specs.Steps.{outputCount};
 ghost use Rattle.sanse.specs.Session.{stateOf, startResult, callResult, handed};
-
 use xoofff::DeckState;
 
 // A session: the accumulator, the mask at the index, the input index, e, and whether it is open.
@@ -158,11 +157,24 @@ pub fn start(key: &[u8]) -> CallResult
 }
 
 // Wraps a message: the cryptogram goes to the start of `out`, and the tag fills `tag`, which has 32 bytes. Checks 5 to 9.
-pub fn wrap(s: Session, metadata: &[u8], message: &[u8], out: &mut [u8], tag: &mut [u8]) -> CallResult
+pub fn wrap(
+    s: Session,
+    metadata: &[u8],
+    message: &[u8],
+    out: &mut [u8],
+    tag: &mut [u8],
+) -> CallResult
     ensures { λ r. ⌜ callResult r (now (out .exit)) (now (tag .exit))
         ≡ wrapAt sanse incremental (stateOf s) (handed (now (metadata .entry)) (now (message .entry)) (now (out .entry)) (now (tag .entry))) ⌝ }
 {
-    let number = check(s.opened, s.index, metadata.len(), message.len(), tag.len(), out.len());
+    let number = check(
+        s.opened,
+        s.index,
+        metadata.len(),
+        message.len(),
+        tag.len(),
+        out.len(),
+    );
     if number != 0 {
         return refused(number, 0, s);
     }
@@ -178,7 +190,13 @@ pub fn wrap(s: Session, metadata: &[u8], message: &[u8], out: &mut [u8], tag: &m
 }
 
 // Unwraps a cryptogram: the message goes to the start of `out`. Checks 5 to 9, and 11 for a tag that differs, whose 32 bytes are all compared.
-pub fn unwrap(s: Session, metadata: &[u8], cryptogram: &[u8], tag: &[u8], out: &mut [u8]) -> CallResult
+pub fn unwrap(
+    s: Session,
+    metadata: &[u8],
+    cryptogram: &[u8],
+    tag: &[u8],
+    out: &mut [u8],
+) -> CallResult
     ensures { λ r. ⌜ callResult r (now (out .exit)) (now (tag .entry))
         ≡ unwrapAt sanse incremental (stateOf s) (handed (now (metadata .entry)) (now (cryptogram .entry)) (now (out .entry)) (now (tag .entry))) ⌝ }
 {

@@ -49,6 +49,7 @@ tag-filled f t t₁ t₂ e g =
         ∙ ap (λ (n : ℕ). replicate (length t) 0 ++ drop n t) (length-replicate (length t) 0)
         ∙ ap (λ (l : List ℕ). replicate (length t) 0 ++ l) (drop-length t)
         ∙ append-nil (replicate (length t) 0)
+
     added : sum (replicate (length t) 0) (run f 0 (length t)) ≡ run f 0 (length t)
     added =
         sum-comm (replicate (length t) 0) (run f 0 (length t))
@@ -62,6 +63,7 @@ part-added f i text d d₁ p e g = ap₂ (λ (l m : List ℕ). l ++ m) (g ∙ ap
   where
     taken : take (length text) d₁ ≡ text
     taken = ap (take (length text)) e ∙ take-at text _ (length text) refl
+
     rest : drop (length text) d₁ ≡ drop (length (sum text (run f i (length text)))) d
     rest =
         ap (drop (length text)) e

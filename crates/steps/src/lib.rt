@@ -11,7 +11,6 @@ ghost use Rattle.xoofff.specs.Leaves.{closedBy};
 ghost use Rattle.modes.specs.Mode.{isEmpty};
 ghost use Rattle.modes.specs.Rules.{growth, firstCheck, written, sameBytes};
 ghost use Rattle.steps.specs.Steps.{compressedIf, outputCount};
-
 use xoofff::Compressed;
 use xoofff::DeckState;
 
@@ -39,7 +38,15 @@ pub fn index_after(index: u32, a: usize, m: usize) -> u64
 
 // The first of the checks 5 to 9 that is met, or 0: by whether the session is open, the index after the call, the length `wanted` of the tag, and the
 // lengths of A, of the text, of the tag and of the output buffer.
-pub fn first_check(opened: bool, index: u64, wanted: usize, a: usize, m: usize, tag: usize, out: usize) -> u32
+pub fn first_check(
+    opened: bool,
+    index: u64,
+    wanted: usize,
+    a: usize,
+    m: usize,
+    tag: usize,
+    out: usize,
+) -> u32
     ensures { λ r. ⌜ r ≡ firstCheck opened index wanted a m tag out ⌝ }
 {
     if !opened {

@@ -107,10 +107,10 @@ slice-aggregate-append-text c = sym (taken (c .before .before .before))
 
 append-text-requires : tie.Need-append-text-requires
 append-text-requires c κs = (
-      omega (arith, c .closing-m .ensures, closing-pos (bitsM (entry (c .before .before .before .before .before .before .before .before .before .before .before) .args .s .toggle))),
-      omega (arith, taken (c .before .before .before .before), within (c .before .before .before .before .before .before .before .before .before .before .before) .text),
-      begun-index (begun (c .before .before .before .before .before .before .before .before)),
-    )
+  omega (arith, c .closing-m .ensures, closing-pos (bitsM (entry (c .before .before .before .before .before .before .before .before .before .before .before) .args .s .toggle))),
+  omega (arith, taken (c .before .before .before .before), within (c .before .before .before .before .before .before .before .before .before .before .before) .text),
+  begun-index (begun (c .before .before .before .before .before .before .before .before)),
+)
 
 -- the count is small
 small : (c : tie.After-struct-known2) → c .before .before .before .before .before .before .before .before .before .before .before .before .before .before .before .append-metadata .result .count + c .before .before .before .before .before .before .append-text .result .count + c .before .before .before .tag-of .result + c .before .before .before .before .before .before .before .before .before .before .before .add-body .result ≤ 1030

@@ -84,10 +84,10 @@ append-metadata-requires c κs =
 
 append-text-requires : tie.Need-append-text-requires
 append-text-requires c κs = (
-      omega (arith, c .closing-m .ensures, closing-pos (bitsM (entry (c .before .before .before .before .before) .args .s .toggle))),
-      omega (arith, within (c .before .before .before .before .before) .text),
-      begun-index (begun (c .before .before)),
-    )
+  omega (arith, c .closing-m .ensures, closing-pos (bitsM (entry (c .before .before .before .before .before) .args .s .toggle))),
+  omega (arith, within (c .before .before .before .before .before) .text),
+  begun-index (begun (c .before .before)),
+)
 
 tag-of-requires : tie.Need-tag-of-requires
 tag-of-requires c κs = omega (arith, within (c .before .before .before .before .before .before .before .before) .tag)

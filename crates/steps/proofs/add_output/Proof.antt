@@ -25,7 +25,7 @@ returns c =
     let a = c .before .before .before .before .before .before .before .before .before .args in
     let o = now (a .buffer) in (
       x .ensures .0
-      ∙ ap (λ (y : List ℕ). sum o (run (outputByte y (a .d .mask)) (a .offset) (length o))) (c .before .before .before .before .before .permute .ensures),
+          ∙ ap (λ (y : List ℕ). sum o (run (outputByte y (a .d .mask)) (a .offset) (length o))) (c .before .before .before .before .before .permute .ensures),
       ap (λ (n : ℕ). n + 1) (x .ensures .1),
     )
 
