@@ -9,7 +9,7 @@ use Rattle.modes.specs.Mode.{incremental, sanse}
 use Rattle.modes.specs.Rules.{SessionState, Outcome, wrapAt, unwrapAt}
 use Rattle.modes.specs.OneCall.{sessionOf, WrapClaim, UnwrapClaim}
 use Rattle.modes.specs.TwoEnds.{Ends, at, put, Runs}
-use Rattle.modes.proofs.OneCall.{wrap-claim, unwrap-claim}
+use Rattle.modes.proofs.OneCall.{one-call as one-call-by-rules}
 use Rattle.modes.proofs.TwoEnds as modes
 use Rattle.sanse.specs.declared.Session.{Session}
 use Rattle.sanse.specs.Session.{stateOf, startResult, callResult}
@@ -21,9 +21,9 @@ pub one-call : OneCallOf promises
 one-call =
     record {
       wraps = λ key h e s i r out tag q p.
-          subst (WrapClaim key h e i) (sym (wrap-is p ∙ ap (λ (z : SessionState DeckState). wrapAt sanse incremental z i) q)) (wrap-claim key h e i);
+          subst (WrapClaim key h e i) (sym (wrap-is p ∙ ap (λ (z : SessionState DeckState). wrapAt sanse incremental z i) q)) (one-call-by-rules .wrap-claim key h e i);
       unwraps = λ key h e s i r out tag q p.
-          subst (UnwrapClaim key h e i) (sym (unwrap-is p ∙ ap (λ (z : SessionState DeckState). unwrapAt sanse incremental z i) q)) (unwrap-claim key h e i);
+          subst (UnwrapClaim key h e i) (sym (unwrap-is p ∙ ap (λ (z : SessionState DeckState). unwrapAt sanse incremental z i) q)) (one-call-by-rules .unwrap-claim key h e i);
     }
 
 -- ---- demand 3
