@@ -164,10 +164,10 @@ pub fn same_bytes(a: &[u8], b: &[u8]) -> bool
     ensures { λ r. ⌜ r ≡ sameBytes (now (a .entry)) (now (b .entry)) ⌝ }
 {
     let mut differing: u8 = 0;
-    let mut i: usize = 0;
-    while i < a.len() {
-        differing |= a[i] ^ b[i];
-        i += 1;
+    let mut j: usize = 0;
+    while j < a.len() {
+        differing |= a[j] ^ b[j];
+        j += 1;
     }
     differing == 0
 }
