@@ -14,10 +14,10 @@ use Rattle.steps.proofs.same_bytes.Statement.{statement}
 use Rattle.steps.proofs.same_bytes.Tie as tie
 
 abbrev Inv-loop : tie.InvT-loop
-Inv-loop a b differing₀ i₀ differing i = (i ≤ length a) × (eqb differing 0 ≡ sameBytes (take i a) (take i b))
+Inv-loop a b differing₀ j₀ differing j = (j ≤ length a) × (eqb differing 0 ≡ sameBytes (take j a) (take j b))
 
 abbrev μ-loop : tie.MeasureT-loop
-μ-loop a b differing₀ i₀ differing i = length a - i
+μ-loop a b differing₀ j₀ differing j = length a - j
 
 loop-holds : tie.Need-loop-holds Inv-loop μ-loop
 loop-holds c = (omega arith, refl)
@@ -26,13 +26,13 @@ loop-again : tie.Need-loop-again Inv-loop μ-loop
 loop-again c =
     let l = c .before .before .before .loop in
     let a = c .before .before .before .before .args in
-    (omega arith, same-more (now (a .a)) (now (a .b)) (l .i) (l .differing) (omega arith) (omega arith) (l .inv .1))
+    (omega arith, same-more (now (a .a)) (now (a .b)) (l .j) (l .differing) (omega arith) (omega arith) (l .inv .1))
 
 returns : tie.Need-returns Inv-loop μ-loop
 returns c =
     let l = c .before .loop in
     let a = c .before .before .args in
-    same-all (now (a .a)) (now (a .b)) (l .i) (l .differing) (omega arith) (c .before .before .pre) (l .inv .1)
+    same-all (now (a .a)) (now (a .b)) (l .j) (l .differing) (omega arith) (c .before .before .pre) (l .inv .1)
 
 pub same-bytes-spec : {M : Type 1} → statement M
 same-bytes-spec =
