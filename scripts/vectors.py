@@ -70,7 +70,29 @@ def xoofff_program():
     return given, expected.encode()
 
 
-PROGRAMS = {"perm_vectors": perm_program, "xoofff_vectors": xoofff_program}
+def sanse_program():
+    """Sessions of SANSE: both starts, wraps and unwraps at the two ends, and the records after each."""
+    given, expected = b"", ""
+    for record in map(dict, records("sanse.txt")):
+        op = record["op"]
+        number = 11 if record.get("result") == "tag" else 0
+        tag = data(record["T"]) if op != "start" else b""
+        if op == "start":
+            parts, out = (data(record["key"]), b""), b""
+        elif op == "wrap":
+            parts, out = (data(record["A"]), data(record["M"])), data(record["C"])
+        else:
+            parts = (data(record["A"]), data(record["C"]))
+            out = bytes(len(parts[1])) if number else data(record["M"])
+        for end in "ab" if op == "start" else record["end"]:
+            given += op[0].upper().encode() + end.encode() + b"".join(len(p).to_bytes(2, "little") for p in parts)
+            given += b"".join(parts) + (tag if op == "unwrap" else bytes(32))
+            expected += f"{number} {record['count']} {record['index']} {record['e']}\n"
+            expected += "".join(line + "\n" for line in (out.hex(), tag.hex(), record["acc"], record["mask"]))
+    return given, expected.encode()
+
+
+PROGRAMS = {"perm_vectors": perm_program, "xoofff_vectors": xoofff_program, "sanse_vectors": sanse_program}
 
 
 def main():
