@@ -10,7 +10,7 @@ use Rattle.modes.specs.Mode.{incremental, sanse}
 use Rattle.modes.specs.Rules.{SessionState, Outcome, startAt, wrapAt, unwrapAt}
 use Rattle.modes.specs.OneCall.{sessionOf, WrapClaim, UnwrapClaim}
 use Rattle.modes.specs.TwoEnds.{Ends, at, put, Runs}
-use Rattle.modes.proofs.OneCall.{wrap-claim, unwrap-claim}
+use Rattle.modes.proofs.OneCall.{one-call as one-call-by-rules}
 use Rattle.modes.proofs.TwoEnds as modes
 use Rattle.sanse.specs.declared.Session.{Session}
 use Rattle.sanse.specs.declared.CallResult.{CallResult}
@@ -40,9 +40,9 @@ module _ {p : Promises} (l : ByRules p) where
   one-call-of =
       record {
         wraps = λ key h e s i r out tag q w.
-            subst (WrapClaim key h e i) (sym (l .wraps w ∙ ap (λ (z : SessionState DeckState). wrapAt sanse incremental z i) q)) (wrap-claim key h e i);
+            subst (WrapClaim key h e i) (sym (l .wraps w ∙ ap (λ (z : SessionState DeckState). wrapAt sanse incremental z i) q)) (one-call-by-rules .wrap-claim key h e i);
         unwraps = λ key h e s i r out tag q w.
-            subst (UnwrapClaim key h e i) (sym (l .unwraps w ∙ ap (λ (z : SessionState DeckState). unwrapAt sanse incremental z i) q)) (unwrap-claim key h e i);
+            subst (UnwrapClaim key h e i) (sym (l .unwraps w ∙ ap (λ (z : SessionState DeckState). unwrapAt sanse incremental z i) q)) (one-call-by-rules .unwrap-claim key h e i);
       }
 
   -- the promises' runs are runs by the rules
