@@ -1,0 +1,1 @@
+-- The crate states nothing of its own: its contracts cite the crates below.

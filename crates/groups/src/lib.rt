@@ -9,12 +9,14 @@ use sanse::CallResult;
 use sanse::Session;
 
 // A day: the permutations counted since it began, and the most that are allowed in it.
+#[repr(C)]
 pub struct Day {
     pub spent: u32,
     pub allowance: u32,
 }
 
 // What a call for a group gives beside session and buffers: its number (0: accepted), the permutations done, and the day after it.
+#[repr(C)]
 pub struct GroupAnswer {
     pub number: u32,
     pub count: u32,

@@ -4,6 +4,7 @@ ghost use Rattle.session.specs.Lent.{Started, Wrapped, Unwrapped};
 use sanse::Session;
 
 // What a call gives beside record and buffers: its number (0: accepted), and the permutations done.
+#[repr(C)]
 pub struct Answer {
     pub number: u32,
     pub count: u32,
