@@ -1,1 +1,2 @@
--- The crate states nothing of its own: its contracts cite the crates below.
+-- What the contracts of the crate `capi` cite beside those of the crates below.
+pub mod Found
