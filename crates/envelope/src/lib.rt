@@ -33,6 +33,7 @@ pub struct Header {
 }
 
 // Where the parts of an envelope begin, and the place after it; zeros but for the number where it is refused.
+#[repr(C)]
 pub struct Parts {
     pub number: u32,
     pub group: u32,
@@ -50,6 +51,7 @@ pub struct Envelope {
 }
 
 // What writing answers: the number, and how many bytes were written.
+#[repr(C)]
 pub struct WriteResult {
     pub number: u32,
     pub len: usize,

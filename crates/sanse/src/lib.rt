@@ -16,6 +16,7 @@ ghost use Rattle.sanse.specs.Session.{stateOf, startResult, callResult, 
 use xoofff::DeckState;
 
 // A session: the accumulator, the mask at the index, the input index, e, and whether it is open.
+#[repr(C)]
 pub struct Session {
     pub acc: [u32; 12],
     pub mask: [u32; 12],

@@ -1,0 +1,2 @@
+-- What the contracts of the crate `capi` cite beside those of the crates below.
+pub mod Found

@@ -1,0 +1,61 @@
+// Xoofff-SANSE over a lent record: start, wrap and unwrap call the functions by value and store the session that they give.
+ghost use Rattle.sanse.specs.Session.{handed};
+ghost use Rattle.session.specs.Lent.{Started, Wrapped, Unwrapped};
+use sanse::Session;
+
+// What a call gives beside record and buffers: its number (0: accepted), and the permutations done.
+#[repr(C)]
+pub struct Answer {
+    pub number: u32,
+    pub count: u32,
+}
+
+// Opens a session under a key of 16 to 47 bytes in the place of the record. Another length is refused by 4, and the record is closed then.
+pub fn start(s: &mut Session, key: &[u8]) -> Answer
+    ensures { λ r. ⌜ Started (now (key .entry)) r (now (s .exit)) ⌝ }
+{
+    let r = sanse::start(key);
+    *s = r.session;
+    Answer {
+        number: r.number,
+        count: r.count,
+    }
+}
+
+// Wraps a message: the cryptogram goes to the start of `out`, and the tag fills `tag`. Checks 5 to 9.
+pub fn wrap(
+    s: &mut Session,
+    metadata: &[u8],
+    message: &[u8],
+    out: &mut [u8],
+    tag: &mut [u8],
+) -> Answer
+    ensures { λ r. ⌜ Wrapped (now (s .entry)) (handed (now (metadata .entry)) (now (message .entry)) (now (out .entry)) (now (tag .entry)))
+        r (now (s .exit)) (now (out .exit)) (now (tag .exit)) ⌝ }
+{
+    let r = sanse::wrap(*s, metadata, message, out, tag);
+    *s = r.session;
+    Answer {
+        number: r.number,
+        count: r.count,
+    }
+}
+
+// Unwraps a cryptogram: the message goes to the start of `out`. Checks 5 to 9 and 11.
+pub fn unwrap(
+    s: &mut Session,
+    metadata: &[u8],
+    cryptogram: &[u8],
+    tag: &[u8],
+    out: &mut [u8],
+) -> Answer
+    ensures { λ r. ⌜ Unwrapped (now (s .entry)) (handed (now (metadata .entry)) (now (cryptogram .entry)) (now (out .entry)) (now (tag .entry)))
+        r (now (s .exit)) (now (out .exit)) (now (tag .entry)) ⌝ }
+{
+    let r = sanse::unwrap(*s, metadata, cryptogram, tag, out);
+    *s = r.session;
+    Answer {
+        number: r.number,
+        count: r.count,
+    }
+}
