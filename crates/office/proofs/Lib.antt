@@ -3,3 +3,4 @@ pub mod Laws
 pub mod Search
 pub mod Walk
 pub mod Contracts
+pub mod Exactly
