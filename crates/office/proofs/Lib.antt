@@ -1,4 +1,6 @@
--- Laws that belong to no one function.
+-- Laws that belong to no one function, and the theorems.
 pub mod Laws
 pub mod Search
 pub mod Walk
+pub mod Contracts
+pub mod Exactly

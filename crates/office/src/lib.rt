@@ -8,6 +8,11 @@ use groups::Day;
 use groups::GroupAnswer;
 use sanse::Session;
 
+// The records of a table, and its highest group.
+const GROUPS: usize = 32;
+
+const HIGHEST_GROUP: usize = 31;
+
 // The answer of the nearly-full question: its number (0: answered), whether a group was found, and the group, 0 where none was.
 pub struct NearlyFull {
     pub number: u32,
@@ -26,14 +31,14 @@ pub fn start_day(allowance: u32) -> Day
 pub fn open_group(table: &mut [Session], group: usize, day: Day, key: &[u8]) -> GroupAnswer
     ensures { λ r. ⌜ openingResult r (now (table .exit)) ≡ openGroupAt day (sessionsOf (now (table .entry))) group (now (key .entry)) ⌝ }
 {
-    if table.len() != 32 {
+    if table.len() != GROUPS {
         return GroupAnswer {
             number: 3,
             count: 0,
             day,
         };
     }
-    if 31 < group {
+    if HIGHEST_GROUP < group {
         return GroupAnswer {
             number: 3,
             count: 0,
@@ -59,14 +64,14 @@ pub fn wrap_group(
         ≡ wrapGroupAt day (sessionsOf (now (table .entry))) group
         (handed (now (metadata .entry)) (now (message .entry)) (now (out .entry)) (now (tag .entry))) ⌝ }
 {
-    if table.len() != 32 {
+    if table.len() != GROUPS {
         return GroupAnswer {
             number: 3,
             count: 0,
             day,
         };
     }
-    if 31 < group {
+    if HIGHEST_GROUP < group {
         return GroupAnswer {
             number: 3,
             count: 0,
@@ -92,14 +97,14 @@ pub fn unwrap_group(
         ≡ unwrapGroupAt day (sessionsOf (now (table .entry))) group
         (handed (now (metadata .entry)) (now (cryptogram .entry)) (now (out .entry)) (now (tag .entry))) ⌝ }
 {
-    if table.len() != 32 {
+    if table.len() != GROUPS {
         return GroupAnswer {
             number: 3,
             count: 0,
             day,
         };
     }
-    if 31 < group {
+    if HIGHEST_GROUP < group {
         return GroupAnswer {
             number: 3,
             count: 0,
@@ -125,7 +130,7 @@ fn above_mark(s: Session, mark: u32) -> bool
 pub fn nearly_full(table: &[Session], mark: u32) -> NearlyFull
     ensures { λ r. ⌜ NearlyFullIs (sessionsOf (now (table .entry))) mark r ⌝ }
 {
-    if table.len() != 32 {
+    if table.len() != GROUPS {
         return NearlyFull {
             number: 3,
             found: false,
