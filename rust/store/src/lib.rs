@@ -97,8 +97,19 @@ pub struct Store {
     new: PathBuf,
     folder: File,
     bytes: Option<Vec<u8>>,
-    /// Holds the lock; closing it unlocks.
-    _lock: File,
+    /// Unlocks when it is dropped, the last of the fields.
+    _lock: Locked,
+}
+
+/// The lock file, locked.
+#[derive(Debug)]
+struct Locked(File);
+
+impl Drop for Locked {
+    /// Unlocks by word and not just by closing the file: a process that was forked off at this moment has it open too.
+    fn drop(&mut self) {
+        let _ = self.0.unlock();
+    }
 }
 
 impl Store {
@@ -201,7 +212,7 @@ fn exists(path: &Path) -> Result<bool, Error> {
 }
 
 /// Opens the lock file, made if there is none, and locks it.
-fn lock(path: &Path, wait: Wait) -> Result<File, Error> {
+fn lock(path: &Path, wait: Wait) -> Result<Locked, Error> {
     let name = beside(path, ".lock");
     let start = Instant::now();
     loop {
@@ -214,11 +225,12 @@ fn lock(path: &Path, wait: Wait) -> Result<File, Error> {
             Some(source) => failed("lock", &name)(source),
             None => Error::Busy { path: path.to_path_buf() },
         })?;
+        let locked = Locked(file);
         // The file that was locked must still be the one of this name: otherwise somebody else locks another.
-        let locked = file.metadata().map_err(failed("look at the lock file", &name))?;
+        let own = locked.0.metadata().map_err(failed("look at the lock file", &name))?;
         match fs::symlink_metadata(&name) {
             Ok(named) if named.is_symlink() => return Err(Error::NotAFile { path: name }),
-            Ok(named) if (named.dev(), named.ino()) == (locked.dev(), locked.ino()) => return Ok(file),
+            Ok(named) if (named.dev(), named.ino()) == (own.dev(), own.ino()) => return Ok(locked),
             _ => {}
         }
     }
@@ -248,7 +260,7 @@ fn wait_for(file: &File, wait: Wait, start: Instant) -> Result<(), Option<io::Er
 /// Sets an open file's permissions, whatever the process's own mask made of them.
 fn owner_only(file: &File) -> io::Result<()> {
     if file.metadata()?.mode() & 0o7777 != OWNER_ONLY {
-        file.set_permissions(Permissions::from_mode(OWNER_ONLY))?;
+        step("set the permissions", || file.set_permissions(Permissions::from_mode(OWNER_ONLY)))?;
     }
     Ok(())
 }

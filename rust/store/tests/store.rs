@@ -87,6 +87,8 @@ fn child() {
                 // The value says what the file holds, and further commits are possible.
                 let held = store.bytes().map(<[u8]>::to_vec);
                 drop(store);
+                let new = path.with_extension("state.new");
+                assert!(!new.exists(), "tidied up after the failure");
                 assert_eq!(get(&path), held);
                 exit(REFUSED);
             }
