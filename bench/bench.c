@@ -7,6 +7,8 @@
 #include <time.h>
 
 void pevghazo_permute(uint32_t s[12]);
+void pevghazo_compress(uint32_t acc[12], uint32_t mask[12], const uint8_t *s, size_t n);
+uint32_t pevghazo_expand(const uint32_t y[12], const uint32_t mask[12], uint8_t *out, size_t n);
 
 enum { RUNS = 41 };
 
@@ -49,6 +51,14 @@ static uint32_t s1[12], s2[12];
 static void permute_ours(void) { pevghazo_permute(s1); }
 static void permute_theirs(void) { reference_permute(s2); }
 
+enum { SIZE = 16384 };
+static uint8_t text[SIZE], out1[SIZE], out2[SIZE];
+static uint32_t k1[12], k2[12];
+static void compress_ours(void) { pevghazo_compress(s1, k1, text, SIZE); }
+static void compress_theirs(void) { reference_compress(s2, k2, text, SIZE); }
+static void expand_ours(void) { pevghazo_expand(s1, k1, out1, SIZE); }
+static void expand_theirs(void) { reference_expand(s2, k2, out2, SIZE); }
+
 static void same(const char *what, const void *a, const void *b, size_t n) {
     if (memcmp(a, b, n) == 0) return;
     fprintf(stderr, "bench: %s: the two sides disagree\n", what);
@@ -58,5 +68,12 @@ static void same(const char *what, const void *a, const void *b, size_t n) {
 int main(void) {
     compare("permutation", permute_ours, permute_theirs, 20000, 0);
     same("permutation", s1, s2, sizeof s1);
+    for (int i = 0; i < SIZE; i++) text[i] = (uint8_t)(i * 7 + i / 256);
+    k1[0] = k2[0] = 1;
+    compare("compress 16,384 bytes", compress_ours, compress_theirs, 100, SIZE);
+    same("compress", s1, s2, sizeof s1);
+    same("compress", k1, k2, sizeof k1);
+    compare("expand 16,384 bytes", expand_ours, expand_theirs, 100, SIZE);
+    same("expand", out1, out2, sizeof out1);
     return 0;
 }

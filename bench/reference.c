@@ -1,4 +1,5 @@
 #include "reference.h"
+#include <string.h>
 
 static inline uint32_t rotl(uint32_t x, int v) { return x << v | x >> (32 - v); }
 
@@ -26,3 +27,48 @@ static inline void permute(uint32_t a[12]) {
 }
 
 void reference_permute(uint32_t s[12]) { permute(s); }
+
+/* The places of s_0 to s_11: s_(3x+y) is the lane at x of plane y. */
+static const int place[12] = {0, 4, 8, 1, 5, 9, 2, 6, 10, 3, 7, 11};
+
+static inline void roll(uint32_t m[12], uint32_t last) {
+    for (int i = 0; i < 11; i++) m[place[i]] = m[place[i + 1]];
+    m[11] = last;
+}
+
+static inline void roll_in(uint32_t m[12]) { roll(m, m[0] ^ (m[0] << 13) ^ rotl(m[4], 3)); }
+
+static inline void roll_out(uint32_t m[12]) { roll(m, (m[4] & m[8]) ^ rotl(m[0], 5) ^ rotl(m[4], 13) ^ 7); }
+
+static inline void add_block(uint32_t acc[12], uint32_t mask[12], const uint8_t *bytes) {
+    uint32_t b[12];
+    memcpy(b, bytes, 48);
+    for (int i = 0; i < 12; i++) b[i] ^= mask[i];
+    permute(b);
+    for (int i = 0; i < 12; i++) acc[i] ^= b[i];
+    roll_in(mask);
+}
+
+void reference_compress(uint32_t acc[12], uint32_t mask[12], const uint8_t *s, size_t n) {
+    uint8_t last[48] = {0};
+    for (; n >= 48; s += 48, n -= 48) add_block(acc, mask, s);
+    memcpy(last, s, n);
+    last[n] = 1;
+    add_block(acc, mask, last);
+    roll_in(mask);
+}
+
+void reference_expand(const uint32_t y[12], const uint32_t mask[12], uint8_t *out, size_t n) {
+    uint32_t z[12], b[12];
+    memcpy(z, y, 48);
+    for (; n > 0; roll_out(z)) {
+        uint8_t bytes[48];
+        size_t k = n < 48 ? n : 48;
+        memcpy(b, z, 48);
+        permute(b);
+        for (int i = 0; i < 12; i++) b[i] ^= mask[i];
+        memcpy(bytes, b, 48);
+        for (size_t i = 0; i < k; i++) out[i] ^= bytes[i];
+        out += k, n -= k;
+    }
+}

@@ -45,7 +45,32 @@ def perm_program():
     return given, expected.encode()
 
 
-PROGRAMS = {"perm_vectors": perm_program}
+def header(letter, closing, length, offset):
+    """The header of a record of xoofff_vectors."""
+    return letter + bytes([closing]) + length.to_bytes(2, "little") + offset.to_bytes(2, "little")
+
+
+def closing_byte(frame):
+    """The byte after a string's last byte: the frame bits, first bit first, and the padding bit."""
+    bits = ("" if frame == "-" else frame) + "1"
+    return sum(int(bit) << place for place, bit in enumerate(bits))
+
+
+def xoofff_program():
+    """The deck function: histories of strings with frame bits, and runs of the output."""
+    given, expected = b"", ""
+    for record in map(dict, records("xoofff.txt")):
+        key = data(record["key"])
+        given += header(b"K", 0, len(key), 0) + key
+        for i in range(int(record["strings"])):
+            string = data(record[f"s{i}"])
+            given += header(b"S", closing_byte(record[f"f{i}"]), len(string), 0) + string
+        given += header(b"O", 0, int(record["length"]), int(record["offset"]))
+        expected += "".join(record[field] + "\n" for field in ("index", "acc", "mask", "out"))
+    return given, expected.encode()
+
+
+PROGRAMS = {"perm_vectors": perm_program, "xoofff_vectors": xoofff_program}
 
 
 def main():

@@ -7,7 +7,7 @@ use native.Mathlib.Omega.{arith}
 use lib.ListN.{getD, length}
 use Rattle.word.specs.Word.{bit, _⊕_, rotateLeft, shiftLeft}
 use Rattle.word.specs.Lists.{sum}
-use Rattle.word.proofs.Bit.{move-back, bit-xor, bit-ofBits}
+use Rattle.word.proofs.Bit.{move-back, bit-xor, bit-ofBits, ofBits-lt}
 use Rattle.word.proofs.Lists.{Words, sum-at, tabulate-at}
 use Rattle.xoodoo.specs.State.{Plane, State, shift, bits}
 use Rattle.xoodoo.specs.Xoodoo.{round, rounds, perm}
@@ -33,14 +33,20 @@ state-to-string l x y z h =
     let r : (z + 32 * (x + 4 * y)) % 32 ≡ z = omega arith in
     ap₂ (λ (i j : ℕ). bit (getD l i 0) j) q r
 
--- and in bytes, each from its lowest bit on: bit i of the 48 bytes is bit i of the string
-pub string-in-bytes : (l : List ℕ) (i : ℕ) → i < 384 → byteBit (toBytes l) i ≡ stringBit l i
+-- and in bytes, each from its lowest bit on: bit z of byte i is bit 8 i + z of the string
+pub stateByte-bit : (l : List ℕ) (i z : ℕ) → z < 8 → bit (stateByte l i) z ≡ stringBit l (8 * i + z)
 unfolding stateByte
+stateByte-bit l i z h = bit-ofBits 8 (λ z. stringBit l (8 * i + z)) z h
+
+pub stateByte-lt : (l : List ℕ) (i : ℕ) → stateByte l i < 256
+unfolding stateByte
+stateByte-lt l i = ofBits-lt 8 (λ z. stringBit l (8 * i + z))
+
+-- so bit i of the 48 bytes is bit i of the string
+pub string-in-bytes : (l : List ℕ) (i : ℕ) → i < 384 → byteBit (toBytes l) i ≡ stringBit l i
 string-in-bytes l i h =
     let e : 8 * (i / 8) + i % 8 ≡ i = omega arith in
-    ap (λ (n : ℕ). bit n (i % 8)) (tabulate-at 48 (stateByte l) (i / 8) (omega arith))
-    ∙ bit-ofBits 8 (λ z. stringBit l (8 * (i / 8) + z)) (i % 8) (omega arith)
-    ∙ ap (stringBit l) e
+    ap (λ (n : ℕ). bit n (i % 8)) (tabulate-at 48 (stateByte l) (i / 8) (omega arith)) ∙ stateByte-bit l (i / 8) (i % 8) (omega arith) ∙ ap (stringBit l) e
 
 -- ---- the sum of two states is the sum of their bits
 pub sum-of-bits : (l m : List ℕ) → length l ≡ 12 → length m ≡ 12 → (x y z : ℕ) → x < 4 → y < 3 → bits (sum l m) x y z ≡ bits l x y z ⊕ bits m x y z
@@ -98,14 +104,14 @@ pub perm-words : (l : List ℕ) → Words 32 (perm l)
 unfolding perm rounds round
 perm-words l = lanes-words _
 
-pub roll-in-length : (l : List ℕ) → length (rollIn l) ≡ 12
+pub rollIn-length : (l : List ℕ) → length (rollIn l) ≡ 12
 unfolding rollIn
-roll-in-length l = lanes-length _
+rollIn-length l = lanes-length _
 
-pub roll-out-length : (l : List ℕ) → length (rollOut l) ≡ 12
+pub rollOut-length : (l : List ℕ) → length (rollOut l) ≡ 12
 unfolding rollOut
-roll-out-length l = lanes-length _
+rollOut-length l = lanes-length _
 
-pub string-length : (s : ℕ → Bool) → length (fromString s) ≡ 12
+pub fromString-length : (s : ℕ → Bool) → length (fromString s) ≡ 12
 unfolding fromString
-string-length s = lanes-length _
+fromString-length s = lanes-length _

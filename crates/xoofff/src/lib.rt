@@ -1,4 +1,15 @@
 // The deck function Xoofff, incremental: what a session keeps of its history, and the leaves that compress a string and expand the output.
+ghost use mathlib.Core.Path.{_≡_};
+ghost use mathlib.Core.List.{[], _∷_, _++_};
+ghost use Prim.Native.Nat.{_+_, _*_, _-_, _≤_, _<_, min};
+ghost use lib.ListN.{length, getD};
+ghost use Rattle.word.specs.Lists.{sum};
+ghost use Rattle.xoodoo.specs.Xoodoo.{perm};
+ghost use Rattle.xoodoo.specs.Rolling.{rollOut};
+ghost use Rattle.xoodoo.specs.Bytes.{toBytes};
+ghost use Rattle.xoofff.specs.Strings.{block};
+ghost use Rattle.xoofff.specs.Deck.{iterate, keyMask, outputByte, run};
+ghost use Rattle.xoofff.specs.Leaves.{closedBy, compressed, outputBlocks, Added};
 
 // What a session keeps of its history: the accumulator, the mask at the index, and the input index.
 pub struct DeckState {
@@ -11,4 +22,145 @@ pub struct DeckState {
 pub struct Compressed {
     pub state: DeckState,
     pub count: u32,
+}
+
+// The smaller of two numbers.
+fn smaller(a: usize, b: usize) -> usize
+    ensures { λ r. ⌜ r ≡ min a b ⌝ }
+{
+    if a < b {
+        return a;
+    }
+    b
+}
+
+// The 48 bytes of block j of a string: its own bytes, the closing byte directly after the last of them, and zeros.
+fn block_bytes(s: &[u8], closing: u8, j: usize) -> [u8; 48]
+    requires { ⌜ (48 * j ≤ length (now s)) × (length (now s) ≤ 16401) ⌝ }
+    ensures { λ r. ⌜ r ≡ run (λ i. getD (now (s .entry) ++ closing ∷ []) i 0) (48 * j) 48 ⌝ }
+{
+    let at = 48 * j;
+    let n = smaller(s.len() - at, 48);
+    let mut b = [0u8; 48];
+    let mut i: usize = 0;
+    while i < n {
+        b[i] = s[at + i];
+        i += 1;
+    }
+    if n < 48 {
+        b[n] = closing;
+    }
+    b
+}
+
+// Block j of the string of these bytes and this closing byte, whole or last.
+fn load_block(s: &[u8], closing: u8, j: usize) -> [u32; 12]
+    requires { ⌜ (0 < closing) × (48 * j ≤ length (now s)) × (length (now s) ≤ 16401) ⌝ }
+    ensures { λ r. ⌜ r ≡ block (closedBy (now (s .entry)) closing) j ⌝ }
+{
+    let b = block_bytes(s, closing, j);
+    xoodoo::from_bytes(&b)
+}
+
+// The mask k of a key: one permutation.
+pub fn key_mask(key: &[u8]) -> [u32; 12]
+    requires { ⌜ length (now key) ≤ 47 ⌝ }
+    ensures { λ r. ⌜ r ≡ keyMask (now (key .entry)) ⌝ }
+{
+    let b = load_block(key, 1, 0);
+    xoodoo::permute(b)
+}
+
+// The accumulator with one more block, to which this mask is added.
+fn add_block(acc: [u32; 12], mask: [u32; 12], b: [u32; 12]) -> [u32; 12]
+    ensures { λ r. ⌜ r ≡ sum acc (perm (sum b mask)) ⌝ }
+{
+    let x = xoodoo::add(b, mask);
+    let p = xoodoo::permute(x);
+    xoodoo::add(acc, p)
+}
+
+// One more string, of these bytes and this closing byte: block by block, and the mask rolled once more for the blank index.
+pub fn compress(d: DeckState, s: &[u8], closing: u8) -> Compressed
+    requires { ⌜ (0 < closing) × (length (now s) ≤ 16401) × (d .index ≤ 1048576) ⌝ }
+    ensures { λ r. ⌜ r ≡ compressed d (closedBy (now (s .entry)) closing) ⌝ }
+{
+    let mut acc = d.acc;
+    let mut mask = d.mask;
+    let mut j: usize = 0;
+    while 48 * j <= s.len() {
+        let b = load_block(s, closing, j);
+        let x = add_block(acc, mask, b);
+        acc = x;
+        let m = xoodoo::roll_in(mask);
+        mask = m;
+        j += 1;
+    }
+    let blank = xoodoo::roll_in(mask);
+    let count = j as u32;
+    let index = d.index + count + 1;
+    let state = DeckState {
+        acc,
+        mask: blank,
+        index,
+    };
+    Compressed { state, count }
+}
+
+// y after n output rollings.
+fn roll_by(y: [u32; 12], n: usize) -> [u32; 12]
+    ensures { λ r. ⌜ r ≡ iterate n rollOut y ⌝ }
+{
+    let mut z = y;
+    let mut i: usize = 0;
+    while i < n {
+        let t = xoodoo::roll_out(z);
+        z = t;
+        i += 1;
+    }
+    z
+}
+
+// The bytes of the output block that the rolled state y gives.
+fn output_bytes(y: [u32; 12], mask: &[u32; 12]) -> [u8; 48]
+    ensures { λ r. ⌜ r ≡ toBytes (sum (perm y) (now (mask .entry))) ⌝ }
+{
+    let p = xoodoo::permute(y);
+    let k = *mask;
+    let o = xoodoo::add(p, k);
+    xoodoo::to_bytes(&o)
+}
+
+// Adds the bytes of a block from byte `skip` on to the buffer from byte `at` on, as many as there are and fit; gives their number.
+fn xor_bytes(block: &[u8; 48], skip: usize, at: usize, out: &mut [u8]) -> usize
+    requires { ⌜ (skip < 48) × (at ≤ length (now out)) ⌝ }
+    ensures { λ r. ⌜ (r ≡ min (48 - skip) (length (now (out .entry)) - at))
+        × Added (λ k. getD (now (block .entry)) (skip + k) 0) at r (now (out .entry)) (now (out .exit)) ⌝ }
+{
+    let n = smaller(48 - skip, out.len() - at);
+    let mut i: usize = 0;
+    while i < n {
+        out[at + i] ^= block[skip + i];
+        i += 1;
+    }
+    n
+}
+
+// Adds the output bytes from byte `from` on to the buffer, of the output that starts from the rolled state y; gives the permutations done.
+pub fn expand(y: [u32; 12], mask: &[u32; 12], from: usize, out: &mut [u8]) -> u32
+    requires { ⌜ from + length (now out) ≤ 65536 ⌝ }
+    ensures { λ r. ⌜ (now (out .exit) ≡ sum (now (out .entry)) (run (outputByte y (now (mask .entry))) from (length (now (out .entry)))))
+        × (r ≡ outputBlocks from (length (now (out .entry)))) ⌝ }
+{
+    let mut z = roll_by(y, from / 48);
+    let mut at: usize = 0;
+    let mut count: u32 = 0;
+    while at < out.len() {
+        let b = output_bytes(z, mask);
+        at += xor_bytes(&b, (from + at) % 48, at, out);
+        let t = xoodoo::roll_out(z);
+        z = t;
+        count += 1;
+    }
+    count
 }

@@ -1,0 +1,225 @@
+-- What the loops of the leaves hold, over plain values. Assumes nothing.
+use mathlib.Core.Path.{_≡_, refl, sym, ap, ap₂, _∙_}
+use mathlib.Core.List.{List, [], _∷_, _++_}
+use Prim.Native.Nat.{ℕ, zero, suc, _+_, _-_, _/_, _%_, _≤_, _<_, min}
+use native.Mathlib.Decide.{decLe}
+use native.Mathlib.Nat.{zero-add}
+use native.Mathlib.Omega.{arith}
+use lib.Bits.{bitXor}
+use lib.ListN.{length, getD, set, replicate, getD-replicate, length-set, length-append, List·getD-append, List·getD-eq-default}
+use lib.Seq.{getD-set-same, getD-set-other, getD-append-seam, ext-getD}
+use Rattle.word.specs.Lists.{tabulate, sum}
+use Rattle.word.proofs.Lists.{Filled, filled-more, tabulate-is, tabulate-at, tabulate-length, sum-at, sum-length}
+use Rattle.xoodoo.specs.Xoodoo.{perm}
+use Rattle.xoodoo.specs.Rolling.{rollIn, rollOut}
+use Rattle.xoodoo.specs.Bytes.{stateByte, toBytes}
+use Rattle.xoofff.specs.declared.DeckState.{DeckState}
+use Rattle.xoofff.specs.declared.Compressed.{Compressed}
+use Rattle.xoofff.specs.Strings.{Str, block, blocks}
+use Rattle.xoofff.specs.Deck.{iterate, maskAt, addBlocks, indexGrowth, outputBlock, outputByte, run}
+use Rattle.xoofff.specs.Incremental.{append}
+use Rattle.xoofff.specs.Leaves.{Added, outputBlocks, compressed}
+use Rattle.xoofff.proofs.Deck.{iterate-more, maskAt-more, addBlocks-more}
+
+-- ---- the bytes of a block
+
+-- byte i of the bytes s and the closing byte c, and 0 past them
+abbrev pub closedAt : List ℕ → ℕ → ℕ → ℕ
+closedAt s c i = getD (s ++ c ∷ []) i 0
+
+closed-in : (s : List ℕ) (c i : ℕ) → i < length s → getD s i 0 ≡ closedAt s c i
+closed-in s c i h = sym (List·getD-append s (c ∷ []) 0 i h)
+
+closed-end : (s : List ℕ) (c i : ℕ) → i ≡ length s → c ≡ closedAt s c i
+closed-end s c i h = sym (ap (closedAt s c) h ∙ getD-append-seam s c [] 0)
+
+closed-past : (s : List ℕ) (c i : ℕ) → length s < i → closedAt s c i ≡ 0
+closed-past s c i h = List·getD-eq-default (s ++ c ∷ []) 0 (omega (arith, length-append s (c ∷ [])))
+
+-- the elements of b from i on are 0
+abbrev pub Clear : List ℕ → ℕ → Type 0
+Clear b i = (k : ℕ) → i ≤ k → getD b k 0 ≡ 0
+
+pub clear-more : (b : List ℕ) (i v : ℕ) → Clear b i → Clear (set b i v) (i + 1)
+clear-more b i v h k l = getD-set-other b i k v 0 (λ e. omega (arith, e)) ∙ h k (omega arith)
+
+-- the block at `at`: what a loop has copied and what it has not reached yet
+pub record Copied (s : List ℕ) (c at : ℕ) (b : List ℕ) (i : ℕ) : Type 0 where
+  pub size : length b ≡ 48
+  pub filled : Filled (λ k. closedAt s c (at + k)) b i
+  pub clear : Clear b i
+
+pub copied-none : (s : List ℕ) (c at : ℕ) → Copied s c at (replicate 48 0) 0
+copied-none s c at =
+    record {
+      size = refl;
+      filled = λ k h. absurd (omega arith);
+      clear = λ k h. go k (decLe 48 k);
+    }
+  where
+    go : (k : ℕ) → Dec (48 ≤ k) → _≡_ {A = ℕ} (getD (replicate 48 0) k 0) 0
+    go k (yes p) = List·getD-eq-default (replicate 48 0) 0 p
+    go k (no p) = getD-replicate 48 k 0 0 (omega (arith, p))
+
+pub copied-byte : (s : List ℕ) (c at : ℕ) (b : List ℕ) (i : ℕ) → i < 48 → at + i < length s → Copied s c at b i → Copied s c at (set b i (getD s (at + i) 0)) (i + 1)
+copied-byte s c at b i h l d =
+    record {
+      size = length-set b i (getD s (at + i) 0) ∙ d .size;
+      filled = filled-more (λ k. closedAt s c (at + k)) b i (getD s (at + i) 0) (omega (arith, d .size)) (closed-in s c (at + i) l) (d .filled);
+      clear = clear-more b i (getD s (at + i) 0) (d .clear);
+    }
+
+-- a block with the closing byte in it
+pub closed-block : (s : List ℕ) (c at : ℕ) (b : List ℕ) (n : ℕ) → n < 48 → at + n ≡ length s → Copied s c at b n → set b n c ≡ run (closedAt s c) at 48
+closed-block s c at b n h e d = tabulate-is 48 (λ k. closedAt s c (at + k)) (set b n c) (length-set b n c ∙ d .size) (λ k l. go k (decLe k n))
+  where
+    go : (k : ℕ) → Dec (k ≤ n) → getD (set b n c) k 0 ≡ closedAt s c (at + k)
+    go k (yes p) = filled-more (λ k. closedAt s c (at + k)) b n c (omega (arith, d .size)) (closed-end s c (at + n) e) (d .filled) k (omega arith)
+    go k (no p) = clear-more b n c (d .clear) k (omega (arith, p)) ∙ sym (closed-past s c (at + k) (omega (arith, p)))
+
+-- a block without it
+pub whole-block : (s : List ℕ) (c at : ℕ) (b : List ℕ) → Copied s c at b 48 → b ≡ run (closedAt s c) at 48
+whole-block s c at b d = tabulate-is 48 (λ k. closedAt s c (at + k)) b (d .size) (d .filled)
+
+-- ---- compression
+
+-- one more block, by the mask at its index
+pub block-added : (k : List ℕ) (s : Str) (j : ℕ) (x a m : List ℕ) {b t : List ℕ} → a ≡ addBlocks k 0 s j x → m ≡ maskAt k j → b ≡ block s j
+    → t ≡ sum a (perm (sum b m)) → t ≡ addBlocks k 0 s (j + 1) x
+block-added k s j x a m {b} {t} ea em eb e = e ∙ ap₂ (λ (u v : List ℕ). sum u (perm v)) ea (ap₂ sum eb em) ∙ sym (addBlocks-more k s j x)
+
+pub mask-rolled : (k : List ℕ) (j : ℕ) (m t : List ℕ) → m ≡ maskAt k j → t ≡ rollIn m → t ≡ maskAt k (j + 1)
+mask-rolled k j m t h e = e ∙ ap rollIn h ∙ sym (maskAt-more k j)
+
+-- after the last block: the string's state and its count
+pub all-added : (d : DeckState) (s : Str) (a m : List ℕ) (j i : ℕ) → j ≡ blocks s → a ≡ addBlocks (d .mask) 0 s j (d .acc) → m ≡ maskAt (d .mask) (j + 1) → i ≡ d .index + j + 1
+    → _≡_ {A = Compressed} (record { state = record { acc = a; mask = m; index = i }; count = j }) (compressed d s)
+unfolding compressed append indexGrowth
+all-added d s a m j i ej ea em ei =
+    let ei′ : i ≡ d .index + (j + 1) = omega arith in
+    (λ t. record { state = record { acc = ea t; mask = em t; index = ei′ t }; count = j })
+    ∙ ap {B = Compressed} (λ (n : ℕ). record { state = record { acc = addBlocks (d .mask) 0 s n (d .acc); mask = maskAt (d .mask) (n + 1); index = d .index + (n + 1) }; count = n }) ej
+
+-- ---- runs added to a buffer
+
+pub added-none : (f : ℕ → ℕ) (at : ℕ) (o : List ℕ) → Added f at 0 o o
+added-none f at o = record { size = refl; sums = λ k h. absurd (omega arith); front = λ k h. refl; rest = λ k h. refl }
+
+-- one more byte
+pub added-byte : (f : ℕ → ℕ) (at i : ℕ) (o o′ : List ℕ) (v : ℕ) → at + i < length o → v ≡ bitXor (getD o′ (at + i) 0) (f i) → Added f at i o o′ → Added f at (i + 1) o (set o′ (at + i) v)
+added-byte f at i o o′ v h e d =
+    record {
+      size = length-set o′ (at + i) v ∙ d .size;
+      sums = λ k l. go k l (decLe i k);
+      front = λ k l. getD-set-other o′ (at + i) k v 0 (λ q. omega (arith, q)) ∙ d .front k l;
+      rest = λ k l. getD-set-other o′ (at + i) k v 0 (λ q. omega (arith, q)) ∙ d .rest k (omega arith);
+    }
+  where
+    go : (k : ℕ) → k < i + 1 → Dec (i ≤ k) → getD (set o′ (at + i) v) (at + k) 0 ≡ bitXor (getD o (at + k) 0) (f k)
+    go k l (yes p) =
+        let q : i ≡ k = omega arith in
+        let r : at + k ≡ at + i = omega arith in
+        ap (λ (n : ℕ). getD (set o′ (at + i) v) n 0) r
+        ∙ getD-set-same o′ (at + i) v 0 (omega (arith, d .size))
+        ∙ e
+        ∙ ap (λ (n : ℕ). bitXor n (f i)) (d .rest (at + i) (omega arith))
+        ∙ ap (λ (n : ℕ). bitXor (getD o (at + n) 0) (f n)) q
+    go k l (no p) = getD-set-other o′ (at + i) (at + k) v 0 (λ q. omega (arith, q, p)) ∙ d .sums k (omega (arith, p))
+
+-- a second run directly after the first
+pub added-run : (f g : ℕ → ℕ) (m n : ℕ) (o o′ o″ : List ℕ) → ((k : ℕ) → k < n → g k ≡ f (m + k)) → Added f 0 m o o′ → Added g m n o′ o″ → Added f 0 (m + n) o o″
+added-run f g m n o o′ o″ e a d =
+    record {
+      size = d .size ∙ a .size;
+      sums = λ k l. let z : 0 + k ≡ k = zero-add k in ap (λ (i : ℕ). getD o″ i 0) z ∙ go k l (decLe m k) ∙ ap (λ (i : ℕ). bitXor (getD o i 0) (f k)) (sym z);
+      front = λ k l. absurd (omega arith);
+      rest = λ k l. d .rest k (omega arith) ∙ a .rest k (omega arith);
+    }
+  where
+    go : (k : ℕ) → k < m + n → Dec (m ≤ k) → getD o″ k 0 ≡ bitXor (getD o k 0) (f k)
+    go k l (yes p) =
+        let q : k ≡ m + (k - m) = omega arith in
+        ap (λ (i : ℕ). getD o″ i 0) q
+        ∙ d .sums (k - m) (omega arith)
+        ∙ ap₂ bitXor (a .rest (m + (k - m)) (omega arith)) (e (k - m) (omega arith))
+        ∙ ap (λ (i : ℕ). bitXor (getD o i 0) (f i)) (sym q)
+    go k l (no p) =
+        let z : k ≡ 0 + k = sym (zero-add k) in
+        d .front k (omega (arith, p)) ∙ ap (λ (i : ℕ). getD o′ i 0) z ∙ a .sums k (omega (arith, p)) ∙ ap (λ (i : ℕ). bitXor (getD o i 0) (f k)) (sym z)
+
+-- the whole buffer
+pub added-all : (f : ℕ → ℕ) (n : ℕ) (o o′ : List ℕ) → n ≡ length o → Added f 0 n o o′ → o′ ≡ sum o (tabulate (length o) f)
+added-all f n o o′ e a =
+    let t : length (tabulate (length o) f) ≡ length o = tabulate-length (length o) f in
+    let s : length (sum o (tabulate (length o) f)) ≡ length o = sum-length o (tabulate (length o) f) (omega arith) in
+    ext-getD 0 o′ (sum o (tabulate (length o) f)) (a .size ∙ sym s)
+    (λ k l.
+    let h : k < length o = omega (arith, a .size) in
+    let z : k ≡ 0 + k = sym (zero-add k) in
+    ap (λ (i : ℕ). getD o′ i 0) z
+    ∙ a .sums k (omega (arith, e))
+    ∙ ap (λ (i : ℕ). bitXor (getD o i 0) (f k)) (sym z)
+    ∙ sym (sum-at o (tabulate (length o) f) k h (omega arith) ∙ ap (bitXor (getD o k 0)) (tabulate-at (length o) f k h)))
+
+-- ---- expansion
+
+-- what the bytes of one output block are in the output: from byte p on, in the block that p lies in
+pub block-bytes : (y k′ z : List ℕ) (p j n k : ℕ) → p / 48 ≡ j → z ≡ iterate j rollOut y → n ≤ 48 - p % 48 → k < n
+    → getD (toBytes (sum (perm z) k′)) (p % 48 + k) 0 ≡ outputByte y k′ (p + k)
+unfolding outputByte outputBlock
+block-bytes y k′ z p j n k ej ez hn hk =
+    let q : j ≡ (p + k) / 48 = omega arith in
+    let r : p % 48 + k ≡ (p + k) % 48 = omega arith in
+    tabulate-at 48 (stateByte (sum (perm z) k′)) (p % 48 + k) (omega arith)
+    ∙ ap₂ stateByte (ap (λ (u : List ℕ). sum (perm u) k′) (ez ∙ ap (λ (i : ℕ). iterate i rollOut y) q)) r
+
+pub no-blocks : (i : ℕ) → 0 ≡ outputBlocks i 0
+unfolding outputBlocks
+no-blocks i = refl
+
+blocks-of : (i n : ℕ) → 0 < n → outputBlocks i n ≡ (i + (n - 1)) / 48 + 1 - i / 48
+unfolding outputBlocks
+blocks-of i zero h = absurd (omega arith)
+blocks-of i (suc n) h = let e : n ≡ suc n - 1 = omega arith in ap (λ (k : ℕ). (i + k) / 48 + 1 - i / 48) e
+
+-- one more block, of which n bytes were taken
+pub blocks-more : (i m n c : ℕ) → (i + m) / 48 ≡ i / 48 + c → 0 < n → n ≤ 48 - (i + m) % 48 → c + 1 ≡ outputBlocks i (m + n)
+blocks-more i m n c e h l = omega (arith, blocks-of i (m + n) (omega arith))
+
+pub blocks-most : (i n : ℕ) → outputBlocks i n ≤ n
+unfolding outputBlocks
+blocks-most i zero = omega arith
+blocks-most i (suc n) = omega arith
+
+-- after `count` output blocks: the first n bytes of the buffer have their sums, and z is the state that the next block is made from
+pub record Expanded (y k′ : List ℕ) (from : ℕ) (o : List ℕ) (n : ℕ) (z o′ : List ℕ) (count : ℕ) : Type 0 where
+  pub rolled : z ≡ iterate (from / 48 + count) rollOut y
+  pub added : Added (λ k. outputByte y k′ (from + k)) 0 n o o′
+
+pub expanded-none : (y k′ : List ℕ) (from : ℕ) (o z : List ℕ) → z ≡ iterate (from / 48) rollOut y → Expanded y k′ from o 0 z o 0
+expanded-none y k′ from o z e =
+    let h : from / 48 ≡ from / 48 + 0 = omega arith in
+    record { rolled = e ∙ ap (λ (i : ℕ). iterate i rollOut y) h; added = added-none (λ k. outputByte y k′ (from + k)) 0 o }
+
+-- one more block b, of which n bytes were added: those of the output from byte from + m on
+pub expanded-more : (y k′ : List ℕ) (from : ℕ) (o z o′ o″ : List ℕ) (m n count : ℕ) (b t : List ℕ)
+    → (from + m) / 48 ≡ from / 48 + count → n ≤ 48 - (from + m) % 48 → b ≡ toBytes (sum (perm z) k′) → t ≡ rollOut z
+    → Added (λ k. getD b ((from + m) % 48 + k) 0) m n o′ o″ → Expanded y k′ from o m z o′ count → Expanded y k′ from o (m + n) t o″ (count + 1)
+expanded-more y k′ from o z o′ o″ m n count b t e h eb et d x =
+    let i : from / 48 + count + 1 ≡ from / 48 + (count + 1) = omega arith in
+    record {
+      rolled = et ∙ ap rollOut (x .rolled) ∙ sym (iterate-more rollOut (from / 48 + count) y) ∙ ap (λ (j : ℕ). iterate j rollOut y) i;
+      added =
+          added-run (λ k. outputByte y k′ (from + k)) (λ k. getD b ((from + m) % 48 + k) 0) m n o o′ o″
+          (λ k l.
+          let a : from + m + k ≡ from + (m + k) = omega arith in
+          ap (λ (u : List ℕ). getD u ((from + m) % 48 + k) 0) eb
+          ∙ block-bytes y k′ z (from + m) (from / 48 + count) n k e (x .rolled) h l
+          ∙ ap (outputByte y k′) a)
+          (x .added) d;
+    }
+
+-- what one more block does to the place and the count
+pub place-more : (from m n count L : ℕ) → (from + m) / 48 ≡ from / 48 + count → n ≡ min (48 - (from + m) % 48) (L - m) → m + n < L
+    → (from + (m + n)) / 48 ≡ from / 48 + (count + 1)
+place-more from m n count L e h l = omega arith
