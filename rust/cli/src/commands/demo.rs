@@ -24,39 +24,43 @@ pub fn run(_: &Arguments, out: &mut dyn Write) -> Result<(), Failure> {
     let folder = Folder::new()?;
     print(
         out,
-        "The office begins a day with an allowance of 200 and opens three groups; each starts with the same key.\n",
+        "The office begins a day with an allowance of 200 and opens three groups, each with a key of its own.\n",
     )?;
     open_all(&folder)?;
     print(out, "\nThe office sends each group a block of ring numbers:\n")?;
     for (group, block, _) in BLOCKS {
-        let sealed = folder.office_seals(group, block)?;
-        let opened = folder.group_opens(group, &format!("to-{group}"))?;
-        print(out, &format!("  group {group:2}: {sealed} Arrived: {opened}\n"))?;
+        let envelope = folder.office_seals(group, block)?;
+        let opened = folder.group_opens(group)?;
+        print(
+            out,
+            &format!("  group {group:2}: an envelope of {envelope} bytes goes out and is opened as {opened}\n"),
+        )?;
     }
     print(out, "\nThe groups return the numbers that they did not use:\n")?;
     for (group, _, unused) in BLOCKS {
-        let sealed = folder.group_seals(group, unused)?;
-        print(out, &format!("  group {group:2}: {sealed}"))?;
+        let envelope = folder.group_seals(group, unused)?;
         if group == BLOCKS[0].0 {
-            print(out, "\n    Damaged on its way, one bit changed:\n")?;
+            print(out, &format!("  group {group:2}: an envelope of {envelope} bytes comes in, damaged in one bit:\n"))?;
             folder.damage("from-4", "damaged")?;
             folder.refused(out, &["office", "unseal", "--in", "damaged", "--out", "text"], "office.state")?;
-            print(out, "    Sent again, whole:")?;
         }
         let opened = folder.office_opens(group)?;
-        print(out, &format!(" Arrived: {opened}\n"))?;
+        print(
+            out,
+            &format!("  group {group:2}: an envelope of {envelope} bytes comes in and is opened as {opened}\n"),
+        )?;
     }
     print(out, "\nOther arrivals that are refused:\n")?;
-    print(out, "  repeated, the office gets group 11's envelope a second time:\n")?;
+    print(out, "  repeated: the office gets the envelope of group 11 a second time:\n")?;
     folder.refused(out, &["office", "unseal", "--in", "from-11", "--out", "text"], "office.state")?;
-    print(out, "  misdirected, group 27 gets the envelope for group 4:\n")?;
+    print(out, "  misdirected: group 27 gets the envelope for group 4:\n")?;
     folder.refused(out, &["group", "unseal", "--in", "to-4", "--out", "text"], "group-27.state")?;
-    print(out, "  misdirected, and somebody wrote 27 on it:\n")?;
+    print(out, "  misdirected, and readdressed to 27:\n")?;
     folder.readdress("to-4", "S,4,", "S,27,", "readdressed")?;
     folder.refused(out, &["group", "unseal", "--in", "readdressed", "--out", "text"], "group-27.state")?;
     print(out, "\nWhat the office holds:\n")?;
     print(out, &indented(&folder.play(&["office", "show"], "office.state")?))?;
-    print(out, "What the groups hold:\n")?;
+    print(out, "\nWhat the groups hold:\n")?;
     for (group, ..) in BLOCKS {
         print(out, &indented(&folder.play(&["group", "show"], &format!("group-{group}.state"))?))?;
     }
@@ -113,23 +117,28 @@ impl Folder {
         Ok(String::from_utf8_lossy(&printed).into_owned())
     }
 
-    fn office_seals(&self, group: u32, text: &str) -> Result<String, Failure> {
+    /// The office seals a message for a group. Gives the envelope's length.
+    fn office_seals(&self, group: u32, text: &str) -> Result<usize, Failure> {
         self.write("text", text.as_bytes())?;
         let (number, file) = (group.to_string(), format!("to-{group}"));
-        let words =
-            ["office", "seal", "--group", &number, "--metadata-text", "rings", "--message", "text", "--out", &file];
-        self.play(&words, "office.state").map(|line| line.trim_end().to_string())
+        let mut words = vec!["office", "seal", "--group", &number, "--metadata-text", "rings"];
+        words.extend(["--message", "text", "--out", &file]);
+        self.play(&words, "office.state")?;
+        Ok(self.read(&file)?.len())
     }
 
-    fn group_seals(&self, group: u32, text: &str) -> Result<String, Failure> {
+    /// A group seals a message for the office. Gives the envelope's length.
+    fn group_seals(&self, group: u32, text: &str) -> Result<usize, Failure> {
         self.write("text", text.as_bytes())?;
         let file = format!("from-{group}");
         let words = ["group", "seal", "--metadata-text", "unused", "--message", "text", "--out", &file];
-        self.play(&words, &format!("group-{group}.state")).map(|line| line.trim_end().to_string())
+        self.play(&words, &format!("group-{group}.state"))?;
+        Ok(self.read(&file)?.len())
     }
 
-    fn group_opens(&self, group: u32, file: &str) -> Result<String, Failure> {
-        self.play(&["group", "unseal", "--in", file, "--out", "opened"], &format!("group-{group}.state"))?;
+    fn group_opens(&self, group: u32) -> Result<String, Failure> {
+        let words = ["group", "unseal", "--in", &format!("to-{group}"), "--out", "opened"];
+        self.play(&words, &format!("group-{group}.state"))?;
         self.opened()
     }
 
@@ -141,14 +150,14 @@ impl Folder {
     /// The message that was opened last.
     fn opened(&self) -> Result<String, Failure> {
         let text = self.read("opened")?;
-        Ok(format!("\"{}\".", String::from_utf8_lossy(&text)))
+        Ok(format!("\"{}\"", String::from_utf8_lossy(&text)))
     }
 
     /// Runs a command that is to be refused, and prints why.
     fn refused(&self, out: &mut dyn Write, words: &[&str], state: &str) -> Result<(), Failure> {
         match self.play(words, state) {
             Err(failure @ (Failure::Refused(_) | Failure::OtherGroup { .. })) => {
-                print(out, &format!("    {failure}\n"))
+                print(out, &format!("      {failure}\n"))
             }
             Err(failure) => Err(failure),
             Ok(_) => Err(Failure::Demo("an arrival was accepted that had to be refused")),
