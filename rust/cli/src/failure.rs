@@ -31,6 +31,8 @@ pub enum Failure {
     },
     /// Others may read a key.
     OpenKey(PathBuf),
+    /// There is a file in the place of an output.
+    OutputExists(PathBuf),
     /// An input has more bytes than any envelope with its followers should have.
     LargeInput(PathBuf),
     /// The state asks for something else first.
@@ -74,7 +76,7 @@ impl Failure {
             Failure::Demo(_) => 1,
             Failure::Usage(_) => 2,
             Failure::State(_) | Failure::Content { .. } | Failure::NotCounted(..) | Failure::NotNoted(_) => 3,
-            Failure::File { .. } | Failure::OpenKey(_) | Failure::LargeInput(_) => 4,
+            Failure::File { .. } | Failure::OpenKey(_) | Failure::OutputExists(_) | Failure::LargeInput(_) => 4,
             Failure::NotNow(_) => 5,
             Failure::OtherGroup { .. } => 6,
             Failure::Refused(refusal) => 10 + refusal.number.number(),
@@ -104,6 +106,9 @@ impl fmt::Display for Failure {
             Failure::File { what, path, source } => write!(f, "Could not {what} {}: {source}.", path.display()),
             Failure::OpenKey(path) => {
                 write!(f, "Others may read or write the key file {}: take that away with chmod 600.", path.display())
+            }
+            Failure::OutputExists(path) => {
+                write!(f, "There is a file {} already: remove it or choose another output.", path.display())
             }
             Failure::LargeInput(path) => write!(f, "{} is too large to hold an envelope.", path.display()),
             Failure::OtherGroup { asked, own } => {

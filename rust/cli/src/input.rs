@@ -16,14 +16,13 @@ const ENVELOPES_MAX: usize = 1 << 24;
 /// The options that name inputs.
 const INPUTS: [&str; 4] = ["metadata", "message", "in", "key"];
 
-/// The file names of the inputs, and the check that at most one of them is the standard input.
-pub fn names(arguments: &Arguments) -> Result<Vec<&Path>, Failure> {
-    let (standard, files): (Vec<&Path>, Vec<&Path>) =
-        INPUTS.iter().filter_map(|name| arguments.value(name)).map(Path::new).partition(|name| is_standard(name));
-    if standard.len() > 1 {
+/// Checks that at most one of the inputs is the standard input.
+pub fn check_names(arguments: &Arguments) -> Result<(), Failure> {
+    let standard = INPUTS.iter().filter_map(|name| arguments.value(name)).filter(|name| is_standard(Path::new(name)));
+    if standard.count() > 1 {
         return Err(Failure::Usage("Only one input may be `-`, the standard input.".to_string()));
     }
-    Ok(files)
+    Ok(())
 }
 
 /// Whether a name stands for the standard input or output.

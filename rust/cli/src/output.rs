@@ -1,8 +1,11 @@
-//! Writing outputs: a file is written as a whole or not at all.
+//! Writing outputs: a file is written as a whole or not at all, and never takes the place of another.
 //!
 //! The bytes go to a file of another name in the same folder, `.NAME.PROCESS.new`, which is synced and then takes the output's
 //! name in one step. Files are readable and writable by their owner only. What is not a file, as a pipe or a terminal, is
 //! written to directly.
+//!
+//! A file that is there already is left alone: it may be the output of a run that was killed after it had done everything, and
+//! the next message in its place would be the loss of that one.
 
 use std::ffi::{OsStr, OsString};
 use std::fs::{self, File, OpenOptions};
@@ -34,7 +37,7 @@ const STANDARD: &str = "standard output";
 pub enum Output {
     /// To the standard output.
     Standard,
-    /// To a file that is replaced as a whole; its path, with links resolved.
+    /// To a new file; its path, with links resolved.
     File(PathBuf),
     /// To a device, a pipe and the like.
     Direct(PathBuf),
@@ -42,8 +45,8 @@ pub enum Output {
 
 impl Output {
     /// The output of an option, if it was given. What can be known of its place is checked here, before anything is altered;
-    /// the paths in `taken` may not be written to.
-    pub fn of(arguments: &Arguments, option: &str, taken: &[PathBuf]) -> Result<Option<Output>, Failure> {
+    /// it is not one of the state file's own paths.
+    pub fn of(arguments: &Arguments, option: &str, own: &[PathBuf]) -> Result<Option<Output>, Failure> {
         let Some(name) = arguments.value(option).map(Path::new) else { return Ok(None) };
         if is_standard(name) {
             return Ok(Some(Output::Standard));
@@ -52,9 +55,11 @@ impl Output {
             return Ok(Some(Output::Direct(name.to_path_buf())));
         }
         let path = place(name).map_err(Failure::file("find the place of", name))?;
-        if taken.contains(&path) {
-            let sentence = "is an input, the state file, or a file beside it: choose another output.";
-            return Err(Failure::Usage(format!("{} {sentence}", name.display())));
+        if own.contains(&path) {
+            return Err(Failure::Usage(format!(
+                "{} belongs to the state file: choose another output.",
+                name.display()
+            )));
         }
         if path.is_dir() {
             return Err(Failure::file("write to", name)(io::Error::from(ErrorKind::IsADirectory)));
@@ -62,12 +67,20 @@ impl Output {
         Ok(Some(Output::File(path)))
     }
 
+    /// Refuses a file that is there already.
+    pub fn must_be_new(&self) -> Result<(), Failure> {
+        match self {
+            Output::File(path) if path.exists() => Err(Failure::OutputExists(path.clone())),
+            _ => Ok(()),
+        }
+    }
+
     /// Whether it goes to a file, so that the standard output is free for other words.
     pub fn is_file(&self) -> bool {
         matches!(self, Output::File(_))
     }
 
-    /// Writes the bytes; `out` is the standard output.
+    /// Writes the bytes; `out` is the standard output. A file that has just these bytes already is fine.
     pub fn write(&self, bytes: &[u8], out: &mut dyn Write) -> Result<(), Failure> {
         match self {
             Output::Standard => halves(out, bytes)
@@ -76,14 +89,21 @@ impl Output {
             Output::Direct(path) => step("open the output", || OpenOptions::new().write(true).open(path))
                 .and_then(|mut file| halves(&mut file, bytes))
                 .map_err(Failure::file("write to", path)),
-            Output::File(path) => replace(path, bytes).map_err(Failure::file("write", path)),
+            Output::File(path) => {
+                if !has(path, bytes) {
+                    self.must_be_new()?;
+                    create(path, bytes).map_err(Failure::file("write", path))?;
+                }
+                sync_folder(path).map_err(Failure::file("sync the folder of", path))
+            }
         }
     }
 }
 
-/// The paths of inputs, as far as they can be found.
-pub fn places(names: &[&Path]) -> Vec<PathBuf> {
-    names.iter().filter_map(|name| place(name).ok()).collect()
+/// Whether a file has just these bytes.
+fn has(path: &Path, bytes: &[u8]) -> bool {
+    let same_length = fs::metadata(path).is_ok_and(|metadata| metadata.len() == bytes.len() as u64);
+    same_length && fs::read(path).is_ok_and(|content| content == bytes)
 }
 
 /// A path with links resolved. The file itself need not exist, but a link must lead to one.
@@ -93,11 +113,12 @@ fn place(name: &Path) -> io::Result<PathBuf> {
     }
     let own = name.file_name().ok_or(ErrorKind::InvalidInput)?;
     let folder = name.parent().filter(|folder| *folder != Path::new("")).unwrap_or(Path::new("."));
-    Ok(fs::canonicalize(folder)?.join(own))
+    let folder = fs::canonicalize(folder)?;
+    if folder.is_dir() { Ok(folder.join(own)) } else { Err(ErrorKind::NotADirectory.into()) }
 }
 
-/// Replaces a file, or creates it.
-fn replace(path: &Path, bytes: &[u8]) -> io::Result<()> {
+/// Creates a file with these bytes.
+fn create(path: &Path, bytes: &[u8]) -> io::Result<()> {
     let name = path.file_name().ok_or(ErrorKind::InvalidInput)?;
     let folder = path.parent().ok_or(ErrorKind::InvalidInput)?;
     remove_leftovers(folder, name);
@@ -107,8 +128,12 @@ fn replace(path: &Path, bytes: &[u8]) -> io::Result<()> {
         // At worst a leftover stays, which a later output of this name removes.
         let _ = fs::remove_file(&new);
     }
-    written?;
-    let folder = File::open(folder)?;
+    written
+}
+
+/// Brings the file's name to the disk.
+fn sync_folder(path: &Path) -> io::Result<()> {
+    let folder = File::open(path.parent().ok_or(ErrorKind::InvalidInput)?)?;
     step("sync the output's folder", || folder.sync_all())
 }
 

@@ -37,8 +37,8 @@ fn a_season_of_three_groups() {
             } else {
                 (format!("group --state group-{group} seal"), "office --state office unseal".to_string())
             };
-            folder.done(&format!("{from} --metadata metadata --message message --out envelope"));
-            folder.done(&format!("{to} --in envelope --out opened --metadata-out opened-metadata"));
+            folder.done_anew(&format!("{from} --metadata metadata --message message --out envelope"));
+            folder.done_anew(&format!("{to} --in envelope --out opened --metadata-out opened-metadata"));
             assert_eq!(folder.read("opened").unwrap(), message);
             assert_eq!(folder.read("opened-metadata").unwrap(), metadata);
             count += sanse::count(a, m);
@@ -69,12 +69,12 @@ fn a_season_of_three_groups() {
     folder.fails(3, "group --state group-9 start --group 9 --key new-key");
     folder.fails(6, "group --state group-9 start --group 8 --key new-key --replace");
     folder.done("group --state group-9 start --group 9 --key new-key --replace");
-    folder.done("office --state office seal --group 9 --message message --out envelope --metadata-text new");
-    folder.done("group --state group-9 unseal --in envelope --out opened");
+    folder.done_anew("office --state office seal --group 9 --message message --out envelope --metadata-text new");
+    folder.done_anew("group --state group-9 unseal --in envelope --out opened");
     assert_eq!(folder.read("opened"), folder.read("message"));
     // 1 for the opening; 1 + 11 + 4 + 11 for 3 bytes of metadata and 500 of message.
     assert!(folder.done("office --state office show").starts_with("day: count 28 of allowance 28\n"));
-    folder.fails(20, "office --state office seal --group 9 --message message --out envelope");
+    folder.fails(20, "office --state office seal --group 9 --message message --out another");
 }
 
 #[test]
@@ -100,17 +100,17 @@ fn more_bytes_may_follow_an_envelope() {
     let mut places = Vec::new();
     for text in ["one", "two", "three"] {
         folder.write("message", text.as_bytes());
-        folder.done("office --state office seal --group 5 --message message --out envelope");
+        folder.done_anew("office --state office seal --group 5 --message message --out envelope");
         places.push(all.len());
         all.extend(folder.read("envelope").unwrap());
     }
     folder.write("all", &all);
     folder.fails(11, "group --state group unseal --in all --out opened");
-    let told = folder.done("group --state group unseal --in all --from 5 --out opened");
+    let told = folder.done_anew("group --state group unseal --in all --from 5 --out opened");
     assert!(told.contains(&format!("`--from {}`", places[1])), "{told}");
     assert_eq!(folder.read("opened").unwrap(), b"one");
-    folder.done(&format!("group --state group unseal --in all --from {} --out opened", places[1]));
-    let told = folder.done(&format!("group --state group unseal --in all --from {} --out opened", places[2]));
+    folder.done_anew(&format!("group --state group unseal --in all --from {} --out opened", places[1]));
+    let told = folder.done_anew(&format!("group --state group unseal --in all --from {} --out opened", places[2]));
     assert!(!told.contains("--from"), "{told}");
     assert_eq!(folder.read("opened").unwrap(), b"three");
     for from in [all.len(), all.len() + 1, u32::MAX as usize] {
@@ -126,7 +126,7 @@ fn the_independent_implementation_understands_it() {
     for (turn, length) in [0, 1, 47, 48, 49, 96, 1_000, 16_384].into_iter().enumerate() {
         let message = text(turn as u32, length);
         folder.write("message", &message);
-        folder.done("office --state office seal --group 17 --metadata-text out --message message --out envelope");
+        folder.done_anew("office --state office seal --group 17 --metadata-text out --message message --out envelope");
         let bytes = folder.read("envelope").unwrap();
         let parts = envelope::read(&bytes).unwrap();
         let mut opened = vec![0; length];
@@ -138,7 +138,7 @@ fn the_independent_implementation_understands_it() {
         other.wrap(b"back", &message, &mut cryptogram, &mut tag).unwrap();
         let length = envelope::write(17, b"back", &cryptogram, &tag, &mut bytes).unwrap();
         folder.write("envelope", &bytes[..length]);
-        folder.done("office --state office unseal --in envelope --out opened");
+        folder.done_anew("office --state office unseal --in envelope --out opened");
         assert_eq!(folder.read("opened").unwrap(), message);
     }
     let shown = folder.done("office --state office show");

@@ -42,7 +42,7 @@ pub fn run(_: &Arguments, out: &mut dyn Write) -> Result<(), Failure> {
         if group == BLOCKS[0].0 {
             print(out, &format!("  group {group:2}: an envelope of {envelope} bytes comes in, damaged in one bit:\n"))?;
             folder.damage("from-4", "damaged")?;
-            folder.refused(out, &["office", "unseal", "--in", "damaged", "--out", "text"], "office.state")?;
+            folder.refused(out, &["office", "unseal", "--in", "damaged", "--out", "none"], "office.state")?;
         }
         let opened = folder.office_opens(group)?;
         print(
@@ -52,12 +52,12 @@ pub fn run(_: &Arguments, out: &mut dyn Write) -> Result<(), Failure> {
     }
     print(out, "\nOther arrivals that are refused:\n")?;
     print(out, "  repeated: the office gets the envelope of group 11 a second time:\n")?;
-    folder.refused(out, &["office", "unseal", "--in", "from-11", "--out", "text"], "office.state")?;
+    folder.refused(out, &["office", "unseal", "--in", "from-11", "--out", "none"], "office.state")?;
     print(out, "  misdirected: group 27 gets the envelope for group 4:\n")?;
-    folder.refused(out, &["group", "unseal", "--in", "to-4", "--out", "text"], "group-27.state")?;
+    folder.refused(out, &["group", "unseal", "--in", "to-4", "--out", "none"], "group-27.state")?;
     print(out, "  misdirected, and readdressed to 27:\n")?;
     folder.readdress("to-4", "S,4,", "S,27,", "readdressed")?;
-    folder.refused(out, &["group", "unseal", "--in", "readdressed", "--out", "text"], "group-27.state")?;
+    folder.refused(out, &["group", "unseal", "--in", "readdressed", "--out", "none"], "group-27.state")?;
     print(out, "\nWhat the office holds:\n")?;
     print(out, &indented(&folder.play(&["office", "show"], "office.state")?))?;
     print(out, "\nWhat the groups hold:\n")?;
@@ -150,6 +150,8 @@ impl Folder {
     /// The message that was opened last.
     fn opened(&self) -> Result<String, Failure> {
         let text = self.read("opened")?;
+        let path = self.0.join("opened");
+        fs::remove_file(&path).map_err(Failure::file("remove", &path))?;
         Ok(format!("\"{}\"", String::from_utf8_lossy(&text)))
     }
 

@@ -4,7 +4,6 @@
 //! out; then that is noted. A next message for the same session does not take the place of one that was never handed out.
 
 use std::io::Write;
-use std::path::PathBuf;
 
 use pevghazo::{Envelope, Number, Refusal, Sealed, envelope};
 
@@ -12,7 +11,7 @@ use super::ENDS;
 use crate::arguments::Arguments;
 use crate::failure::Failure;
 use crate::input;
-use crate::output::{Output, places, tell};
+use crate::output::{Output, tell};
 use crate::state::{Group, Held, Kept, Message, Office, State, waits};
 use crate::usage::Used;
 
@@ -92,11 +91,11 @@ impl End for Group {
 
 /// Seals a message into an envelope.
 pub fn seal<E: End>(arguments: &Arguments, out: &mut dyn Write) -> Result<(), Failure> {
-    let inputs = places(&input::names(arguments)?);
+    input::check_names(arguments)?;
     let metadata = input::metadata(arguments)?;
     let message = input::message(arguments)?;
     let mut used = Used::<E>::open(arguments)?;
-    let output = envelope_output(arguments, &used, inputs)?;
+    let output = main_output(arguments, &used)?;
     let group = used.state.group(arguments)?;
     if waits(&used.state.kept(group)?.envelope) {
         return Err(Failure::NotNow(format!(
@@ -104,6 +103,7 @@ pub fn seal<E: End>(arguments: &Arguments, out: &mut dyn Write) -> Result<(), Fa
             again::<E>("resend", group)
         )));
     }
+    output.must_be_new()?;
     let sealed = used.state.seal(group, &metadata, &message)?;
     let bytes = envelope::write(group, &metadata, &sealed.cryptogram, &sealed.tag)?;
     let length = bytes.len();
@@ -122,11 +122,10 @@ pub fn seal<E: End>(arguments: &Arguments, out: &mut dyn Write) -> Result<(), Fa
 
 /// Opens an envelope that arrived.
 pub fn unseal<E: End>(arguments: &Arguments, out: &mut dyn Write) -> Result<(), Failure> {
-    let inputs = places(&input::names(arguments)?);
     let bytes = input::envelope(arguments)?;
-    let arrival = envelope::read(&bytes)?;
     let mut used = Used::<E>::open(arguments)?;
-    let outputs = message_outputs(arguments, &used, inputs)?;
+    let outputs = message_outputs(arguments, &used)?;
+    let arrival = envelope::read(&bytes)?;
     let group = arrival.group;
     used.state.takes(group)?;
     if waits(&used.state.kept(group)?.message) {
@@ -135,6 +134,7 @@ pub fn unseal<E: End>(arguments: &Arguments, out: &mut dyn Write) -> Result<(), 
             again::<E>("reread", group)
         )));
     }
+    outputs.must_be_new()?;
     let text = match used.state.unseal(&arrival) {
         Ok(text) => text,
         Err(refusal) if refusal.number == Number::WrongTag => {
@@ -169,7 +169,7 @@ pub fn unseal<E: End>(arguments: &Arguments, out: &mut dyn Write) -> Result<(), 
 /// Hands out the last envelope again.
 pub fn resend<E: End>(arguments: &Arguments, out: &mut dyn Write) -> Result<(), Failure> {
     let mut used = Used::<E>::open(arguments)?;
-    let output = envelope_output(arguments, &used, Vec::new())?;
+    let output = main_output(arguments, &used)?;
     let group = used.state.group(arguments)?;
     if used.state.kept(group)?.envelope.is_none() {
         return Err(Failure::NotNow(format!(
@@ -186,7 +186,7 @@ pub fn resend<E: End>(arguments: &Arguments, out: &mut dyn Write) -> Result<(), 
 /// Hands out the last message again.
 pub fn reread<E: End>(arguments: &Arguments, out: &mut dyn Write) -> Result<(), Failure> {
     let mut used = Used::<E>::open(arguments)?;
-    let outputs = message_outputs(arguments, &used, Vec::new())?;
+    let outputs = message_outputs(arguments, &used)?;
     let group = used.state.group(arguments)?;
     if used.state.kept(group)?.message.is_none() {
         return Err(Failure::NotNow(format!("No message of group {group} is kept: none was opened.")));
@@ -198,11 +198,11 @@ pub fn reread<E: End>(arguments: &Arguments, out: &mut dyn Write) -> Result<(), 
     Ok(())
 }
 
-/// Where an envelope goes.
-fn envelope_output<E: End>(arguments: &Arguments, used: &Used<E>, mut taken: Vec<PathBuf>) -> Result<Output, Failure> {
-    taken.extend(used.own_paths());
+/// Where an envelope goes, or a message.
+fn main_output<E: End>(arguments: &Arguments, used: &Used<E>) -> Result<Output, Failure> {
     arguments.required("out")?;
-    Output::of(arguments, "out", &taken)?.ok_or_else(|| Failure::Usage("The option --out is missing.".to_string()))
+    let output = Output::of(arguments, "out", &used.own_paths())?;
+    output.ok_or_else(|| Failure::Usage("The option --out is missing.".to_string()))
 }
 
 /// Where a message and its metadata go.
@@ -216,13 +216,17 @@ impl Outputs {
     fn are_files(&self) -> bool {
         self.message.is_file() && self.metadata.as_ref().is_none_or(Output::is_file)
     }
+
+    /// Refuses files that are there already.
+    fn must_be_new(&self) -> Result<(), Failure> {
+        self.metadata.as_ref().map_or(Ok(()), Output::must_be_new)?;
+        self.message.must_be_new()
+    }
 }
 
-fn message_outputs<E: End>(arguments: &Arguments, used: &Used<E>, taken: Vec<PathBuf>) -> Result<Outputs, Failure> {
-    let mut all = used.own_paths();
-    all.extend(taken.iter().cloned());
-    let metadata = Output::of(arguments, "metadata-out", &all)?;
-    let message = envelope_output(arguments, used, taken)?;
+fn message_outputs<E: End>(arguments: &Arguments, used: &Used<E>) -> Result<Outputs, Failure> {
+    let metadata = Output::of(arguments, "metadata-out", &used.own_paths())?;
+    let message = main_output(arguments, used)?;
     if metadata.as_ref() == Some(&message) {
         return Err(Failure::Usage("Message and metadata cannot go to the same output.".to_string()));
     }

@@ -105,6 +105,15 @@ impl Folder {
         String::from_utf8(run.printed).unwrap()
     }
 
+    /// The same, with the outputs that the line names removed before.
+    pub fn done_anew(&self, line: &str) -> String {
+        let words: Vec<&str> = line.split_whitespace().collect();
+        for pair in words.windows(2).filter(|pair| ["--out", "--metadata-out"].contains(&pair[0])) {
+            let _ = fs::remove_file(self.0.join(pair[1]));
+        }
+        self.done(line)
+    }
+
     /// Runs the program, which must fail with this status and print nothing, and gives its sentence.
     pub fn fails(&self, status: i32, line: &str) -> String {
         let run = self.run(line);
