@@ -235,7 +235,7 @@ impl Arrival {
             8 => bad.cryptogram.insert(0, 0),
             9 => drop(bad.metadata.pop()),
             10 => bad.metadata.push(0),
-            _ => bad.metadata.extend(bad.cryptogram.drain(..)),
+            _ => bad.metadata.append(&mut bad.cryptogram),
         }
         bad.metadata.truncate(16_384);
         bad.cryptogram.truncate(16_384);
