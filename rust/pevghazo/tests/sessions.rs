@@ -61,10 +61,10 @@ fn accept(random: &mut Random, end: &mut Both, arrival: &Arrival, numbers: &mut 
 fn messages_both_ways() {
     let mut numbers = [0; 12];
     let mut forged = 0;
-    let mut elsewhere = Vec::new();
     cases("messages_both_ways", |random| {
-        let key = key(random);
-        let mut ends = [Both::start(random, &key).0, Both::start(random, &key).0];
+        let (shared, other) = (key(random), key(random));
+        let mut ends = [Both::start(random, &shared).0, Both::start(random, &shared).0];
+        let mut stranger = Both::start(random, &other).0;
         let mut earlier: Vec<Arrival> = Vec::new();
         for _ in 0..1 + random.below(6) {
             let from = random.below(2);
@@ -74,7 +74,9 @@ fn messages_both_ways() {
             if !earlier.is_empty() {
                 wrong.push(earlier[random.below(earlier.len())].clone());
             }
-            wrong.extend(elsewhere.pop());
+            if random.once_in(3) {
+                wrong.push(seal(random, &mut stranger, &mut numbers));
+            }
             for bad in wrong.into_iter().filter(|bad| !bad.travels_as(&arrival)) {
                 refuse(random, &mut ends[1 - from], &bad);
                 forged += 1;
@@ -97,7 +99,6 @@ fn messages_both_ways() {
             refuse(random, &mut ends[from], &back);
             forged += 2;
         }
-        elsewhere = earlier;
     });
     if is_whole_run() {
         assert!(forged > 10_000, "{forged} forged arrivals");
