@@ -349,3 +349,20 @@ pub fn wipe(bytes: &mut [u8]) {
     }
     compiler_fence(Ordering::SeqCst);
 }
+
+#[cfg(test)]
+mod tests {
+    use super::*;
+    use std::mem::MaybeUninit;
+
+    #[test]
+    fn a_dropped_record_is_zero() {
+        let mut place = MaybeUninit::new(Record { acc: [1; 12], mask: [2; 12], index: 3, toggle: true, opened: true });
+        // SAFETY: it is dropped once. The memory is the test's own, and dropping leaves a record there.
+        let record = unsafe {
+            place.assume_init_drop();
+            place.assume_init_ref()
+        };
+        assert!(*record == Record::closed());
+    }
+}
