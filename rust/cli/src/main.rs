@@ -10,7 +10,7 @@
 //! | [`arguments`] | the words and options of a command line, checked against the list of commands |
 //! | [`commands`] | the list of commands, and what each does |
 //! | [`state`] | what a state file holds, and its bytes |
-//! | [`usage`] | opening, locking and committing a state file |
+//! | [`state_file`] | opening, locking and committing a state file |
 //! | [`input`], [`output`] | files and standard streams; an output is written as a whole or not at all |
 //! | [`failure`] | everything that may go wrong, each with a sentence and an exit status |
 //! | [`help`] | the help texts |
@@ -23,7 +23,7 @@ mod help;
 mod input;
 mod output;
 mod state;
-mod usage;
+mod state_file;
 
 use std::io::{Write, stderr, stdout};
 use std::process::ExitCode;

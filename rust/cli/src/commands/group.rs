@@ -10,7 +10,7 @@ use crate::failure::Failure;
 use crate::input;
 use crate::output::{print, tell};
 use crate::state::{Group, Kept, waits};
-use crate::usage::{Used, create};
+use crate::state_file::{Used, create};
 
 /// Starts the session, in a new state file or in the place of the old session.
 pub fn start(arguments: &Arguments, out: &mut dyn Write) -> Result<(), Failure> {

@@ -13,7 +13,7 @@ use crate::failure::Failure;
 use crate::input;
 use crate::output::{Output, tell};
 use crate::state::{Group, Held, Kept, Message, Office, State, waits};
-use crate::usage::Used;
+use crate::state_file::Used;
 
 /// An end of sessions: the office with its table, or a group.
 pub trait End: State {

@@ -10,7 +10,7 @@ use crate::failure::Failure;
 use crate::input;
 use crate::output::{print, tell};
 use crate::state::{Held, Office, waits};
-use crate::usage::{Used, create as create_file};
+use crate::state_file::{Used, create as create_file};
 
 /// Creates the state file.
 pub fn create(arguments: &Arguments, out: &mut dyn Write) -> Result<(), Failure> {
