@@ -15,6 +15,7 @@ test:
 	@bash scripts/tools rt python3 cargo gcc valgrind pkg-config
 	rt fmt --check
 	python3 scripts/vectors.py --check
+	python3 scripts/envelope_vectors.py --check
 	rt staticlib capi
 	$(call CARGO,test) --quiet
 	tests/interface.sh

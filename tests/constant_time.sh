@@ -1,6 +1,6 @@
 #!/usr/bin/env bash
-# Runs tests/constant_time.c under valgrind. It fails where a branch or an address depends on a secret, but for the verdict on the tag:
-# that is one place in pevghazo_unwrap, and one in pevghazo_unwrap_group.
+# Runs tests/constant_time.c under valgrind, for lone sessions and for a group. It fails where a branch or an address depends on a secret,
+# but for the verdict on the tag, which is a single branch.
 set -eu
 cd "$(dirname "$0")/.."
 lib=${PEVGHAZO_LIB_DIR:-target/staticlib}
@@ -14,19 +14,18 @@ command -v valgrind >/dev/null || fail "valgrind is missing (Debian package valg
 mkdir -p "$out"
 echo '#include <valgrind/memcheck.h>' | gcc -fsyntax-only -x c - 2>/dev/null || fail "valgrind/memcheck.h is missing (Debian package valgrind)"
 gcc -O1 -g -std=gnu11 -Wall -Wextra tests/constant_time.c "$lib/libcapi.a" -o "$out/constant_time"
-valgrind --quiet --expensive-definedness-checks=yes --num-callers=6 --log-file="$out/log" "$out/constant_time" || {
-  # The last report is the one that the program stopped at.
-  tail -n 12 "$out/log" >&2
-  fail "failed; all reports are in $out/log"
-}
-# The places of the reports, each with the library's function that it lies under; the two made on purpose are left out.
-awk '/depends on uninitialised|Use of uninitialised/ { kind = $2; place = "" }
-     / (at|by) 0x/ { if (place == "") place = $3
-                     if ($4 ~ /^leak_by_/) kind = ""
-                     if (kind != "" && $4 ~ /^pevghazo_/) { print $4, kind, place; kind = "" } }' "$out/log" | sort -u >"$out/places"
-while read -r function kind place; do
-  case $function in pevghazo_unwrap | pevghazo_unwrap_group) ;; *) fail "a report in $function ($place), see $out/log" ;; esac
-  [ "$kind" = Conditional ] || fail "an address in $function ($place) depends on a secret, see $out/log"
-done <"$out/places"
-many=$(cut -d' ' -f1 "$out/places" | uniq -d)
-[ -z "$many" ] || fail "more than one place in $many, see $out/log"
+for who in lone group; do
+  # The library has no tables for walking its stack, so reports are told apart by their innermost function alone.
+  valgrind --quiet --expensive-definedness-checks=yes --error-limit=no --num-callers=1 --log-file="$out/$who" "$out/constant_time" "$who" || {
+    tail -n 3 "$out/$who" >&2
+    fail "failed; all reports are in $out/$who, the last one is the one that it stopped at"
+  }
+  # Kind and place of each report; the two made on purpose are left out.
+  awk '/Conditional jump/ { kind = "branch" }
+       /Use of uninitialised/ { kind = "address" }
+       / at 0x/ && $4 !~ /^leak_by_/ { print kind, $3, $4 }' "$out/$who" | sort -u >"$out/places"
+  if [ "$(wc -l <"$out/places")" -gt 1 ] || grep -q ^address "$out/places"; then
+    cat "$out/places" >&2
+    fail "$who: more than the verdict's branch depends on a secret; all reports are in $out/$who"
+  fi
+done

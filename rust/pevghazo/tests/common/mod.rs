@@ -1,6 +1,6 @@
 //! Cases, lengths and sessions that are held twice, shared by the comparison tests.
 //!
-//! Each test runs `PEVGHAZO_CASES` cases, 5,000 by default, each from a seed of its own. A failure names the seed, and
+//! Each test runs `PEVGHAZO_CASES` cases, 10,000 by default, each from a seed of its own. A failure names the seed, and
 //! `PEVGHAZO_SEED` runs that case alone.
 #![allow(dead_code)]
 
@@ -41,7 +41,7 @@ pub fn is_whole_run() -> bool {
 pub fn cases(name: &'static str, mut one: impl FnMut(&mut Random)) {
     let seeds = match setting("PEVGHAZO_SEED") {
         Some(seed) => seed..seed + 1,
-        None => 1..setting("PEVGHAZO_CASES").unwrap_or(5_000) + 1,
+        None => 1..setting("PEVGHAZO_CASES").unwrap_or(10_000) + 1,
     };
     for seed in seeds {
         let _case = Case { name, seed };

@@ -1,0 +1,3 @@
+-- What the contracts of the crate `decimal` cite.
+pub mod Decimal
+pub mod Buffer

@@ -1,0 +1,17 @@
+-- `envelope::tag_len` meets its contract: the test says which case of `tagLength` holds. Assumes nothing.
+use mathlib.Core.Path.{sym}
+use borrow.Author.Tests.{eq-eqb, ne-eqb}
+use Rattle.envelope.specs.Layout.{tagLength}
+use Rattle.envelope.proofs.tag_len.Statement.{statement}
+use Rattle.envelope.proofs.tag_len.Tie as tie
+
+returns : tie.Need-returns
+unfolding tagLength
+returns c = sym (simp (eq-eqb _ _ (c .if1 .taken)))
+
+returns-2 : tie.Need-returns-2
+unfolding tagLength
+returns-2 c = sym (simp (ne-eqb _ _ (c .if1 .left)))
+
+pub tag-len-spec : {M : Type 1} → statement M
+tag-len-spec = tie.close (tie.spec returns returns-2)

@@ -1,0 +1,45 @@
+-- Document 01's edges hold, and the bytes after A, M and T at every length. Assumes nothing.
+use mathlib.Core.Bool.{Bool, true, false}
+use mathlib.Core.List.{List, [], _∷_, _++_}
+use mathlib.Core.Path.{_≡_, refl, sym, ap, ap₂, _∙_}
+use Prim.Native.Nat.{ℕ, _+_, _*_, _/_, _%_, _<_, _≤_}
+use native.Mathlib.Omega.{arith}
+use lib.ListN.{length, getD}
+use lib.Seq.{getD-append-seam}
+use Rattle.word.specs.Word.{bit, ofBits}
+use Rattle.word.proofs.Bit.{word-ext}
+use Rattle.xoodoo.specs.Edges.{Hold}
+use Rattle.xoodoo.specs.State.{lanes}
+use Rattle.xoodoo.specs.Rolling.{rollIn, rollOut}
+use Rattle.xoofff.specs.Strings.{bitsOf, padded}
+use Rattle.xoofff.specs.Leaves.{closingByte}
+use Rattle.xoofff.proofs.Closing.{closing-lt}
+use Rattle.xoofff.proofs.Strings.{padded-byteBit}
+use Rattle.modes.specs.Mode.{sanseCount, framed}
+use Rattle.modes.specs.Rules.{growth, startAt}
+use Rattle.modes.specs.Edges.{edgeRows, paddedByte, BytesAfter}
+
+pub edges-hold : Hold edgeRows
+unfolding sanseCount growth closingByte startAt rollIn rollOut lanes ofBits bit
+edges-hold = refl
+
+-- the byte after the last of a string's bytes is the closing byte of its frame bits
+closing-at : (x : List ℕ) (f : List Bool) → length f ≤ 7 → paddedByte (framed x f) (length x) ≡ closingByte f
+closing-at x f h = sym (word-ext (closingByte f) 8 _ (closing-lt f h) at)
+  where
+    n : ℕ
+    n = length x
+
+    at : (z : ℕ) → z < 8 → bit (closingByte f) z ≡ getD (padded (bitsOf (framed x f))) (8 * n + z) false
+    at z l =
+        let q : (8 * n + z) / 8 ≡ n = omega arith in
+        let r : (8 * n + z) % 8 ≡ z = omega arith in
+        sym (padded-byteBit x f h (8 * n + z) ∙ ap₂ (λ (j k : ℕ). bit (getD (x ++ closingByte f ∷ []) j 0) k) q r
+        ∙ ap (λ (y : ℕ). bit y z) (getD-append-seam x (closingByte f) [] 0))
+
+pub bytes-after : (x : List ℕ) (e : Bool) → BytesAfter x e
+unfolding closingByte
+bytes-after x true =
+    record { afterA = closing-at x _ (omega arith); afterM = closing-at x _ (omega arith); afterT = closing-at x _ (omega arith) }
+bytes-after x false =
+    record { afterA = closing-at x _ (omega arith); afterM = closing-at x _ (omega arith); afterT = closing-at x _ (omega arith) }

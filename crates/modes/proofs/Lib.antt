@@ -1,0 +1,13 @@
+-- Laws and theorems that belong to no one function.
+pub mod Papers
+pub mod Steps
+pub mod Sessions
+pub mod Ledgers
+pub mod Entries
+pub mod Delivery
+pub mod Exactly
+pub mod TwoEnds
+pub mod OneCall
+pub mod Fresh
+pub mod Edges
+pub mod Leaves

@@ -1,0 +1,55 @@
+-- Document 01, "Edges, marked for proof": the whole table as rows of one table with one statement over it (`Hold`), with a few rows more;
+-- and the bytes after A, M and T at every length. Assumes nothing.
+use mathlib.Core.Bool.{Bool, true, false, cond}
+use mathlib.Core.List.{List, [], _∷_}
+use mathlib.Core.Path.{_≡_}
+use Prim.Native.Nat.{ℕ, _+_, _*_}
+use lib.ListN.{length, getD, replicate}
+use Rattle.word.specs.Word.{ofBits}
+use Rattle.xoodoo.specs.Edges.{Row, rollingRows}
+use Rattle.xoofff.specs.Strings.{Str, b, bitsOf, padded}
+use Rattle.xoofff.specs.Leaves.{closingByte}
+use Rattle.modes.specs.Mode.{sanseCount, sanseParameters, framed}
+use Rattle.modes.specs.Rules.{growth, startAt}
+
+-- ---- the table
+
+-- the rows, each with what the definitions give and what document 01 says
+abbrev pub edgeRows : List Row
+edgeRows =
+    -- b of 0, 47, 48, 96
+    record { gives = b 0 ∷ b 47 ∷ b 48 ∷ b 96 ∷ []; says = 1 ∷ 1 ∷ 2 ∷ 3 ∷ [] }
+    -- count, A 0 M 0; A 0 M 1; A 20 M 48; A 16,384 M 16,384
+    ∷ record { gives = sanseCount 0 0 ∷ []; says = 3 ∷ [] }
+    ∷ record { gives = sanseCount 0 1 ∷ []; says = 6 ∷ [] }
+    ∷ record { gives = sanseCount 20 48 ∷ []; says = 8 ∷ [] }
+    ∷ record { gives = sanseCount 16384 16384 ∷ []; says = 1030 ∷ [] }
+    -- index growth, A 0 M 0; A 20 M 48
+    ∷ record { gives = growth 0 0 ∷ []; says = 2 ∷ [] }
+    ∷ record { gives = growth 20 48 ∷ []; says = 5 ∷ [] }
+    -- byte after A, after M, after T, at e 0 and 1
+    ∷ record { gives = closingByte (sanseParameters .frameA false) ∷ closingByte (sanseParameters .frameA true) ∷ []; says = 4 ∷ 6 ∷ [] }
+    ∷ record { gives = closingByte (sanseParameters .frameM false) ∷ closingByte (sanseParameters .frameM true) ∷ []; says = 10 ∷ 14 ∷ [] }
+    ∷ record { gives = closingByte (sanseParameters .frameT false) ∷ closingByte (sanseParameters .frameT true) ∷ []; says = 11 ∷ 15 ∷ [] }
+    -- the number of a start with a key of 15, 16, 47, 48 bytes
+    ∷ record {
+      gives = startAt (replicate 15 0) .number ∷ startAt (replicate 16 0) .number ∷ startAt (replicate 47 0) .number ∷ startAt (replicate 48 0) .number ∷ [];
+      says = 4 ∷ 0 ∷ 0 ∷ 4 ∷ [];
+    }
+    -- count, A 48 M 1
+    ∷ record { gives = sanseCount 48 1 ∷ []; says = 8 ∷ [] }
+    -- the rows of the rollings
+    ∷ rollingRows
+
+-- ---- the bytes after A, M and T
+
+-- byte j of a padded string
+abbrev pub paddedByte : Str → ℕ → ℕ
+paddedByte s j = ofBits 8 (λ z. getD (padded (bitsOf s)) (8 * j + z) false)
+
+-- directly after the last of the bytes x stand the frame bits and the padding bit as one byte: 4 or 6 after A, 10 or 14 after M, 11 or 15
+-- after T, for e 0 or 1
+pub record BytesAfter (x : List ℕ) (e : Bool) : Type 0 where
+  pub afterA : paddedByte (framed x (sanseParameters .frameA e)) (length x) ≡ cond e 6 4
+  pub afterM : paddedByte (framed x (sanseParameters .frameM e)) (length x) ≡ cond e 14 10
+  pub afterT : paddedByte (framed x (sanseParameters .frameT e)) (length x) ≡ cond e 15 11

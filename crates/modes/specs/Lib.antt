@@ -1,0 +1,11 @@
+-- The definitions that the contracts and the theorems cite.
+pub mod Call
+pub mod Mode
+pub mod Rules
+pub mod Paper
+pub mod Ledger
+pub mod Exactly
+pub mod OneCall
+pub mod TwoEnds
+pub mod Fresh
+pub mod Edges

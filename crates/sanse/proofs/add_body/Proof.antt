@@ -1,0 +1,37 @@
+-- `sanse::add_body` meets its contract. Assumes nothing.
+use mathlib.Core.Path.{_≡_}
+use Prim.Native.Nat.{ℕ, _+_}
+use native.Mathlib.Omega.{arith}
+use lib.ListN.{length}
+use denote.Ref.{now}
+use borrow.Author.Needs.{needs}
+use Rattle.xoofff.specs.Strings.{b}
+use Rattle.xoofff.specs.Incremental.{append, output}
+use Rattle.xoofff.specs.Leaves.{closedBy}
+use Rattle.steps.specs.Steps.{outputCount}
+use Rattle.sanse.proofs.Calls.{body-none, body-most, body-done}
+use Rattle.sanse.proofs.add_body.Statement.{statement}
+use Rattle.sanse.proofs.add_body.Tie as tie
+
+returns : tie.Need-returns
+returns c =
+    let a = c .before .before .before .before .args in
+    body-none (output (append (a .d) (closedBy (now (a .tag)) (a .closing)))) (b (length (now (a .tag))) + outputCount 0 (length (now (a .text)))) (now (a .text)) (now (a .out)) (c .if1 .taken)
+
+add-result : tie.Need-add-result
+add-result c =
+    let a = c .before .before .before .before .before .before .before .before .before .before .before .args in
+    let x = c .before .before .before .add-keystream in
+    let h = c .before .before .before .before .before .before .compress in
+    omega (arith, body-most (a .d) (h .result) (now (a .text)) (now (a .tag)) (now (a .out)) (now (a .out)) (a .closing) (x .result) (h .ensures) (x .ensures .1))
+
+returns-2 : tie.Need-returns-2
+returns-2 c =
+    let a = c .before .before .before .before .before .before .before .before .before .before .before .args in
+    let x = c .before .before .before .add-keystream in
+    let h = c .before .before .before .before .before .before .compress in
+    body-done (a .d) (h .result) (now (a .text)) (now (a .tag)) (now (a .out)) (x .last .1 .1 .1 .0) (a .closing) (x .result) (h .ensures) (x .ensures .1)
+    (c .before .before .before .before .before .before .before .if1 .left) (x .ensures .0)
+
+pub add-body-spec : {M : Type 1} → statement M
+add-body-spec = tie.close (tie.spec returns (λ c κs. search needs) (λ c κs. search needs) add-result (λ c. search needs) returns-2)

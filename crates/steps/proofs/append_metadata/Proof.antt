@@ -1,0 +1,26 @@
+-- `steps::append_metadata` meets its contract. Assumes nothing.
+use mathlib.Core.Logic.{inl, inr}
+use denote.Ref.{now}
+use borrow.Author.Needs.{needs}
+use Rattle.xoofff.specs.Leaves.{closedBy}
+use Rattle.steps.proofs.History.{appended-a, skipped-a}
+use Rattle.steps.proofs.append_metadata.Statement.{statement}
+use Rattle.steps.proofs.append_metadata.Tie as tie
+
+returns : tie.Need-returns
+returns c =
+    let a = c .before .before .before .before .args in
+    appended-a (a .d) (c .compress .result) (now (a .a)) (now (a .m)) (closedBy (now (a .a)) (a .closing)) (inl (c .before .if1 .taken)) (c .compress .ensures)
+
+returns-2 : tie.Need-returns-2
+returns-2 c =
+    let a = c .before .before .before .before .before .args in
+    appended-a (a .d) (c .compress2 .result) (now (a .a)) (now (a .m)) (closedBy (now (a .a)) (a .closing)) (inr (c .before .if2 .taken)) (c .compress2 .ensures)
+
+returns-3 : tie.Need-returns-3
+returns-3 c =
+    let a = c .before .before .before .before .args in
+    skipped-a (a .d) (now (a .a)) (now (a .m)) (closedBy (now (a .a)) (a .closing)) (c .before .if1 .left) (c .if2 .left)
+
+pub append-metadata-spec : {M : Type 1} → statement M
+append-metadata-spec = tie.close (tie.spec (λ c κs. search needs) returns (λ c κs. search needs) returns-2 returns-3)
