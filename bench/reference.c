@@ -49,14 +49,17 @@ static inline void add_block(uint32_t acc[12], uint32_t mask[12], const uint8_t 
     roll_in(mask);
 }
 
-void reference_compress(uint32_t acc[12], uint32_t mask[12], const uint8_t *s, size_t n) {
+/* Takes in a string; `end` is the byte after it, with the frame bits and the padding bit. */
+static void compress(uint32_t acc[12], uint32_t mask[12], const uint8_t *s, size_t n, uint8_t end) {
     uint8_t last[48] = {0};
     for (; n >= 48; s += 48, n -= 48) add_block(acc, mask, s);
     memcpy(last, s, n);
-    last[n] = 1;
+    last[n] = end;
     add_block(acc, mask, last);
     roll_in(mask);
 }
+
+void reference_compress(uint32_t acc[12], uint32_t mask[12], const uint8_t *s, size_t n) { compress(acc, mask, s, n, 1); }
 
 void reference_expand(const uint32_t y[12], const uint32_t mask[12], uint8_t *out, size_t n) {
     uint32_t z[12], b[12];
@@ -71,4 +74,72 @@ void reference_expand(const uint32_t y[12], const uint32_t mask[12], uint8_t *ou
         for (size_t i = 0; i < k; i++) out[i] ^= bytes[i];
         out += k, n -= k;
     }
+}
+
+/* The bytes after metadata, message and tag, by the toggle. */
+static uint8_t metadata_end(bool e) { return e ? 6 : 4; }
+static uint8_t message_end(bool e) { return e ? 14 : 10; }
+static uint8_t tag_end(bool e) { return e ? 15 : 11; }
+
+/* Adds the deck function's output for this accumulator and mask to `out`. */
+static void output(const uint32_t acc[12], const uint32_t mask[12], uint8_t *out, size_t n) {
+    uint32_t y[12];
+    memcpy(y, acc, 48);
+    permute(y);
+    reference_expand(y, mask, out, n);
+}
+
+void reference_start(pevghazo_session *s, const uint8_t *key, size_t n) {
+    uint8_t padded[48] = {0};
+    memset(s, 0, sizeof *s);
+    memcpy(padded, key, n);
+    padded[n] = 1;
+    memcpy(s->mask, padded, 48);
+    permute(s->mask);
+    s->opened = true;
+}
+
+/* The keystream that this tag gives on top of the history, added to `text`. */
+static void crypt(const pevghazo_session *history, const uint8_t tag[32], uint8_t *text, size_t n) {
+    pevghazo_session s = *history;
+    compress(s.acc, s.mask, tag, 32, tag_end(s.toggle));
+    output(s.acc, s.mask, text, n);
+}
+
+static void take(pevghazo_session *s, const uint8_t *text, size_t n, uint8_t end) {
+    compress(s->acc, s->mask, text, n, end);
+    s->index += (uint32_t)(n / 48 + 2);
+}
+
+void reference_wrap(pevghazo_session *s, const uint8_t *metadata, size_t a, const uint8_t *message, size_t m, uint8_t *out,
+                    uint8_t tag[32]) {
+    if (a > 0 || m == 0) take(s, metadata, a, metadata_end(s->toggle));
+    pevghazo_session history = *s;
+    if (m > 0) take(s, message, m, message_end(s->toggle));
+    memset(tag, 0, 32);
+    output(s->acc, s->mask, tag, 32);
+    memcpy(out, message, m);
+    if (m > 0) crypt(&history, tag, out, m);
+    s->toggle = !s->toggle;
+}
+
+bool reference_unwrap(pevghazo_session *s, const uint8_t *metadata, size_t a, const uint8_t *cryptogram, size_t m,
+                      const uint8_t tag[32], uint8_t *out) {
+    pevghazo_session next = *s;
+    uint8_t found[32] = {0}, differ = 0;
+    if (a > 0 || m == 0) take(&next, metadata, a, metadata_end(s->toggle));
+    memcpy(out, cryptogram, m);
+    if (m > 0) {
+        crypt(&next, tag, out, m);
+        take(&next, out, m, message_end(s->toggle));
+    }
+    output(next.acc, next.mask, found, 32);
+    for (int i = 0; i < 32; i++) differ |= found[i] ^ tag[i];
+    if (differ) {
+        memset(out, 0, m);
+        return false;
+    }
+    next.toggle = !next.toggle;
+    *s = next;
+    return true;
 }

@@ -1,0 +1,88 @@
+//! The independent implementation behind a C interface, so that `bench/bench.c` can time it beside the proved library. The
+//! records are those of `include/pevghazo.h`; lengths must be within their limits.
+
+use std::slice::{from_raw_parts, from_raw_parts_mut};
+
+use pevghazo_reference::sanse::Session;
+
+/// `pevghazo_session` of the header.
+#[repr(C)]
+pub struct Record {
+    acc: [u32; 12],
+    mask: [u32; 12],
+    index: u32,
+    toggle: bool,
+    opened: bool,
+}
+
+impl Record {
+    fn session(&self) -> Session {
+        Session { accumulator: self.acc, mask: self.mask, index: self.index, toggle: self.toggle, open: self.opened }
+    }
+
+    fn set(&mut self, session: Session) {
+        self.acc = session.accumulator;
+        self.mask = session.mask;
+        self.index = session.index;
+        self.toggle = session.toggle;
+        self.opened = session.open;
+    }
+}
+
+/// Starts a session under a key within the limits.
+///
+/// # Safety
+///
+/// The pointers hold what the lengths say, and what is written to overlaps nothing else.
+#[unsafe(no_mangle)]
+pub unsafe extern "C" fn rust_start(session: &mut Record, key: *const u8, key_len: usize) {
+    let key = unsafe { from_raw_parts(key, key_len) };
+    session.set(Session::start(key).expect("a good key"));
+}
+
+/// Wraps `message`, and gives whether it was accepted.
+///
+/// # Safety
+///
+/// As for [`rust_start`]; `out` has as many bytes as `message`.
+#[unsafe(no_mangle)]
+pub unsafe extern "C" fn rust_wrap(
+    session: &mut Record,
+    metadata: *const u8,
+    metadata_len: usize,
+    message: *const u8,
+    message_len: usize,
+    out: *mut u8,
+    tag: &mut [u8; 32],
+) -> bool {
+    let (metadata, message) = unsafe { (from_raw_parts(metadata, metadata_len), from_raw_parts(message, message_len)) };
+    let out = unsafe { from_raw_parts_mut(out, message_len) };
+    let mut here = session.session();
+    let answer = here.wrap(metadata, message, out, tag);
+    session.set(here);
+    answer.is_ok()
+}
+
+/// Unwraps `cryptogram`, and gives whether it was accepted.
+///
+/// # Safety
+///
+/// As for [`rust_start`]; `out` has as many bytes as `cryptogram`.
+#[unsafe(no_mangle)]
+pub unsafe extern "C" fn rust_unwrap(
+    session: &mut Record,
+    metadata: *const u8,
+    metadata_len: usize,
+    cryptogram: *const u8,
+    cryptogram_len: usize,
+    tag: &[u8; 32],
+    out: *mut u8,
+) -> bool {
+    let metadata = unsafe { from_raw_parts(metadata, metadata_len) };
+    let cryptogram = unsafe { from_raw_parts(cryptogram, cryptogram_len) };
+    let out = unsafe { from_raw_parts_mut(out, cryptogram_len) };
+    let mut here = session.session();
+    let answer = here.unwrap(metadata, cryptogram, tag, out);
+    session.set(here);
+    answer.is_ok()
+}

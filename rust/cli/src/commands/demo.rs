@@ -1,0 +1,197 @@
+//! A season, played in a temporary folder with the commands of this program.
+//!
+//! The keys are fixed, so that every run prints the same; they are for the demo only.
+
+use std::ffi::OsString;
+use std::fs::{self, DirBuilder};
+use std::io::Write;
+use std::os::unix::fs::{DirBuilderExt, OpenOptionsExt};
+use std::path::{Path, PathBuf};
+
+use crate::arguments::{Arguments, Request, parse};
+use crate::failure::Failure;
+use crate::output::print;
+
+/// A group's number, the block of ring numbers that it gets, and the numbers that it does not use.
+const BLOCKS: [(u32, &str, &str); 3] = [
+    (4, "S 20001 to S 20100", "S 20088 to S 20100"),
+    (11, "M 5001 to M 5050", "M 5046 to M 5050"),
+    (27, "K 701 to K 720", "none"),
+];
+
+/// Plays the season.
+pub fn run(_: &Arguments, out: &mut dyn Write) -> Result<(), Failure> {
+    let folder = Folder::new()?;
+    print(
+        out,
+        "The office begins a day with an allowance of 200 and opens three groups, each with a key of its own.\n",
+    )?;
+    open_all(&folder)?;
+    print(out, "\nThe office sends each group a block of ring numbers:\n")?;
+    for (group, block, _) in BLOCKS {
+        let envelope = folder.office_seals(group, block)?;
+        let opened = folder.group_opens(group)?;
+        print(
+            out,
+            &format!("  group {group:2}: an envelope of {envelope} bytes goes out and is opened as {opened}\n"),
+        )?;
+    }
+    print(out, "\nThe groups return the numbers that they did not use:\n")?;
+    for (group, _, unused) in BLOCKS {
+        let envelope = folder.group_seals(group, unused)?;
+        if group == BLOCKS[0].0 {
+            print(out, &format!("  group {group:2}: an envelope of {envelope} bytes comes in, damaged in one bit:\n"))?;
+            folder.damage("from-4", "damaged")?;
+            folder.refused(out, &["office", "unseal", "--in", "damaged", "--out", "none"], "office.state")?;
+        }
+        let opened = folder.office_opens(group)?;
+        print(
+            out,
+            &format!("  group {group:2}: an envelope of {envelope} bytes comes in and is opened as {opened}\n"),
+        )?;
+    }
+    print(out, "\nOther arrivals that are refused:\n")?;
+    print(out, "  repeated: the office gets the envelope of group 11 a second time:\n")?;
+    folder.refused(out, &["office", "unseal", "--in", "from-11", "--out", "none"], "office.state")?;
+    print(out, "  misdirected: group 27 gets the envelope for group 4:\n")?;
+    folder.refused(out, &["group", "unseal", "--in", "to-4", "--out", "none"], "group-27.state")?;
+    print(out, "  misdirected, and readdressed to 27:\n")?;
+    folder.readdress("to-4", "S,4,", "S,27,", "readdressed")?;
+    folder.refused(out, &["group", "unseal", "--in", "readdressed", "--out", "none"], "group-27.state")?;
+    print(out, "\nWhat the office holds:\n")?;
+    print(out, &indented(&folder.play(&["office", "show"], "office.state")?))?;
+    print(out, "\nWhat the groups hold:\n")?;
+    for (group, ..) in BLOCKS {
+        print(out, &indented(&folder.play(&["group", "show"], &format!("group-{group}.state"))?))?;
+    }
+    Ok(())
+}
+
+/// The office and the groups start, each group with the key that the office has for it.
+fn open_all(folder: &Folder) -> Result<(), Failure> {
+    folder.play(&["office", "create"], "office.state")?;
+    folder.play(&["office", "day", "--allowance", "200"], "office.state")?;
+    for (group, ..) in BLOCKS {
+        let number = group.to_string();
+        folder.write("key", format!("a fixed key, for the demo, of group {group}").as_bytes())?;
+        folder.play(&["office", "open-group", "--group", &number, "--key", "key"], "office.state")?;
+        folder.play(&["group", "start", "--group", &number, "--key", "key"], &format!("group-{group}.state"))?;
+    }
+    Ok(())
+}
+
+fn indented(text: &str) -> String {
+    text.lines().map(|line| format!("  {line}\n")).collect()
+}
+
+/// A temporary folder, removed at the end.
+struct Folder(PathBuf);
+
+impl Drop for Folder {
+    fn drop(&mut self) {
+        let _ = fs::remove_dir_all(&self.0);
+    }
+}
+
+impl Folder {
+    fn new() -> Result<Folder, Failure> {
+        let path = std::env::temp_dir().join(format!("pevghazo-demo-{}", std::process::id()));
+        DirBuilder::new().mode(0o700).create(&path).map_err(Failure::file("create the folder", &path))?;
+        Ok(Folder(path))
+    }
+
+    /// Runs a command; the values of the options that name files are files of this folder. Gives what it prints.
+    fn play(&self, words: &[&str], state: &str) -> Result<String, Failure> {
+        const FILES: [&str; 5] = ["--state", "--key", "--message", "--in", "--out"];
+        let mut tokens: Vec<OsString> = Vec::new();
+        let mut before = "";
+        for word in words.iter().copied().chain(["--state", state]) {
+            tokens.push(if FILES.contains(&before) { self.0.join(word).into() } else { word.into() });
+            before = word;
+        }
+        let mut printed = Vec::new();
+        match parse(tokens)? {
+            Request::Run(command, arguments) => (command.run)(&arguments, &mut printed)?,
+            Request::Print(text) => printed.extend(text.bytes()),
+        }
+        Ok(String::from_utf8_lossy(&printed).into_owned())
+    }
+
+    /// The office seals a message for a group. Gives the envelope's length.
+    fn office_seals(&self, group: u32, text: &str) -> Result<usize, Failure> {
+        self.write("text", text.as_bytes())?;
+        let (number, file) = (group.to_string(), format!("to-{group}"));
+        let mut words = vec!["office", "seal", "--group", &number, "--metadata-text", "rings"];
+        words.extend(["--message", "text", "--out", &file]);
+        self.play(&words, "office.state")?;
+        Ok(self.read(&file)?.len())
+    }
+
+    /// A group seals a message for the office. Gives the envelope's length.
+    fn group_seals(&self, group: u32, text: &str) -> Result<usize, Failure> {
+        self.write("text", text.as_bytes())?;
+        let file = format!("from-{group}");
+        let words = ["group", "seal", "--metadata-text", "unused", "--message", "text", "--out", &file];
+        self.play(&words, &format!("group-{group}.state"))?;
+        Ok(self.read(&file)?.len())
+    }
+
+    fn group_opens(&self, group: u32) -> Result<String, Failure> {
+        let words = ["group", "unseal", "--in", &format!("to-{group}"), "--out", "opened"];
+        self.play(&words, &format!("group-{group}.state"))?;
+        self.opened()
+    }
+
+    fn office_opens(&self, group: u32) -> Result<String, Failure> {
+        self.play(&["office", "unseal", "--in", &format!("from-{group}"), "--out", "opened"], "office.state")?;
+        self.opened()
+    }
+
+    /// The message that was opened last.
+    fn opened(&self) -> Result<String, Failure> {
+        let text = self.read("opened")?;
+        let path = self.0.join("opened");
+        fs::remove_file(&path).map_err(Failure::file("remove", &path))?;
+        Ok(format!("\"{}\"", String::from_utf8_lossy(&text)))
+    }
+
+    /// Runs a command that is to be refused, and prints why.
+    fn refused(&self, out: &mut dyn Write, words: &[&str], state: &str) -> Result<(), Failure> {
+        match self.play(words, state) {
+            Err(failure @ (Failure::Refused(_) | Failure::OtherGroup { .. })) => {
+                print(out, &format!("      {failure}\n"))
+            }
+            Err(failure) => Err(failure),
+            Ok(_) => Err(Failure::Demo("an arrival was accepted that had to be refused")),
+        }
+    }
+
+    /// Changes a bit in the middle of an envelope.
+    fn damage(&self, from: &str, to: &str) -> Result<(), Failure> {
+        let mut bytes = self.read(from)?;
+        let middle = bytes.len() / 2;
+        if let Some(byte) = bytes.get_mut(middle) {
+            *byte ^= 1;
+        }
+        self.write(to, &bytes)
+    }
+
+    /// Writes another start before the rest of an envelope.
+    fn readdress(&self, from: &str, old: &str, new: &str, to: &str) -> Result<(), Failure> {
+        let bytes = self.read(from)?;
+        let rest =
+            bytes.strip_prefix(old.as_bytes()).ok_or(Failure::Demo("an envelope does not start as it should"))?;
+        self.write(to, &[new.as_bytes(), rest].concat())
+    }
+
+    fn read(&self, name: &str) -> Result<Vec<u8>, Failure> {
+        let path = self.0.join(name);
+        fs::read(&path).map_err(Failure::file("read", &path))
+    }
+
+    fn write(&self, name: &str, bytes: &[u8]) -> Result<(), Failure> {
+        let path: &Path = &self.0.join(name);
+        let file = fs::OpenOptions::new().write(true).create(true).truncate(true).mode(0o600).open(path);
+        file.and_then(|mut file| file.write_all(bytes)).map_err(Failure::file("write", path))
+    }
+}

@@ -1,0 +1,287 @@
+//! Sealing, opening, and handing out again: the commands that both ends have.
+//!
+//! Every call and what belongs to it are committed together, with a note that it was not handed out yet; then it is handed
+//! out; then that is noted. A next message for the same session does not take the place of one that was never handed out.
+
+use std::io::Write;
+
+use pevghazo::{Envelope, Number, Refusal, Sealed, envelope};
+
+use super::ENDS;
+use crate::arguments::Arguments;
+use crate::failure::Failure;
+use crate::input;
+use crate::output::{Output, tell};
+use crate::state::{Group, Held, Kept, Message, Office, State, waits};
+use crate::state_file::Used;
+
+/// An end of sessions: the office with its table, or a group.
+pub trait End: State {
+    /// The word that this end's commands start with.
+    const NAME: &'static str;
+    /// The group that a command is about.
+    fn group(&self, arguments: &Arguments) -> Result<u32, Failure>;
+    /// Whether an envelope for this group may be opened here.
+    fn takes(&self, group: u32) -> Result<(), Failure>;
+    /// Seals a message for a group.
+    fn seal(&mut self, group: u32, metadata: &[u8], message: &[u8]) -> Result<Sealed, Refusal>;
+    /// Opens an arrival.
+    fn unseal(&mut self, arrival: &Envelope) -> Result<Vec<u8>, Refusal>;
+    /// What is kept of a group's messages.
+    fn kept(&mut self, group: u32) -> Result<&mut Kept, Refusal>;
+    /// The index of a group's session.
+    fn index(&self, group: u32) -> u32;
+}
+
+impl End for Office {
+    const NAME: &'static str = ENDS[0];
+
+    fn group(&self, arguments: &Arguments) -> Result<u32, Failure> {
+        arguments.required_number("group")
+    }
+
+    fn takes(&self, _: u32) -> Result<(), Failure> {
+        Ok(())
+    }
+
+    fn seal(&mut self, group: u32, metadata: &[u8], message: &[u8]) -> Result<Sealed, Refusal> {
+        self.table.seal(group, metadata, message)
+    }
+
+    fn unseal(&mut self, arrival: &Envelope) -> Result<Vec<u8>, Refusal> {
+        self.table.open(arrival.group, arrival.metadata, arrival.cryptogram, arrival.tag)
+    }
+
+    fn kept(&mut self, group: u32) -> Result<&mut Kept, Refusal> {
+        Office::kept(self, group)
+    }
+
+    fn index(&self, group: u32) -> u32 {
+        self.table.group(group).map_or(0, |group| group.index)
+    }
+}
+
+impl End for Group {
+    const NAME: &'static str = ENDS[1];
+
+    fn group(&self, _: &Arguments) -> Result<u32, Failure> {
+        Ok(self.group)
+    }
+
+    fn takes(&self, group: u32) -> Result<(), Failure> {
+        if group == self.group { Ok(()) } else { Err(Failure::OtherGroup { asked: group, own: self.group }) }
+    }
+
+    fn seal(&mut self, _: u32, metadata: &[u8], message: &[u8]) -> Result<Sealed, Refusal> {
+        self.session.seal(metadata, message)
+    }
+
+    fn unseal(&mut self, arrival: &Envelope) -> Result<Vec<u8>, Refusal> {
+        self.session.open(arrival.metadata, arrival.cryptogram, arrival.tag)
+    }
+
+    fn kept(&mut self, _: u32) -> Result<&mut Kept, Refusal> {
+        Ok(&mut self.kept)
+    }
+
+    fn index(&self, _: u32) -> u32 {
+        self.session.index()
+    }
+}
+
+/// Seals a message into an envelope.
+pub fn seal<E: End>(arguments: &Arguments, out: &mut dyn Write) -> Result<(), Failure> {
+    input::check_names(arguments)?;
+    let metadata = input::metadata(arguments)?;
+    let message = input::message(arguments)?;
+    let mut used = Used::<E>::open(arguments)?;
+    let output = main_output(arguments, &used)?;
+    let group = used.state.group(arguments)?;
+    if waits(&used.state.kept(group)?.envelope) {
+        return Err(Failure::NotNow(format!(
+            "An envelope for group {group} was sealed before and not handed out: do that first, with `{}`.",
+            again::<E>("resend", group)
+        )));
+    }
+    output.must_be_new()?;
+    let sealed = used.state.seal(group, &metadata, &message)?;
+    let bytes = envelope::write(group, &metadata, &sealed.cryptogram, &sealed.tag)?;
+    let length = bytes.len();
+    used.state.kept(group)?.envelope = Some(Held::waiting(bytes));
+    used.commit().map_err(|error| kept_envelope::<E>(group, error.into()))?;
+    hand_out_envelope(&mut used, group, &output, out)?;
+    if output.is_file() {
+        let index = used.state.index(group);
+        tell(
+            out,
+            &format!("Sealed {} bytes for group {group}: envelope of {length} bytes, index {index}.", message.len()),
+        );
+    }
+    Ok(())
+}
+
+/// Opens an envelope that arrived.
+pub fn unseal<E: End>(arguments: &Arguments, out: &mut dyn Write) -> Result<(), Failure> {
+    let bytes = input::envelope(arguments)?;
+    let mut used = Used::<E>::open(arguments)?;
+    let outputs = message_outputs(arguments, &used)?;
+    let arrival = envelope::read(&bytes)?;
+    let group = arrival.group;
+    used.state.takes(group)?;
+    if waits(&used.state.kept(group)?.message) {
+        return Err(Failure::NotNow(format!(
+            "A message of group {group} was opened before and not handed out: do that first, with `{}`.",
+            again::<E>("reread", group)
+        )));
+    }
+    outputs.must_be_new()?;
+    let text = match used.state.unseal(&arrival) {
+        Ok(text) => text,
+        Err(refusal) if refusal.number == Number::WrongTag => {
+            // The office's count of the day has grown.
+            used.commit_if_altered().map_err(|error| Failure::NotCounted(refusal, error))?;
+            return Err(refusal.into());
+        }
+        Err(refusal) => return Err(refusal.into()),
+    };
+    let length = text.len();
+    let kept = used.state.kept(group)?;
+    // Its tag covers all messages before it: the other end has the last envelope.
+    kept.envelope = None;
+    kept.message = Some(Held::waiting(Message { metadata: arrival.metadata.to_vec(), text }));
+    used.commit().map_err(|error| kept_message::<E>(group, error.into()))?;
+    hand_out_message(&mut used, group, &outputs, out)?;
+    if !outputs.are_files() {
+        return Ok(());
+    }
+    let index = used.state.index(group);
+    tell(out, &format!("Opened an envelope of group {group}: message of {length} bytes, index {index}."));
+    if !arrival.rest.is_empty() {
+        let from = arguments.number("from")?.unwrap_or(0) as usize + arrival.place;
+        tell(
+            out,
+            &format!("{} bytes follow the envelope: `--from {from}` reads an envelope there.", arrival.rest.len()),
+        );
+    }
+    Ok(())
+}
+
+/// Hands out the last envelope again.
+pub fn resend<E: End>(arguments: &Arguments, out: &mut dyn Write) -> Result<(), Failure> {
+    let mut used = Used::<E>::open(arguments)?;
+    let output = main_output(arguments, &used)?;
+    let group = used.state.group(arguments)?;
+    if used.state.kept(group)?.envelope.is_none() {
+        return Err(Failure::NotNow(format!(
+            "No envelope for group {group} is kept: none was sealed, or an arrival has shown that it got there."
+        )));
+    }
+    hand_out_envelope(&mut used, group, &output, out)?;
+    if output.is_file() {
+        tell(out, &format!("Handed out the last envelope for group {group}."));
+    }
+    Ok(())
+}
+
+/// Hands out the last message again.
+pub fn reread<E: End>(arguments: &Arguments, out: &mut dyn Write) -> Result<(), Failure> {
+    let mut used = Used::<E>::open(arguments)?;
+    let outputs = message_outputs(arguments, &used)?;
+    let group = used.state.group(arguments)?;
+    if used.state.kept(group)?.message.is_none() {
+        return Err(Failure::NotNow(format!("No message of group {group} is kept: none was opened.")));
+    }
+    hand_out_message(&mut used, group, &outputs, out)?;
+    if outputs.are_files() {
+        tell(out, &format!("Handed out the last message of group {group}."));
+    }
+    Ok(())
+}
+
+/// Where an envelope goes, or a message.
+fn main_output<E: End>(arguments: &Arguments, used: &Used<E>) -> Result<Output, Failure> {
+    arguments.required("out")?;
+    let output = Output::of(arguments, "out", &used.own_paths())?;
+    output.ok_or_else(|| Failure::Usage("The option --out is missing.".to_string()))
+}
+
+/// Where a message and its metadata go.
+struct Outputs {
+    message: Output,
+    metadata: Option<Output>,
+}
+
+impl Outputs {
+    /// Whether both go to files.
+    fn are_files(&self) -> bool {
+        self.message.is_file() && self.metadata.as_ref().is_none_or(Output::is_file)
+    }
+
+    /// Refuses files that are there already.
+    fn must_be_new(&self) -> Result<(), Failure> {
+        self.metadata.as_ref().map_or(Ok(()), Output::must_be_new)?;
+        self.message.must_be_new()
+    }
+}
+
+fn message_outputs<E: End>(arguments: &Arguments, used: &Used<E>) -> Result<Outputs, Failure> {
+    let metadata = Output::of(arguments, "metadata-out", &used.own_paths())?;
+    let message = main_output(arguments, used)?;
+    if metadata.as_ref() == Some(&message) {
+        return Err(Failure::Usage("Message and metadata cannot go to the same output.".to_string()));
+    }
+    Ok(Outputs { message, metadata })
+}
+
+/// Hands out the kept envelope, and notes that.
+fn hand_out_envelope<E: End>(
+    used: &mut Used<E>,
+    group: u32,
+    output: &Output,
+    out: &mut dyn Write,
+) -> Result<(), Failure> {
+    if let Some(held) = &mut used.state.kept(group)?.envelope {
+        output.write(&held.content, out).map_err(|failure| kept_envelope::<E>(group, failure))?;
+        held.handed_out = true;
+    }
+    used.commit_if_altered().map_err(Failure::NotNoted)
+}
+
+/// Hands out the kept message, and notes that.
+fn hand_out_message<E: End>(
+    used: &mut Used<E>,
+    group: u32,
+    outputs: &Outputs,
+    out: &mut dyn Write,
+) -> Result<(), Failure> {
+    if let Some(held) = &mut used.state.kept(group)?.message {
+        let metadata = outputs.metadata.as_ref().map_or(Ok(()), |output| output.write(&held.content.metadata, out));
+        metadata
+            .and_then(|()| outputs.message.write(&held.content.text, out))
+            .map_err(|failure| kept_message::<E>(group, failure))?;
+        held.handed_out = true;
+    }
+    used.commit_if_altered().map_err(Failure::NotNoted)
+}
+
+/// The command that hands something out again.
+fn again<E: End>(command: &str, group: u32) -> String {
+    let option = if E::NAME == ENDS[0] { format!(" --group {group}") } else { String::new() };
+    format!("pevghazo {} {command}{option}", E::NAME)
+}
+
+fn kept_envelope<E: End>(group: u32, source: Failure) -> Failure {
+    kept("envelope", again::<E>("resend", group), source)
+}
+
+fn kept_message<E: End>(group: u32, source: Failure) -> Failure {
+    kept("message", again::<E>("reread", group), source)
+}
+
+/// The failure to hand out something that is kept, unless the state that keeps it was not committed at all.
+fn kept(what: &'static str, command: String, source: Failure) -> Failure {
+    match source {
+        Failure::State(error) if !matches!(error, pevghazo_store::Error::NotSynced { .. }) => Failure::State(error),
+        source => Failure::Kept { what, command, source: Box::new(source) },
+    }
+}

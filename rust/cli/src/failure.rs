@@ -1,0 +1,136 @@
+//! Everything that may go wrong, each with a plain sentence and an exit status.
+
+use std::path::{Path, PathBuf};
+use std::{fmt, io};
+
+use pevghazo::Refusal;
+use pevghazo_store as store;
+
+/// Why a command failed. The display is one or more plain sentences.
+#[derive(Debug)]
+pub enum Failure {
+    /// The command line is not one that this program takes.
+    Usage(String),
+    /// The state file could not be used.
+    State(store::Error),
+    /// The state file is whole, but it does not hold what the command needs.
+    Content {
+        /// The state file.
+        path: PathBuf,
+        /// What is wrong with it.
+        what: &'static str,
+    },
+    /// An input could not be read or an output not be written.
+    File {
+        /// What was tried.
+        what: &'static str,
+        /// On which file.
+        path: PathBuf,
+        /// What the system said.
+        source: io::Error,
+    },
+    /// Others may read a key.
+    OpenKey(PathBuf),
+    /// There is a file in the place of an output.
+    OutputExists(PathBuf),
+    /// An input has more bytes than any envelope with its followers should have.
+    LargeInput(PathBuf),
+    /// The state asks for something else first.
+    NotNow(String),
+    /// An envelope for another group than the state file's.
+    OtherGroup {
+        /// The group that was asked for.
+        asked: u32,
+        /// The group of the state file.
+        own: u32,
+    },
+    /// The proved library refused the call.
+    Refused(Refusal),
+    /// The library found a wrong tag, and the day's count could not be committed.
+    NotCounted(Refusal, store::Error),
+    /// The call was made and is in the state file, but what belongs to it was not handed out.
+    Kept {
+        /// What was not handed out.
+        what: &'static str,
+        /// The command that does it.
+        command: String,
+        /// What hindered it.
+        source: Box<Failure>,
+    },
+    /// Everything was handed out, but this could not be noted in the state file.
+    NotNoted(store::Error),
+    /// The demo did not go as it should.
+    Demo(&'static str),
+}
+
+impl Failure {
+    /// Makes a failure of the system's error on a file.
+    pub fn file(what: &'static str, path: &Path) -> impl FnOnce(io::Error) -> Failure {
+        let path = path.to_path_buf();
+        move |source| Failure::File { what, path, source }
+    }
+
+    /// The exit status: 10 and the number for a refusal.
+    pub fn status(&self) -> u8 {
+        match self {
+            Failure::Demo(_) => 1,
+            Failure::Usage(_) => 2,
+            Failure::State(_) | Failure::Content { .. } | Failure::NotCounted(..) | Failure::NotNoted(_) => 3,
+            Failure::File { .. } | Failure::OpenKey(_) | Failure::OutputExists(_) | Failure::LargeInput(_) => 4,
+            Failure::NotNow(_) => 5,
+            Failure::OtherGroup { .. } => 6,
+            Failure::Refused(refusal) => 10 + refusal.number.number(),
+            Failure::Kept { source, .. } => source.status(),
+        }
+    }
+}
+
+impl From<Refusal> for Failure {
+    fn from(refusal: Refusal) -> Failure {
+        Failure::Refused(refusal)
+    }
+}
+
+impl From<store::Error> for Failure {
+    fn from(error: store::Error) -> Failure {
+        Failure::State(error)
+    }
+}
+
+impl fmt::Display for Failure {
+    fn fmt(&self, f: &mut fmt::Formatter<'_>) -> fmt::Result {
+        match self {
+            Failure::Usage(sentence) | Failure::NotNow(sentence) => f.write_str(sentence),
+            Failure::State(error) => error.fmt(f),
+            Failure::Content { path, what } => write!(f, "The state file {} cannot be used: {what}.", path.display()),
+            Failure::File { what, path, source } => write!(f, "Could not {what} {}: {source}.", path.display()),
+            Failure::OpenKey(path) => {
+                write!(f, "Others may read or write the key file {}: take that away with chmod 600.", path.display())
+            }
+            Failure::OutputExists(path) => {
+                write!(f, "There is a file {} already: remove it or choose another output.", path.display())
+            }
+            Failure::LargeInput(path) => write!(f, "{} is too large to hold an envelope.", path.display()),
+            Failure::OtherGroup { asked, own } => {
+                write!(f, "This is for group {asked}, and the state file is that of group {own}.")
+            }
+            Failure::Refused(refusal) => refused(f, refusal),
+            Failure::NotCounted(refusal, error) => {
+                refused(f, refusal)?;
+                write!(f, " Its count could not be added to the day's: {error}")
+            }
+            Failure::Kept { what, command, source } => {
+                write!(f, "{source} The {what} is kept in the state file: hand it out with `{command}`.")
+            }
+            Failure::NotNoted(error) => {
+                write!(f, "Everything was handed out, but this could not be noted: {error}")
+            }
+            Failure::Demo(what) => write!(f, "The demo did not go as it should: {what}."),
+        }
+    }
+}
+
+/// The sentence of a refusal with its number.
+fn refused(f: &mut fmt::Formatter<'_>, refusal: &Refusal) -> fmt::Result {
+    write!(f, "Refused, number {}: {}", refusal.number.number(), refusal.number.sentence())
+}

@@ -1,0 +1,65 @@
+//! Opening, locking and committing a state file.
+
+use std::path::{Path, PathBuf};
+use std::time::Duration;
+
+use pevghazo_store::{Error, Presence, Store, Wait};
+
+use crate::arguments::Arguments;
+use crate::failure::Failure;
+use crate::state::State;
+
+/// How many seconds to wait for another program that uses the state file.
+pub const WAIT_SECONDS: u32 = 10;
+
+/// A state file in use: it is locked until this value is dropped.
+pub struct Used<S> {
+    store: Store,
+    /// The state, as it was read and perhaps altered since.
+    pub state: S,
+}
+
+impl<S: State> Used<S> {
+    /// Opens the state file of the option `--state`.
+    pub fn open(arguments: &Arguments) -> Result<Used<S>, Failure> {
+        let store = open(arguments, Presence::MustExist)?;
+        let bytes = store.bytes().unwrap_or_default();
+        let content = |what| Failure::Content { path: store.path().to_path_buf(), what };
+        let state = S::decode(bytes).map_err(|bad| content(bad.0))?;
+        Ok(Used { store, state })
+    }
+
+    /// Commits the state: it is on the disk after this, or the failure says how far it got.
+    pub fn commit(&mut self) -> Result<(), Error> {
+        self.store.commit(&self.state.encode())
+    }
+
+    /// Commits the state if it differs from what the file holds.
+    pub fn commit_if_altered(&mut self) -> Result<(), Error> {
+        let bytes = self.state.encode();
+        if self.store.bytes() == Some(&bytes[..]) { Ok(()) } else { self.store.commit(&bytes) }
+    }
+
+    /// The paths that no output may take: the state file's and those beside it.
+    pub fn own_paths(&self) -> Vec<PathBuf> {
+        ["", ".lock", ".new"].iter().map(|ending| beside(self.store.path(), ending)).collect()
+    }
+}
+
+/// Creates the state file of the option `--state`; there must be none yet.
+pub fn create(arguments: &Arguments, state: &impl State) -> Result<(), Failure> {
+    let mut store = open(arguments, Presence::MustBeNew)?;
+    Ok(store.commit(&state.encode())?)
+}
+
+fn open(arguments: &Arguments, presence: Presence) -> Result<Store, Failure> {
+    let seconds = arguments.number("wait")?.unwrap_or(WAIT_SECONDS);
+    let wait = Wait::AtMost(Duration::from_secs(u64::from(seconds)));
+    Ok(Store::open(arguments.required("state")?, presence, wait)?)
+}
+
+fn beside(path: &Path, ending: &str) -> PathBuf {
+    let mut name = path.as_os_str().to_os_string();
+    name.push(ending);
+    PathBuf::from(name)
+}

@@ -1,0 +1,167 @@
+//! What the tests of the command line share: folders, and running the program in them.
+#![allow(dead_code)] // Each test program uses a part of it.
+
+use std::fs;
+use std::io::Write;
+use std::os::unix::fs::OpenOptionsExt;
+use std::os::unix::process::ExitStatusExt;
+use std::path::{Path, PathBuf};
+use std::process::{Command, Stdio};
+use std::sync::atomic::{AtomicU32, Ordering};
+
+pub use pevghazo_store::fault::VARIABLE;
+
+/// The program.
+pub const PROGRAM: &str = env!("CARGO_BIN_EXE_pevghazo");
+
+/// A folder of its own for each test, removed at the end. It is in memory where the system has such a place: syncs are fast.
+pub struct Folder(pub PathBuf);
+
+impl Folder {
+    pub fn new() -> Folder {
+        static NEXT: AtomicU32 = AtomicU32::new(0);
+        let name = format!("pevghazo-cli-{}-{}", std::process::id(), NEXT.fetch_add(1, Ordering::Relaxed));
+        let memory = Path::new("/dev/shm").join(&name);
+        let disk = Path::new(env!("CARGO_TARGET_TMPDIR")).join(&name);
+        let path = if fs::create_dir(&memory).is_ok() { memory } else { disk };
+        let _ = fs::create_dir(&path);
+        Folder(path)
+    }
+
+    /// A copy of this folder.
+    pub fn copy(&self) -> Folder {
+        let copy = Folder::new();
+        for name in self.names() {
+            fs::copy(self.0.join(&name), copy.0.join(&name)).unwrap();
+        }
+        copy
+    }
+
+    /// The names in the folder, sorted.
+    pub fn names(&self) -> Vec<String> {
+        let entries = fs::read_dir(&self.0).unwrap();
+        let mut names: Vec<String> = entries.map(|entry| entry.unwrap().file_name().into_string().unwrap()).collect();
+        names.sort();
+        names
+    }
+
+    /// A file's content, if there is one.
+    pub fn read(&self, name: &str) -> Option<Vec<u8>> {
+        fs::read(self.0.join(name)).ok()
+    }
+
+    /// Writes a file that is closed to others.
+    pub fn write(&self, name: &str, bytes: &[u8]) {
+        let path = self.0.join(name);
+        let _ = fs::remove_file(&path);
+        let mut file = fs::OpenOptions::new().write(true).create_new(true).mode(0o600).open(path).unwrap();
+        file.write_all(bytes).unwrap();
+    }
+
+    /// The program with these arguments, separated by spaces, to be run in the folder.
+    pub fn command(&self, line: &str) -> Command {
+        let mut command = Command::new(PROGRAM);
+        command.args(line.split_whitespace());
+        self.prepared(command)
+    }
+
+    /// The same, by a shell that does something else first.
+    pub fn command_after(&self, shell: &str, line: &str) -> Command {
+        let mut command = Command::new("sh");
+        command.arg("-c").arg(format!("{shell}; exec \"$0\" \"$@\"")).arg(PROGRAM).args(line.split_whitespace());
+        self.prepared(command)
+    }
+
+    fn prepared(&self, mut command: Command) -> Command {
+        command.current_dir(&self.0).env_remove(VARIABLE);
+        command.stdin(Stdio::null()).stdout(Stdio::piped()).stderr(Stdio::piped());
+        command
+    }
+
+    /// Runs the program.
+    pub fn run(&self, line: &str) -> Run {
+        Run::of(self.command(line))
+    }
+
+    /// Runs the program with something planned against it; see the fault injection of the store.
+    pub fn run_with(&self, fault: &str, line: &str) -> Run {
+        let mut command = self.command_after("ulimit -c 0", line);
+        command.env(VARIABLE, fault);
+        Run::of(command)
+    }
+
+    /// Runs the program with bytes on its standard input.
+    pub fn run_on(&self, line: &str, bytes: &[u8]) -> Run {
+        let mut child = self.command(line).stdin(Stdio::piped()).spawn().unwrap();
+        child.stdin.take().unwrap().write_all(bytes).unwrap();
+        Run::from(child.wait_with_output().unwrap())
+    }
+
+    /// Runs the program, which must succeed, and gives what it prints.
+    pub fn done(&self, line: &str) -> String {
+        let run = self.run(line);
+        assert_eq!(run.status, 0, "{line}: {}", run.said);
+        assert_eq!(run.said, "", "{line}");
+        String::from_utf8(run.printed).unwrap()
+    }
+
+    /// The same, with the outputs that the line names removed before.
+    pub fn done_anew(&self, line: &str) -> String {
+        let words: Vec<&str> = line.split_whitespace().collect();
+        for pair in words.windows(2).filter(|pair| ["--out", "--metadata-out"].contains(&pair[0])) {
+            let _ = fs::remove_file(self.0.join(pair[1]));
+        }
+        self.done(line)
+    }
+
+    /// Runs the program, which must fail with this status and print nothing, and gives its sentence.
+    pub fn fails(&self, status: i32, line: &str) -> String {
+        let run = self.run(line);
+        assert_eq!(run.status, status, "{line}: {}", run.said);
+        assert_eq!(run.printed, b"", "{line}");
+        assert!(run.said.starts_with("pevghazo: ") && run.said.ends_with('\n'), "{line}: {}", run.said);
+        run.said
+    }
+
+    /// The office with an allowance and one open group, and that group: `office`, `group`, `key`.
+    pub fn pair(group: u32) -> Folder {
+        let folder = Folder::new();
+        folder.write("key", format!("the secret key of group {group}").as_bytes());
+        folder.done("office --state office create");
+        folder.done("office --state office day --allowance 1000000");
+        folder.done(&format!("office --state office open-group --group {group} --key key"));
+        folder.done(&format!("group --state group start --group {group} --key key"));
+        folder
+    }
+}
+
+impl Drop for Folder {
+    fn drop(&mut self) {
+        let _ = fs::remove_dir_all(&self.0);
+    }
+}
+
+/// How a run of the program ended.
+#[derive(Debug)]
+pub struct Run {
+    /// The exit status, or -1 where a signal ended it.
+    pub status: i32,
+    pub signal: Option<i32>,
+    pub printed: Vec<u8>,
+    pub said: String,
+}
+
+impl Run {
+    pub fn of(mut command: Command) -> Run {
+        Run::from(command.output().unwrap())
+    }
+
+    pub fn from(output: std::process::Output) -> Run {
+        Run {
+            status: output.status.code().unwrap_or(-1),
+            signal: output.status.signal(),
+            printed: output.stdout,
+            said: String::from_utf8(output.stderr).unwrap(),
+        }
+    }
+}

@@ -1,0 +1,423 @@
+//! Refusals and other failures: each with its status and sentence, no output, and the state as it was.
+
+mod common;
+
+use std::fs::{self, Permissions};
+use std::os::unix::fs::{PermissionsExt, symlink};
+
+use common::{Folder, Run};
+use pevghazo_store::{Presence, Store, Wait};
+
+/// The sentences, by number. Numbers 7 and 8 cannot be met here: this program makes the buffers itself.
+const SENTENCES: [(i32, &str); 9] = [
+    (1, "This is not an envelope: its header does not follow the layout."),
+    (2, "The envelope ends before all that its header announces."),
+    (3, "There is no such group: groups are numbered 0 to 31."),
+    (4, "The key must have 16 to 47 bytes."),
+    (5, "The session is not open."),
+    (6, "The metadata or the message has more than 16,384 bytes."),
+    (9, "The session is full: start a new one with a new key."),
+    (10, "The day's allowance does not cover this call."),
+    (11, "The tag is wrong: the arrival is damaged, repeated, out of order or not meant for this session."),
+];
+
+/// The command is refused under this number. No output is written, and but for number 11 the state stays.
+fn refused(folder: &Folder, number: i32, line: &str) {
+    let before = (folder.read("office"), folder.read("group"));
+    let sentence = SENTENCES.iter().find(|(known, _)| *known == number).unwrap().1;
+    for out in ["new-out", "-"] {
+        let line = line.replace("OUT", out);
+        let said = folder.fails(10 + number, &line);
+        assert_eq!(said, format!("pevghazo: Refused, number {number}: {sentence}\n"), "{line}");
+        assert_eq!(folder.read("new-out"), None, "{line}");
+        if number != 11 || line.starts_with("group") {
+            assert!((folder.read("office"), folder.read("group")) == before, "{line}");
+        }
+        if !line.contains("--out") {
+            break;
+        }
+    }
+}
+
+/// Puts bytes in the place of those at an offset of a state file's state.
+fn forge(folder: &Folder, name: &str, offset: usize, bytes: &[u8]) {
+    let mut store = Store::open(folder.0.join(name), Presence::MustExist, Wait::Never).unwrap();
+    let mut state = store.bytes().unwrap().to_vec();
+    state[offset..offset + bytes.len()].copy_from_slice(bytes);
+    store.commit(&state).unwrap();
+}
+
+#[test]
+fn numbers_1_and_2_an_envelope_that_is_none() {
+    let folder = Folder::pair(5);
+    for bytes in
+        ["", "S", "S,5,0,0", "s,5,0,0,", "S,05,0,0,", "S,32,0,0,", "S,5,0,16385,", "S, 5,0,0,", "S,5,-1,0,", "S,5,,0,"]
+    {
+        folder.write("in", &[bytes.as_bytes(), &[b' '; 40]].concat()[..bytes.len() + 40 * bytes.len().min(1)]);
+        refused(&folder, 1, "office --state office unseal --in in --out OUT");
+        refused(&folder, 1, "group --state group unseal --in in --out OUT");
+    }
+    for (header, follow) in [("S,5,0,0,", 31), ("S,5,20,48,", 99), ("S,5,0,16384,", 40)] {
+        folder.write("in", &[header.as_bytes(), &vec![0; follow]].concat());
+        refused(&folder, 2, "office --state office unseal --in in --out OUT");
+        refused(&folder, 2, "group --state group unseal --in in --out OUT --metadata-out metadata");
+    }
+}
+
+#[test]
+fn number_3_a_group_that_there_is_not() {
+    let folder = Folder::pair(5);
+    folder.write("text", b"20001");
+    for group in ["32", "255", "4294967295"] {
+        refused(&folder, 3, &format!("office --state office open-group --group {group} --key key"));
+        refused(&folder, 3, &format!("office --state office seal --group {group} --message text --out OUT"));
+        refused(&folder, 3, &format!("office --state office resend --group {group} --out OUT"));
+        refused(&folder, 3, &format!("office --state office reread --group {group} --out OUT"));
+        refused(&folder, 3, &format!("group --state new-group start --group {group} --key key"));
+        assert_eq!(folder.read("new-group"), None);
+    }
+}
+
+#[test]
+fn number_4_a_key_of_a_wrong_length() {
+    let folder = Folder::pair(5);
+    for length in [0, 15, 48, 1_000_000] {
+        folder.write("bad-key", &vec![7; length]);
+        refused(&folder, 4, "office --state office open-group --group 6 --key bad-key");
+        refused(&folder, 4, "office --state office open-group --group 5 --key bad-key --replace");
+        refused(&folder, 4, "group --state new-group start --group 6 --key bad-key");
+        refused(&folder, 4, "group --state group start --group 5 --key bad-key --replace");
+        assert_eq!(folder.read("new-group"), None);
+    }
+    for length in [16, 47] {
+        folder.write("good-key", &vec![7; length]);
+        folder.done("office --state office open-group --group 6 --key good-key --replace");
+    }
+    let run = folder.run_on("office --state office open-group --group 7 --key -", &[7; 15]);
+    assert_eq!(run.status, 14);
+}
+
+#[test]
+fn number_5_a_session_that_is_not_open() {
+    let folder = Folder::pair(5);
+    folder.write("text", b"20001");
+    refused(&folder, 5, "office --state office seal --group 6 --message text --out OUT");
+    folder.write("in", &[b"S,6,0,0,", &[0; 32][..]].concat());
+    refused(&folder, 5, "office --state office unseal --in in --out OUT");
+    // A group's state file with a closed session: no command makes one.
+    forge(&folder, "group", 12, &[0; 102]);
+    refused(&folder, 5, "group --state group seal --message text --out OUT");
+    assert!(folder.done("group --state group show").starts_with("group  5: closed, index       0,"));
+}
+
+#[test]
+fn number_6_texts_that_are_too_long() {
+    let folder = Folder::pair(5);
+    folder.write("text", b"20001");
+    for length in [16_385, 100_000] {
+        folder.write("long", &vec![7; length]);
+        for end in ["office --state office seal --group 5", "group --state group seal"] {
+            refused(&folder, 6, &format!("{end} --message long --out OUT"));
+            refused(&folder, 6, &format!("{end} --message text --metadata long --out OUT"));
+        }
+    }
+}
+
+#[test]
+fn number_9_a_session_that_is_full() {
+    let folder = Folder::pair(5);
+    folder.write("text", b"20001");
+    for (index, status) in [(1_048_575, 19), (1_048_574, 0)] {
+        // The index is after the accumulator and the mask of the session.
+        forge(&folder, "group", 12 + 96, &u32::to_le_bytes(index));
+        forge(&folder, "office", 8 + 5 * 102 + 96, &u32::to_le_bytes(index));
+        if status == 19 {
+            refused(&folder, 9, "group --state group seal --message text --out OUT");
+            refused(&folder, 9, "office --state office seal --group 5 --message text --out OUT");
+            folder.write("in", &[b"S,5,0,1,x", &[0; 32][..]].concat());
+            refused(&folder, 9, "office --state office unseal --in in --out OUT");
+            assert_eq!(folder.done("office --state office nearly-full --mark 1048574"), "5\n");
+            assert_eq!(folder.done("office --state office nearly-full --mark 1048575"), "none\n");
+        } else {
+            folder.done_anew("group --state group seal --message text --out out");
+            folder.done_anew("office --state office seal --group 5 --message text --out out");
+        }
+    }
+}
+
+#[test]
+fn number_10_a_day_whose_allowance_is_spent() {
+    let folder = Folder::pair(5);
+    folder.write("text", b"20001");
+    // One block of message and one of output: 1 + 4 + 1.
+    folder.done("office --state office day --allowance 5");
+    refused(&folder, 10, "office --state office seal --group 5 --message text --out OUT");
+    folder.done_anew("group --state group seal --message text --out in");
+    refused(&folder, 10, "office --state office unseal --in in --out OUT");
+    folder.done("office --state office day --allowance 0");
+    refused(&folder, 10, "office --state office open-group --group 6 --key key");
+    refused(&folder, 10, "office --state office open-group --group 5 --key key --replace");
+    folder.done("office --state office day --allowance 6");
+    folder.done_anew("office --state office unseal --in in --out out");
+}
+
+#[test]
+fn number_11_arrivals_that_are_not_the_next_of_the_session() {
+    let folder = Folder::pair(5);
+    folder.write("text", b"20001 to 20100");
+    folder.done_anew("group --state group seal --message text --metadata-text size --out whole");
+    let whole = folder.read("whole").unwrap();
+    let mut spent = 1;
+    let shown = |spent: u32| format!("day: count {spent} of allowance 1000000\n");
+    // Damage of metadata, cryptogram and tag.
+    for place in [9, 14, 30, whole.len() - 1] {
+        let mut damaged = whole.clone();
+        damaged[place] ^= 0x10;
+        folder.write("in", &damaged);
+        refused(&folder, 11, "office --state office unseal --in in --out OUT --metadata-out metadata");
+        // A wrong tag costs as much as a right one, and the day's count has it: two runs of 1 + 1 + 4 + 1.
+        spent += 2 * 7;
+        assert!(folder.done("office --state office show").starts_with(&shown(spent)));
+        assert_eq!(folder.read("metadata"), None);
+    }
+    // Back to its sender.
+    refused(&folder, 11, "group --state group unseal --in whole --out OUT");
+    // The whole one is still accepted, once.
+    folder.done_anew("office --state office unseal --in whole --out opened --metadata-out metadata");
+    assert_eq!(folder.read("opened"), folder.read("text"));
+    refused(&folder, 11, "office --state office unseal --in whole --out OUT");
+    spent += 3 * 7;
+    assert!(folder.done("office --state office show").starts_with(&shown(spent)));
+    assert_eq!(folder.read("opened"), folder.read("text"));
+}
+
+/// The allowance ends also where refused arrivals spent it.
+#[test]
+fn wrong_tags_spend_the_allowance() {
+    let folder = Folder::pair(5);
+    folder.write("in", &[b"S,5,0,0,", &[0; 32][..]].concat());
+    folder.done("office --state office day --allowance 7");
+    folder.fails(21, "office --state office unseal --in in --out out");
+    folder.fails(21, "office --state office unseal --in in --out out");
+    folder.fails(20, "office --state office unseal --in in --out out");
+    assert!(folder.done("office --state office show").starts_with("day: count 6 of allowance 7\n"));
+}
+
+#[test]
+fn an_envelope_of_another_group_has_a_status_of_its_own() {
+    let folder = Folder::pair(5);
+    folder.write("key-6", b"the secret key of group 6");
+    folder.write("text", b"20001");
+    folder.done("office --state office open-group --group 6 --key key-6");
+    folder.done_anew("office --state office seal --group 6 --message text --out in");
+    let before = folder.read("group");
+    let said = folder.fails(6, "group --state group unseal --in in --out out");
+    assert_eq!(said, "pevghazo: This is for group 6, and the state file is that of group 5.\n");
+    assert!((folder.read("group"), folder.read("out")) == (before, None));
+    // At the office the envelope itself says whose it is: with another number on it, its tag is wrong.
+    folder.done_anew("group --state group seal --message text --out in");
+    let readdressed = [b"S,6,", folder.read("in").unwrap().strip_prefix(b"S,5,").unwrap()].concat();
+    folder.write("in-6", &readdressed);
+    refused(&folder, 11, "office --state office unseal --in in-6 --out OUT");
+    folder.done_anew("office --state office unseal --in in --out out");
+}
+
+#[test]
+fn there_is_nothing_to_hand_out_again() {
+    let folder = Folder::pair(5);
+    for line in [
+        "office --state office resend --group 5 --out out",
+        "office --state office resend --group 6 --out out",
+        "office --state office reread --group 5 --out out",
+        "group --state group resend --out out",
+        "group --state group reread --out out",
+    ] {
+        assert!(folder.fails(5, line).contains(" is kept: "), "{line}");
+        assert_eq!(folder.read("out"), None);
+    }
+    // An arrival shows that the last envelope got there: it is kept no longer.
+    folder.write("text", b"20001");
+    folder.done_anew("office --state office seal --group 5 --message text --out in");
+    folder.done_anew("group --state group unseal --in in --out out");
+    folder.done_anew("group --state group seal --message text --out back");
+    folder.done_anew("office --state office resend --group 5 --out again");
+    assert_eq!(folder.read("again"), folder.read("in"));
+    folder.done_anew("office --state office unseal --in back --out out");
+    folder.fails(5, "office --state office resend --group 5 --out again");
+    folder.done_anew("group --state group resend --out again");
+    assert_eq!(folder.read("again"), folder.read("back"));
+}
+
+#[test]
+fn state_files_that_cannot_be_used() {
+    let folder = Folder::pair(5);
+    let good = folder.read("group").unwrap();
+    assert!(folder.fails(3, "office --state nothing show").contains("There is no state file "));
+    assert!(folder.fails(3, "office --state office create").contains("already"));
+    assert!(folder.fails(3, "office --state group show").contains("it is a group's and not the office's"));
+    assert!(folder.fails(3, "group --state office show").contains("it is the office's and not a group's"));
+    assert!(folder.fails(3, "group --state no/folder show").contains("Could not "));
+    for place in (0..good.len()).step_by(7) {
+        let mut damaged = good.clone();
+        damaged[place] ^= 4;
+        folder.write("group", &damaged);
+        assert!(folder.fails(3, "group --state group show").contains(" cannot be used: "));
+        assert_eq!(folder.read("group").unwrap(), damaged, "left alone");
+    }
+    for length in [0, 1, 20, good.len() / 2, good.len() - 1] {
+        folder.write("group", &good[..length]);
+        folder.fails(3, "group --state group show");
+        folder.fails(3, "group --state group start --group 5 --key key --replace");
+    }
+    folder.write("group", &good);
+    fs::set_permissions(folder.0.join("group"), Permissions::from_mode(0o640)).unwrap();
+    assert!(folder.fails(3, "group --state group show").contains("Others may read or write the state file"));
+}
+
+/// Whole files with any content: a checksum keeps nobody from writing one.
+#[test]
+fn any_content_of_a_state_file_is_taken_or_refused() {
+    let folder = Folder::pair(5);
+    folder.write("text", b"20001");
+    folder.write("in", &[b"S,5,0,0,", &[0; 32][..]].concat());
+    let state = |name: &str| {
+        Store::open(folder.0.join(name), Presence::MustExist, Wait::Never).unwrap().bytes().unwrap().to_vec()
+    };
+    let good = [state("group"), state("office")];
+    let mut random = pevghazo_reference::random::Random::new(7);
+    for (name, good) in ["group", "office"].into_iter().zip(good) {
+        for turn in 0..30 {
+            let mut bytes = good.clone();
+            match turn % 3 {
+                0 => bytes.truncate(random.below(good.len())),
+                1 => bytes[8..].iter_mut().for_each(|byte| *byte = random.below(256) as u8),
+                _ => {
+                    for _ in 0..5 {
+                        let place = 8 + random.below(good.len() - 8);
+                        bytes[place] = random.below(256) as u8;
+                    }
+                }
+            }
+            let mut store = Store::open(folder.0.join(name), Presence::MustExist, Wait::Never).unwrap();
+            store.commit(&bytes).unwrap();
+            drop(store);
+            let group = if name == "office" { " --group 5" } else { "" };
+            for command in [
+                "show".to_string(),
+                format!("seal --message text --out /dev/null{group}"),
+                "unseal --in in --out /dev/null".to_string(),
+                format!("resend --out /dev/null{group}"),
+                format!("reread --out /dev/null{group}"),
+            ] {
+                let run = folder.run(&format!("{name} --state {name} {command}"));
+                assert!([0, 3, 5, 6].contains(&run.status) || (11..=21).contains(&run.status), "{run:?}");
+            }
+        }
+    }
+}
+
+#[test]
+fn inputs_and_outputs_that_cannot_be_used() {
+    let folder = Folder::pair(5);
+    folder.write("text", b"20001");
+    let before = folder.read("office");
+    fs::create_dir(folder.0.join("folder")).unwrap();
+    symlink("nowhere", folder.0.join("link")).unwrap();
+    for line in [
+        "office --state office seal --group 5 --message nothing --out out",
+        "office --state office seal --group 5 --message folder --out out",
+        "office --state office seal --group 5 --message text --metadata nothing --out out",
+        "office --state office seal --group 5 --message text --out no/folder",
+        "office --state office seal --group 5 --message text --out folder",
+        "office --state office seal --group 5 --message text --out text/out",
+        "office --state office seal --group 5 --message text --out link",
+        "office --state office unseal --in nothing --out out",
+        "office --state office open-group --group 6 --key nothing",
+    ] {
+        assert!(folder.fails(4, line).contains("Could not "), "{line}");
+        assert!((folder.read("office"), folder.read("out")) == (before.clone(), None), "{line}");
+    }
+    // Outputs in the place of something that would be lost.
+    symlink("office", folder.0.join("office-link")).unwrap();
+    for out in ["office", "office.lock", "office.new", "./office", "office-link"] {
+        folder.fails(2, &format!("office --state office seal --group 5 --message text --out {out}"));
+    }
+    let own = folder.0.file_name().unwrap().to_str().unwrap();
+    symlink("text", folder.0.join("text-link")).unwrap();
+    for out in ["text", "text-link", "group", "key", &format!("../{own}/text")] {
+        let said = folder.fails(4, &format!("office --state office seal --group 5 --message text --out {out}"));
+        assert!(said.contains("There is a file "), "{said}");
+    }
+    folder.fails(2, "office --state office unseal --in - --out out --metadata-out ./out");
+    folder.fails(2, "office --state office unseal --in text --out - --metadata-out -");
+    folder.fails(2, "office --state office seal --group 5 --message - --metadata - --out out");
+    folder.fails(2, "office --state office seal --group 5 --message text --metadata text --metadata-text a --out out");
+    assert!((folder.read("office"), folder.read("text").unwrap()) == (before, b"20001".to_vec()));
+    assert_eq!(folder.read("out"), None);
+}
+
+#[test]
+fn keys_that_others_may_read_are_refused() {
+    let folder = Folder::pair(5);
+    for mode in [0o640, 0o604, 0o622, 0o644] {
+        fs::set_permissions(folder.0.join("key"), Permissions::from_mode(mode)).unwrap();
+        for line in
+            ["office --state office open-group --group 6 --key key", "group --state g start --group 6 --key key"]
+        {
+            let said = folder.fails(4, line);
+            assert_eq!(said, "pevghazo: Others may read or write the key file key: take that away with chmod 600.\n");
+        }
+    }
+    fs::set_permissions(folder.0.join("key"), Permissions::from_mode(0o400)).unwrap();
+    folder.done("office --state office open-group --group 6 --key key");
+}
+
+/// Everything that is written is closed to others, whatever the process's own mask says.
+#[test]
+fn outputs_are_closed_to_others() {
+    let folder = Folder::pair(5);
+    folder.write("text", b"20001");
+    let seal = "office --state office seal --group 5 --message text --out in";
+    assert_eq!(Run::of(folder.command_after("umask 0", seal)).status, 0);
+    let unseal = "group --state group unseal --in in --out out --metadata-out metadata";
+    assert_eq!(Run::of(folder.command_after("umask 0", unseal)).status, 0);
+    for name in folder.names() {
+        let mode = fs::metadata(folder.0.join(&name)).unwrap().permissions().mode() & 0o777;
+        assert_eq!(mode, 0o600, "{name}");
+    }
+}
+
+#[test]
+fn outputs_that_are_no_files_are_written_to_directly() {
+    let folder = Folder::pair(5);
+    folder.write("text", b"20001");
+    folder.done("office --state office seal --group 5 --message text --out in");
+    assert_eq!(folder.done("office --state office resend --group 5 --out /dev/null"), "");
+    assert!(fs::metadata("/dev/null").is_ok_and(|metadata| !metadata.is_file()));
+    let run = folder.run("office --state office resend --group 5 --out /dev/stdout");
+    assert_eq!((run.status, Some(run.printed)), (0, folder.read("in")), "{}", run.said);
+}
+
+/// A file that is there already may be the output of a run that was killed at its very end.
+#[test]
+fn outputs_take_no_place_of_a_file() {
+    let folder = Folder::pair(5);
+    folder.write("text", b"20001");
+    let seal = "office --state office seal --group 5 --message text --out in";
+    folder.done(seal);
+    let (state, envelope) = (folder.read("office"), folder.read("in"));
+    assert!(folder.fails(4, seal).contains("There is a file "));
+    assert!(folder.read("office") == state && folder.read("in") == envelope);
+    // Handing out again into a file that has it already is fine; into another file it is not.
+    folder.done("office --state office resend --group 5 --out in");
+    folder.fails(4, "office --state office resend --group 5 --out text");
+    let unseal = "group --state group unseal --in in --out out --metadata-out metadata";
+    folder.write("metadata", b"other");
+    let state = folder.read("group");
+    folder.fails(4, unseal);
+    assert!(folder.read("group") == state && folder.read("out").is_none());
+    folder.done_anew(unseal);
+    folder.fails(4, unseal);
+    folder.done("group --state group reread --out out --metadata-out metadata");
+    assert_eq!((folder.read("out"), folder.read("metadata")), (folder.read("text"), Some(Vec::new())));
+}

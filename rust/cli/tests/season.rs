@@ -1,0 +1,170 @@
+//! A whole season through the program, and its envelopes beside the independent implementation.
+
+mod common;
+
+use common::Folder;
+use pevghazo_reference::{envelope, sanse};
+
+const GROUPS: [u32; 3] = [0, 9, 31];
+
+/// The text of a message of so many bytes.
+fn text(seed: u32, length: usize) -> Vec<u8> {
+    (0..length).map(|place| (place as u32).wrapping_mul(2_654_435_761).wrapping_add(seed).to_le_bytes()[2]).collect()
+}
+
+#[test]
+fn a_season_of_three_groups() {
+    let folder = Folder::new();
+    assert_eq!(folder.done("office --state office create"), "Created: 32 closed groups, allowance 0.\n");
+    assert_eq!(folder.done("office --state office show"), "day: count 0 of allowance 0\nclosed: 32 of 32 groups\n");
+    folder.done("office --state office day --allowance 100000");
+    for group in GROUPS {
+        folder.write("key", format!("key number {group:6}").as_bytes());
+        folder.done(&format!("office --state office open-group --group {group} --key key"));
+        folder.done(&format!("group --state group-{group} start --group {group} --key key"));
+    }
+    let lengths = [(0, 0), (0, 1), (20, 48), (5, 0), (16_384, 16_384), (48, 47), (1, 500)];
+    let mut count = 3;
+    let mut index = 0;
+    for (turn, (a, m)) in lengths.into_iter().enumerate() {
+        for group in GROUPS {
+            let (metadata, message) = (text(group, a), text(7 * group + turn as u32, m));
+            folder.write("metadata", &metadata);
+            folder.write("message", &message);
+            // In turn from the office to the group and back.
+            let (from, to) = if turn % 2 == 0 {
+                (format!("office --state office seal --group {group}"), format!("group --state group-{group} unseal"))
+            } else {
+                (format!("group --state group-{group} seal"), "office --state office unseal".to_string())
+            };
+            folder.done_anew(&format!("{from} --metadata metadata --message message --out envelope"));
+            folder.done_anew(&format!("{to} --in envelope --out opened --metadata-out opened-metadata"));
+            assert_eq!(folder.read("opened").unwrap(), message);
+            assert_eq!(folder.read("opened-metadata").unwrap(), metadata);
+            count += sanse::count(a, m);
+        }
+        index += sanse::growth(a, m);
+    }
+    let shown = folder.done("office --state office show");
+    let lines: Vec<&str> = shown.lines().collect();
+    assert_eq!(lines.len(), 5);
+    assert_eq!(lines[0], format!("day: count {count} of allowance 100000"));
+    for (line, group) in lines[1..].iter().zip(GROUPS) {
+        assert!(line.starts_with(&format!("group {group:2}: index {index:7}, toggle 1, ")), "{line}");
+        let shown = folder.done(&format!("group --state group-{group} show"));
+        assert!(shown.starts_with(&format!("group {group:2}: open, index {index:7}, toggle 1, ")), "{shown}");
+    }
+    assert_eq!(lines[4], "closed: 29 of 32 groups");
+
+    // Which group is nearly full: one that is, and none only where there is none.
+    let named = folder.done(&format!("office --state office nearly-full --mark {}", index - 1));
+    assert!(GROUPS.iter().any(|group| named == format!("{group}\n")), "{named}");
+    assert_eq!(folder.done(&format!("office --state office nearly-full --mark {index}")), "none\n");
+
+    // Another day, and a session in the place of an old one.
+    folder.done("office --state office day --allowance 28");
+    folder.write("new-key", b"another key of this group");
+    folder.fails(5, "office --state office open-group --group 9 --key new-key");
+    folder.done("office --state office open-group --group 9 --key new-key --replace");
+    folder.fails(3, "group --state group-9 start --group 9 --key new-key");
+    folder.fails(6, "group --state group-9 start --group 8 --key new-key --replace");
+    folder.done("group --state group-9 start --group 9 --key new-key --replace");
+    folder.done_anew("office --state office seal --group 9 --message message --out envelope --metadata-text new");
+    folder.done_anew("group --state group-9 unseal --in envelope --out opened");
+    assert_eq!(folder.read("opened"), folder.read("message"));
+    // 1 for the opening; 1 + 11 + 4 + 11 for 3 bytes of metadata and 500 of message.
+    assert!(folder.done("office --state office show").starts_with("day: count 28 of allowance 28\n"));
+    folder.fails(20, "office --state office seal --group 9 --message message --out another");
+}
+
+#[test]
+fn standard_input_and_output_stand_for_files() {
+    let folder = Folder::pair(5);
+    let sealed = folder.run_on("office --state office seal --group 5 --message - --out -", b"20001 to 20100");
+    assert_eq!((sealed.status, sealed.said.as_str()), (0, ""));
+    assert!(sealed.printed.starts_with(b"S,5,0,14,"));
+    let opened = folder.run_on("group --state group unseal --in - --out - --metadata-out metadata", &sealed.printed);
+    assert_eq!((opened.status, &opened.printed[..], opened.said.as_str()), (0, &b"20001 to 20100"[..], ""));
+    assert_eq!(folder.read("metadata"), Some(Vec::new()));
+    let again = folder.run("group --state group reread --out -");
+    assert_eq!((again.status, &again.printed[..]), (0, &b"20001 to 20100"[..]));
+    let again = folder.run("office --state office resend --group 5 --out -");
+    assert_eq!((again.status, again.printed), (0, sealed.printed));
+}
+
+/// Envelopes that stand one after the other in a file, read by their places.
+#[test]
+fn more_bytes_may_follow_an_envelope() {
+    let folder = Folder::pair(5);
+    let mut all = b"noise".to_vec();
+    let mut places = Vec::new();
+    for text in ["one", "two", "three"] {
+        folder.write("message", text.as_bytes());
+        folder.done_anew("office --state office seal --group 5 --message message --out envelope");
+        places.push(all.len());
+        all.extend(folder.read("envelope").unwrap());
+    }
+    folder.write("all", &all);
+    folder.fails(11, "group --state group unseal --in all --out opened");
+    let told = folder.done_anew("group --state group unseal --in all --from 5 --out opened");
+    assert!(told.contains(&format!("`--from {}`", places[1])), "{told}");
+    assert_eq!(folder.read("opened").unwrap(), b"one");
+    folder.done_anew(&format!("group --state group unseal --in all --from {} --out opened", places[1]));
+    let told = folder.done_anew(&format!("group --state group unseal --in all --from {} --out opened", places[2]));
+    assert!(!told.contains("--from"), "{told}");
+    assert_eq!(folder.read("opened").unwrap(), b"three");
+    for from in [all.len(), all.len() + 1, u32::MAX as usize] {
+        folder.fails(11, &format!("group --state group unseal --in all --from {from} --out opened"));
+    }
+}
+
+/// The other end is the independent implementation, in both roles.
+#[test]
+fn the_independent_implementation_understands_it() {
+    let folder = Folder::pair(17);
+    let mut other = sanse::Session::start(&folder.read("key").unwrap()).unwrap();
+    for (turn, length) in [0, 1, 47, 48, 49, 96, 1_000, 16_384].into_iter().enumerate() {
+        let message = text(turn as u32, length);
+        folder.write("message", &message);
+        folder.done_anew("office --state office seal --group 17 --metadata-text out --message message --out envelope");
+        let bytes = folder.read("envelope").unwrap();
+        let parts = envelope::read(&bytes).unwrap();
+        let mut opened = vec![0; length];
+        other.unwrap(parts.metadata, parts.cryptogram, parts.tag, &mut opened).unwrap();
+        assert_eq!((parts.group, parts.metadata, parts.place), (17, &b"out"[..], bytes.len()));
+        assert_eq!(opened, message);
+
+        let (mut cryptogram, mut tag, mut bytes) = (vec![0; length], [0; 32], vec![0; length + 100]);
+        other.wrap(b"back", &message, &mut cryptogram, &mut tag).unwrap();
+        let length = envelope::write(17, b"back", &cryptogram, &tag, &mut bytes).unwrap();
+        folder.write("envelope", &bytes[..length]);
+        folder.done_anew("office --state office unseal --in envelope --out opened");
+        assert_eq!(folder.read("opened").unwrap(), message);
+    }
+    let shown = folder.done("office --state office show");
+    assert!(shown.contains(&format!("group 17: index {:7}, ", other.index)), "{shown}");
+}
+
+#[test]
+fn the_demo_plays_a_season() {
+    let folder = Folder::new();
+    let mut command = folder.command("demo");
+    command.env("TMPDIR", &folder.0);
+    let shown = String::from_utf8(common::Run::of(command).printed).unwrap();
+    for (group, sent, returned) in
+        [(4, "S 20001 to S 20100", "S 20088 to S 20100"), (11, "M 5001 to M 5050", "M 5046 to M 5050")]
+    {
+        for text in [sent, returned] {
+            let line = shown.lines().find(|line| line.contains(&format!("\"{text}\""))).unwrap();
+            assert!(line.contains(&format!("group {group:2}")), "{line}");
+        }
+    }
+    assert_eq!(shown.matches("Refused, number 11: ").count(), 3, "{shown}");
+    assert_eq!(shown.matches("This is for group 4, and the state file is that of group 27.").count(), 1, "{shown}");
+    // 3 openings; 6 messages and 2 refused arrivals at the office of 1 + 1 + 4 + 1 permutations each.
+    assert!(shown.contains("day: count 59 of allowance 200\n"), "{shown}");
+    // 2 strings of one block each and a blank index after each, for 2 messages, at both ends.
+    assert_eq!(shown.matches(&format!("index {:7}, toggle 0", 8)).count(), 6, "{shown}");
+    assert_eq!(folder.done("demo"), shown, "every run prints the same");
+    assert_eq!(folder.names(), [""; 0], "nothing is left behind");
+}

@@ -1,0 +1,140 @@
+//! Why a call was refused.
+
+use std::fmt;
+
+/// The numbers of refusals. A call's checks are made in the order of these numbers, and the first that is met is given.
+#[derive(Clone, Copy, Debug, PartialEq, Eq, PartialOrd, Ord, Hash)]
+#[repr(u8)]
+pub enum Number {
+    /// 1: the envelope's header does not follow the layout.
+    BadHeader = 1,
+    /// 2: fewer bytes follow the header than its lengths and the tag's 32 together.
+    TooFewBytes = 2,
+    /// 3: the group is above 31.
+    BadGroup = 3,
+    /// 4: the key does not have 16 to 47 bytes.
+    BadKey = 4,
+    /// 5: the session is not open.
+    NotOpen = 5,
+    /// 6: metadata or message has more than 16,384 bytes.
+    TooLong = 6,
+    /// 7: the tag does not have 32 bytes. The types of this crate rule it out.
+    BadTagLength = 7,
+    /// 8: the output buffer is too short.
+    NoRoom = 8,
+    /// 9: the index after the call would exceed 1,048,576.
+    IndexFull = 9,
+    /// 10: the allowance is smaller than the day's count plus this call's count.
+    Allowance = 10,
+    /// 11: the tag differs.
+    WrongTag = 11,
+}
+
+impl Number {
+    /// All numbers, in their order.
+    pub const ALL: [Number; 11] = [
+        Number::BadHeader,
+        Number::TooFewBytes,
+        Number::BadGroup,
+        Number::BadKey,
+        Number::NotOpen,
+        Number::TooLong,
+        Number::BadTagLength,
+        Number::NoRoom,
+        Number::IndexFull,
+        Number::Allowance,
+        Number::WrongTag,
+    ];
+
+    /// The number itself, 1 to 11.
+    pub const fn number(self) -> u8 {
+        self as u8
+    }
+
+    /// A plain sentence for people.
+    pub const fn sentence(self) -> &'static str {
+        match self {
+            Number::BadHeader => "This is not an envelope: its header does not follow the layout.",
+            Number::TooFewBytes => "The envelope ends before all that its header announces.",
+            Number::BadGroup => "There is no such group: groups are numbered 0 to 31.",
+            Number::BadKey => "The key must have 16 to 47 bytes.",
+            Number::NotOpen => "The session is not open.",
+            Number::TooLong => "The metadata or the message has more than 16,384 bytes.",
+            Number::BadTagLength => "The tag must have 32 bytes.",
+            Number::NoRoom => "The output buffer is too short.",
+            Number::IndexFull => "The session is full: start a new one with a new key.",
+            Number::Allowance => "The day's allowance does not cover this call.",
+            Number::WrongTag => {
+                "The tag is wrong: the arrival is damaged, repeated, out of order or not meant for this session."
+            }
+        }
+    }
+}
+
+impl fmt::Display for Number {
+    fn fmt(&self, f: &mut fmt::Formatter<'_>) -> fmt::Result {
+        f.write_str(self.sentence())
+    }
+}
+
+/// A refused call. Sessions, buffers and the day's count are as they were before it, but for [`Number::WrongTag`]: there the
+/// day's count has grown by `count`, and the part of the output buffer that the message would have taken is zero.
+///
+/// ```
+/// use pevghazo::{Number, Session};
+///
+/// let refusal = Session::start(b"too short").unwrap_err();
+/// assert_eq!((refusal.number, refusal.number.number(), refusal.count), (Number::BadKey, 4, 0));
+/// assert_eq!(refusal.to_string(), "The key must have 16 to 47 bytes.");
+/// ```
+#[derive(Clone, Copy, Debug, PartialEq, Eq, Hash)]
+pub struct Refusal {
+    /// Why.
+    pub number: Number,
+    /// The permutations done: 0, but for a wrong tag, which costs as much as a right one.
+    pub count: u32,
+}
+
+impl fmt::Display for Refusal {
+    fn fmt(&self, f: &mut fmt::Formatter<'_>) -> fmt::Result {
+        self.number.fmt(f)
+    }
+}
+
+impl std::error::Error for Refusal {}
+
+/// The count of an accepted call, or the refusal.
+pub(crate) fn answer(number: u32, count: u32) -> Result<u32, Refusal> {
+    match Number::ALL.into_iter().find(|known| u32::from(known.number()) == number) {
+        None if number == 0 => Ok(count),
+        None => unreachable!("the library has no number {number}"),
+        Some(number) => Err(Refusal { number, count }),
+    }
+}
+
+/// Why stored bytes were not taken for a session or a table.
+#[derive(Clone, Copy, Debug, PartialEq, Eq, Hash)]
+pub enum BadBytes {
+    /// There are too few or too many.
+    Length {
+        /// How many there should be.
+        expected: usize,
+        /// How many there are.
+        found: usize,
+    },
+    /// A flag is neither 0 nor 1.
+    Flag,
+}
+
+impl fmt::Display for BadBytes {
+    fn fmt(&self, f: &mut fmt::Formatter<'_>) -> fmt::Result {
+        match self {
+            BadBytes::Length { expected, found } => {
+                write!(f, "The stored bytes are {found}, and there should be {expected}.")
+            }
+            BadBytes::Flag => f.write_str("The stored bytes hold a flag that is neither 0 nor 1."),
+        }
+    }
+}
+
+impl std::error::Error for BadBytes {}

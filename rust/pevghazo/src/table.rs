@@ -1,0 +1,213 @@
+//! The office's table of sessions.
+
+use std::fmt;
+
+pub use crate::raw::Day;
+use crate::raw::{self, GroupAnswer, Record};
+use crate::record;
+use crate::refusal::{BadBytes, Refusal, answer};
+use crate::session::Sealed;
+use crate::{GROUPS, TAG_LENGTH, Tag};
+
+/// The office's table: a session for each of 32 groups, and one day's count and allowance of permutations for all of them.
+///
+/// Its memory is set to zero when it is dropped, and like a session it cannot be copied.
+///
+/// ```
+/// use pevghazo::{Number, Session, Table};
+///
+/// # fn main() -> Result<(), pevghazo::Refusal> {
+/// let key = b"the key of group 7.....";
+/// let mut office = Table::new();
+/// // Before the first day there is no allowance.
+/// assert_eq!(office.open_group(7, key).unwrap_err().number, Number::Allowance);
+///
+/// office.start_day(10);
+/// office.open_group(7, key)?;
+/// let (mut group, _) = Session::start(key)?;
+///
+/// let sealed = office.seal(7, b"size C", b"12001-12100")?;
+/// assert_eq!(group.open(b"size C", &sealed.cryptogram, &sealed.tag)?, b"12001-12100");
+/// assert_eq!(office.day().spent, 1 + sealed.count);
+///
+/// assert_eq!(office.seal(7, b"size C", b"12101-12200").unwrap_err().number, Number::Allowance);
+/// assert_eq!(office.seal(8, b"size C", b"12101-12200").unwrap_err().number, Number::NotOpen);
+/// assert_eq!(office.nearly_full(3), Some(7));
+/// # Ok(())
+/// # }
+/// ```
+///
+/// ```compile_fail,E0599
+/// let table = pevghazo::Table::new();
+/// let copy = table.clone();
+/// ```
+pub struct Table {
+    /// In a box, so that a moved table leaves nothing behind.
+    sessions: Box<[Record; GROUPS]>,
+    day: Day,
+}
+
+/// What may be seen of a group's session.
+#[derive(Clone, Copy, Debug, PartialEq, Eq)]
+pub struct Group {
+    /// The group's number, 0 to 31.
+    pub group: u32,
+    /// Whether the session is open.
+    pub is_open: bool,
+    /// The index, up to 1,048,576.
+    pub index: u32,
+    /// The toggle, which changes with each accepted message.
+    pub toggle: bool,
+}
+
+impl Default for Table {
+    fn default() -> Table {
+        Table::new()
+    }
+}
+
+impl Table {
+    /// The bytes of a stored table.
+    pub const BYTES: usize = GROUPS * record::BYTES + 8;
+
+    /// The table before the first day: 32 closed sessions, count and allowance 0.
+    pub fn new() -> Table {
+        let sessions: Box<[Record]> = (0..GROUPS).map(|_| Record::closed()).collect();
+        let Ok(sessions) = sessions.try_into() else { unreachable!("there are as many as groups") };
+        Table { sessions, day: Day::default() }
+    }
+
+    /// Starts a day: a count of 0, and this allowance. Never refused.
+    pub fn start_day(&mut self, allowance: u32) {
+        self.day = raw::start_day(allowance);
+    }
+
+    /// The day's count and allowance.
+    pub fn day(&self) -> Day {
+        self.day
+    }
+
+    /// Takes in the day after a call, and gives the count or the refusal.
+    fn take(&mut self, given: GroupAnswer) -> Result<u32, Refusal> {
+        self.day = given.day;
+        answer(given.number, given.count)
+    }
+
+    /// Replaces a group's session by a fresh one under this key, and gives the permutations done. Checks 3, 4 and 10; a
+    /// refusal leaves the old session.
+    pub fn open_group(&mut self, group: u32, key: &[u8]) -> Result<u32, Refusal> {
+        let given = raw::open_group(&mut self.sessions[..], group, self.day, key);
+        self.take(given)
+    }
+
+    /// [`Session::wrap`](crate::Session::wrap) for a group. Checks 3, 5, 6 and 8 to 10.
+    pub fn wrap_group(
+        &mut self,
+        group: u32,
+        metadata: &[u8],
+        message: &[u8],
+        out: &mut [u8],
+        tag: &mut Tag,
+    ) -> Result<u32, Refusal> {
+        let given = raw::wrap_group(&mut self.sessions[..], group, self.day, metadata, message, out, tag);
+        self.take(given)
+    }
+
+    /// [`Session::unwrap`](crate::Session::unwrap) for a group. Checks 3, 5, 6 and 8 to 11; 11 adds its count to the day's.
+    pub fn unwrap_group(
+        &mut self,
+        group: u32,
+        metadata: &[u8],
+        cryptogram: &[u8],
+        tag: &Tag,
+        out: &mut [u8],
+    ) -> Result<u32, Refusal> {
+        let given = raw::unwrap_group(&mut self.sessions[..], group, self.day, metadata, cryptogram, tag, out);
+        self.take(given)
+    }
+
+    /// [`Table::wrap_group`] into fresh bytes.
+    pub fn seal(&mut self, group: u32, metadata: &[u8], message: &[u8]) -> Result<Sealed, Refusal> {
+        let mut sealed = Sealed { cryptogram: vec![0; message.len()], tag: [0; TAG_LENGTH], count: 0 };
+        sealed.count = self.wrap_group(group, metadata, message, &mut sealed.cryptogram, &mut sealed.tag)?;
+        Ok(sealed)
+    }
+
+    /// [`Table::unwrap_group`] into fresh bytes.
+    pub fn open(&mut self, group: u32, metadata: &[u8], cryptogram: &[u8], tag: &Tag) -> Result<Vec<u8>, Refusal> {
+        let mut message = vec![0; cryptogram.len()];
+        self.unwrap_group(group, metadata, cryptogram, tag, &mut message)?;
+        Ok(message)
+    }
+
+    /// An open group whose index is above the mark, or none, which is said only where there is none.
+    pub fn nearly_full(&self, mark: u32) -> Option<u32> {
+        let given = raw::nearly_full(&self.sessions[..], mark);
+        assert_eq!(given.number, 0, "a table has 32 sessions");
+        given.found.then_some(given.group)
+    }
+
+    /// What may be seen of a group's session; none for a group above 31.
+    pub fn group(&self, group: u32) -> Option<Group> {
+        let record = self.sessions.get(usize::try_from(group).ok()?)?;
+        Some(Group { group, is_open: record.opened, index: record.index, toggle: record.toggle })
+    }
+
+    /// All 32 groups, in their order.
+    pub fn groups(&self) -> impl Iterator<Item = Group> {
+        (0..GROUPS as u32).filter_map(|group| self.group(group))
+    }
+
+    /// The table's bytes, for storing it: the sessions in their order, each as in
+    /// [`Session::to_bytes`](crate::Session::to_bytes), then the day's count and allowance, 32 bits each and little-endian.
+    /// They are as secret as the sessions: [`wipe`](crate::wipe) sets them to zero.
+    ///
+    /// ```
+    /// use pevghazo::Table;
+    ///
+    /// # fn main() -> Result<(), pevghazo::Refusal> {
+    /// let mut table = Table::new();
+    /// table.start_day(1_000);
+    /// table.open_group(31, &[7; 16])?;
+    /// let mut bytes = table.to_bytes();
+    /// drop(table);
+    ///
+    /// let table = Table::from_bytes(&bytes).unwrap();
+    /// pevghazo::wipe(&mut bytes);
+    /// assert_eq!((table.day().spent, table.day().allowance), (1, 1_000));
+    /// assert!(table.group(31).unwrap().is_open);
+    /// # Ok(())
+    /// # }
+    /// ```
+    pub fn to_bytes(&self) -> Vec<u8> {
+        let mut bytes = vec![0; Table::BYTES];
+        let (sessions, day) = bytes.split_at_mut(GROUPS * record::BYTES);
+        for (place, session) in sessions.chunks_exact_mut(record::BYTES).zip(self.sessions.iter()) {
+            record::store(session, place.try_into().expect("chunks have this length"));
+        }
+        day[..4].copy_from_slice(&self.day.spent.to_le_bytes());
+        day[4..].copy_from_slice(&self.day.allowance.to_le_bytes());
+        bytes
+    }
+
+    /// A table from its stored bytes.
+    pub fn from_bytes(bytes: &[u8]) -> Result<Table, BadBytes> {
+        record::check_length(Table::BYTES, bytes.len())?;
+        let (sessions, day) = bytes.split_at(GROUPS * record::BYTES);
+        let mut table = Table::new();
+        for (place, session) in sessions.chunks_exact(record::BYTES).zip(table.sessions.iter_mut()) {
+            record::load(session, place.try_into().expect("chunks have this length"))?;
+        }
+        let number = |bytes: &[u8]| u32::from_le_bytes(bytes.try_into().expect("four bytes"));
+        table.day = Day { spent: number(&day[..4]), allowance: number(&day[4..]) };
+        Ok(table)
+    }
+}
+
+impl fmt::Debug for Table {
+    /// What is not secret: the day and the open groups.
+    fn fmt(&self, f: &mut fmt::Formatter<'_>) -> fmt::Result {
+        let open: Vec<Group> = self.groups().filter(|group| group.is_open).collect();
+        f.debug_struct("Table").field("day", &self.day).field("open", &open).finish_non_exhaustive()
+    }
+}

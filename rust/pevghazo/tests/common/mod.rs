@@ -1,0 +1,244 @@
+//! Cases, lengths and sessions that are held twice, shared by the comparison tests.
+//!
+//! Each test runs `PEVGHAZO_CASES` cases, 10,000 by default, each from a seed of its own. A failure names the seed, and
+//! `PEVGHAZO_SEED` runs that case alone.
+#![allow(dead_code)]
+
+use pevghazo::raw::{self, Answer, Record};
+use pevghazo_reference::random::Random;
+use pevghazo_reference::refusal::Refusal;
+use pevghazo_reference::sanse::Session;
+
+/// The lengths at which something changes.
+pub const EDGES: [usize; 10] = [0, 1, 47, 48, 49, 95, 96, 97, 16_383, 16_384];
+
+/// Names the seed of a case that fails.
+struct Case {
+    name: &'static str,
+    seed: u64,
+}
+
+impl Drop for Case {
+    fn drop(&mut self) {
+        if std::thread::panicking() {
+            eprintln!("{} failed with seed {}; PEVGHAZO_SEED={} runs this case alone", self.name, self.seed, self.seed);
+        }
+    }
+}
+
+/// A number from the environment.
+fn setting(name: &str) -> Option<u64> {
+    let value = std::env::var(name).ok()?;
+    Some(value.parse().unwrap_or_else(|_| panic!("{name} is not a number: {value}")))
+}
+
+/// Whether the tests run all cases, so that counts of what happened mean something.
+pub fn is_whole_run() -> bool {
+    setting("PEVGHAZO_SEED").is_none() && setting("PEVGHAZO_CASES").is_none_or(|cases| cases >= 1_000)
+}
+
+/// Runs the cases of a test.
+pub fn cases(name: &'static str, mut one: impl FnMut(&mut Random)) {
+    let seeds = match setting("PEVGHAZO_SEED") {
+        Some(seed) => seed..seed + 1,
+        None => 1..setting("PEVGHAZO_CASES").unwrap_or(10_000) + 1,
+    };
+    for seed in seeds {
+        let _case = Case { name, seed };
+        one(&mut Random::new(seed));
+    }
+}
+
+/// A length within the limit: an edge, a short one, or any.
+pub fn length(random: &mut Random) -> usize {
+    match random.below(20) {
+        0 => random.below(16_385),
+        1 => random.pick(&EDGES),
+        2..8 => random.pick(&EDGES[..8]),
+        8..12 => random.below(16),
+        _ => random.below(300),
+    }
+}
+
+/// Random bytes of a random length within the limit.
+pub fn text(random: &mut Random) -> Vec<u8> {
+    let length = length(random);
+    random.bytes(length)
+}
+
+/// A key within the limits.
+pub fn key(random: &mut Random) -> Vec<u8> {
+    let length = 16 + random.below(32);
+    random.bytes(length)
+}
+
+/// One time in `n`, something else than `usual`: a length below, or above.
+pub fn other_length(random: &mut Random, usual: usize, n: usize) -> usize {
+    if !random.once_in(n) {
+        return usual;
+    }
+    match random.below(4) {
+        0 => 0,
+        1 => usual.saturating_sub(1),
+        2 => usual + 1,
+        _ => random.below(2 * usual + 2),
+    }
+}
+
+/// One time in `n` a text that is too long.
+pub fn maybe_long(random: &mut Random, text: &[u8], n: usize) -> Vec<u8> {
+    if !random.once_in(n) {
+        return text.to_vec();
+    }
+    let length = if random.once_in(2) { 16_385 } else { 16_385 + random.below(200) };
+    random.bytes(length)
+}
+
+/// The bytes with some bits flipped, at least one; empty ones stay.
+pub fn damaged(random: &mut Random, bytes: &[u8]) -> Vec<u8> {
+    let mut bad = bytes.to_vec();
+    if !bad.is_empty() {
+        let place = random.below(bad.len());
+        bad[place] ^= 1 + random.below(255) as u8;
+    }
+    bad
+}
+
+/// A second record with the same content. Only tests do this.
+pub fn copy(record: &Record) -> Record {
+    Record { acc: record.acc, mask: record.mask, index: record.index, toggle: record.toggle, opened: record.opened }
+}
+
+/// The library's record for one of the reference.
+pub fn record_of(session: &Session) -> Record {
+    Record {
+        acc: session.accumulator,
+        mask: session.mask,
+        index: session.index,
+        toggle: session.toggle,
+        opened: session.open,
+    }
+}
+
+/// A reference's answer as the library gives it.
+pub fn answer_of(answer: Result<u32, Refusal>) -> Answer {
+    match answer {
+        Ok(count) => Answer { number: 0, count },
+        Err(refusal) => Answer { number: refusal.number.number().into(), count: refusal.count },
+    }
+}
+
+/// A record with any numbers, also ones that no calls leave behind.
+pub fn any_session(random: &mut Random) -> Session {
+    let index = match random.below(4) {
+        0 => random.bits() as u32,
+        1 => 1_048_576 - random.below(800) as u32,
+        2 => 1_048_577 + random.below(3) as u32,
+        _ => random.below(1_048_577) as u32,
+    };
+    Session {
+        accumulator: random.state(),
+        mask: random.state(),
+        index,
+        toggle: random.once_in(2),
+        open: !random.once_in(6),
+    }
+}
+
+/// A session held twice: by the library, and by the reference. Each call is made on both with buffers of the same content,
+/// and answers, whole buffers and records must be the same.
+pub struct Both {
+    pub library: Record,
+    pub reference: Session,
+}
+
+impl Both {
+    /// The same record on both sides.
+    pub fn of(reference: Session) -> Both {
+        Both { library: record_of(&reference), reference }
+    }
+
+    /// Starts, over a record with any numbers.
+    pub fn start(random: &mut Random, key: &[u8]) -> (Both, Answer) {
+        let mut library = record_of(&any_session(random));
+        let given = raw::start(&mut library, key);
+        let (reference, answer) = match Session::start(key) {
+            Ok(session) => (session, Ok(Session::START_COUNT)),
+            Err(number) => (Session::CLOSED, Err(number.into())),
+        };
+        assert_eq!(given, answer_of(answer));
+        let both = Both { library, reference };
+        both.check();
+        (both, given)
+    }
+
+    /// Both sides have one record.
+    pub fn check(&self) {
+        let (library, reference) = (&self.library, &self.reference);
+        assert_eq!(library.acc, reference.accumulator, "accumulator");
+        assert_eq!(library.mask, reference.mask, "mask");
+        assert_eq!(
+            (library.index, library.toggle, library.opened),
+            (reference.index, reference.toggle, reference.open),
+            "index, toggle, open"
+        );
+    }
+
+    /// Wraps into these buffers.
+    pub fn wrap(&mut self, metadata: &[u8], message: &[u8], out: &mut [u8], tag: &mut [u8]) -> Answer {
+        let (mut out_too, mut tag_too) = (out.to_vec(), tag.to_vec());
+        let given = raw::wrap(&mut self.library, metadata, message, out, tag);
+        let answer = self.reference.wrap(metadata, message, &mut out_too, &mut tag_too);
+        assert_eq!(given, answer_of(answer), "wrap");
+        assert!(out == out_too, "wrap: the output buffers differ");
+        assert!(tag == tag_too, "wrap: the tag buffers differ");
+        self.check();
+        given
+    }
+
+    /// Unwraps into this buffer.
+    pub fn unwrap(&mut self, metadata: &[u8], cryptogram: &[u8], tag: &[u8], out: &mut [u8]) -> Answer {
+        let mut out_too = out.to_vec();
+        let given = raw::unwrap(&mut self.library, metadata, cryptogram, tag, out);
+        let answer = self.reference.unwrap(metadata, cryptogram, tag, &mut out_too);
+        assert_eq!(given, answer_of(answer), "unwrap");
+        assert!(out == out_too, "unwrap: the output buffers differ");
+        self.check();
+        given
+    }
+}
+
+/// What travels, with the message that it should give.
+#[derive(Clone, Debug, PartialEq, Eq)]
+pub struct Arrival {
+    pub metadata: Vec<u8>,
+    pub cryptogram: Vec<u8>,
+    pub tag: Vec<u8>,
+    pub message: Vec<u8>,
+}
+
+impl Arrival {
+    /// Whether the two travel as the same bytes.
+    pub fn travels_as(&self, other: &Arrival) -> bool {
+        (&self.metadata, &self.cryptogram, &self.tag) == (&other.metadata, &other.cryptogram, &other.tag)
+    }
+
+    /// The arrival with one kind of damage; it may be none for empty parts.
+    pub fn damaged(&self, random: &mut Random) -> Arrival {
+        let mut bad = self.clone();
+        match random.below(12) {
+            0 | 1 => bad.tag = damaged(random, &self.tag),
+            2 | 3 => bad.cryptogram = damaged(random, &self.cryptogram),
+            4 | 5 => bad.metadata = damaged(random, &self.metadata),
+            6 => bad.tag = random.bytes(32),
+            7 => drop(bad.cryptogram.pop()),
+            8 => bad.cryptogram.insert(0, 0),
+            9 => drop(bad.metadata.pop()),
+            10 => bad.metadata.push(0),
+            _ => bad.metadata.append(&mut bad.cryptogram),
+        }
+        bad.metadata.truncate(16_384);
+        bad.cryptogram.truncate(16_384);
+        bad
+    }
+}

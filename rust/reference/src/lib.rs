@@ -1,0 +1,51 @@
+//! An independent implementation of the sealing, written from the papers for tests and benchmarks.
+//!
+//! Nothing that is delivered links this crate. It exists so that the proved code has something to be compared with that
+//! was written by reading the papers only:
+//!
+//! * the Xoodoo cookbook: the permutation (section 2), Xoofff (section 3) and Xoofff-SANSE (section 5);
+//! * the Farfalle paper, section 3: the construction that makes a deck function from a permutation;
+//! * the scope document, number 01: limits, counts, what a refusal leaves behind, the envelope and the office's table.
+//!
+//! # The layers
+//!
+//! | module | what it holds |
+//! |---|---|
+//! | [`xoodoo`] | the permutation on twelve 32-bit lanes, its inverse, and the two rolling functions |
+//! | [`deck`] | Xoofff: a keyed function from a *history* (a sequence of strings) to as many bytes as one asks for |
+//! | [`bits`] | permutation, padding, rolling and deck function once more, literally, on strings of bits |
+//! | [`sanse`] | sessions: start, wrap and unwrap on a record that is carried along from call to call |
+//! | [`ledger`] | the same session kept as key and full history, with the deck function worked out afresh at each call |
+//! | [`envelope`] | the bytes in which a sealed message travels |
+//! | [`office`] | the office's table of 32 sessions with one allowance of permutations for the day |
+//! | [`refusal`] | the numbers under which a call is refused |
+//! | [`random`] | a small deterministic generator of test data |
+//!
+//! # A message from one end to the other
+//!
+//! ```
+//! use pevghazo_reference::sanse::Session;
+//!
+//! let key = b"sixteen bytes or more";
+//! let mut office = Session::start(key).unwrap();
+//! let mut group = Session::start(key).unwrap();
+//!
+//! let (mut cryptogram, mut tag) = ([0; 11], [0; 32]);
+//! office.wrap(b"size C", b"12001-12100", &mut cryptogram, &mut tag).unwrap();
+//!
+//! let mut message = [0; 11];
+//! group.unwrap(b"size C", &cryptogram, &tag, &mut message).unwrap();
+//! assert_eq!(&message, b"12001-12100");
+//! assert_eq!(office, group);
+//! ```
+#![forbid(unsafe_code)]
+
+pub mod bits;
+pub mod deck;
+pub mod envelope;
+pub mod ledger;
+pub mod office;
+pub mod random;
+pub mod refusal;
+pub mod sanse;
+pub mod xoodoo;

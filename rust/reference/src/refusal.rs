@@ -1,0 +1,86 @@
+//! The numbers under which a call is refused (document 01, "What stops a call, in checking order").
+
+use std::fmt;
+
+/// Why a call was refused. A call's checks are made in the order of these numbers, and the first that is met is given.
+#[derive(Clone, Copy, Debug, PartialEq, Eq, PartialOrd, Ord, Hash)]
+#[repr(u8)]
+pub enum Number {
+    /// 1: the envelope's header does not follow the layout.
+    Header = 1,
+    /// 2: fewer bytes follow the header than its two lengths and the tag need.
+    Truncated = 2,
+    /// 3: the table does not hold 32 records, or the group is above 31.
+    Group = 3,
+    /// 4: the key is shorter than 16 or longer than 47 bytes.
+    Key = 4,
+    /// 5: the session is not open.
+    Closed = 5,
+    /// 6: metadata or message is longer than 16,384 bytes.
+    TooLong = 6,
+    /// 7: the tag, or the buffer for it, is not 32 bytes.
+    TagLength = 7,
+    /// 8: the output buffer is too short.
+    Buffer = 8,
+    /// 9: the index after the call would exceed its limit.
+    Full = 9,
+    /// 10: the day's allowance does not cover this call.
+    Allowance = 10,
+    /// 11: the tag is not the one that this session finds.
+    Tag = 11,
+}
+
+impl Number {
+    /// The number itself.
+    pub fn number(self) -> u8 {
+        self as u8
+    }
+
+    /// A plain sentence for people.
+    pub fn sentence(self) -> &'static str {
+        match self {
+            Number::Header => "The envelope's header does not follow the layout.",
+            Number::Truncated => "The envelope ends before all that its header announces.",
+            Number::Group => "There is no such group: groups are 0 to 31, in a table of 32.",
+            Number::Key => "The key must have 16 to 47 bytes.",
+            Number::Closed => "The session is not open.",
+            Number::TooLong => "Metadata or message has more than 16,384 bytes.",
+            Number::TagLength => "The tag must have 32 bytes.",
+            Number::Buffer => "The output buffer is too short.",
+            Number::Full => "The session is full: start a new one with a new key.",
+            Number::Allowance => "The day's allowance does not cover this call.",
+            Number::Tag => "The tag is wrong: the arrival is damaged, repeated, out of order or not for this session.",
+        }
+    }
+}
+
+impl fmt::Display for Number {
+    fn fmt(&self, f: &mut fmt::Formatter<'_>) -> fmt::Result {
+        write!(f, "{} (number {})", self.sentence(), self.number())
+    }
+}
+
+/// A refusal of a call that has a count of permutations.
+#[derive(Clone, Copy, Debug, PartialEq, Eq)]
+pub struct Refusal {
+    /// Why.
+    pub number: Number,
+    /// The permutations made: 0, but for a wrong tag, which costs as much as a right one.
+    pub count: u32,
+}
+
+impl From<Number> for Refusal {
+    /// A refusal before any permutation was made.
+    fn from(number: Number) -> Refusal {
+        Refusal { number, count: 0 }
+    }
+}
+
+impl fmt::Display for Refusal {
+    fn fmt(&self, f: &mut fmt::Formatter<'_>) -> fmt::Result {
+        self.number.fmt(f)
+    }
+}
+
+impl std::error::Error for Number {}
+impl std::error::Error for Refusal {}

@@ -1,0 +1,148 @@
+//! Why a state file could not be used, each with a plain sentence.
+
+use std::path::{Path, PathBuf};
+use std::{fmt, io};
+
+/// Why a state file could not be opened or committed. The display is one plain sentence.
+#[derive(Debug)]
+#[non_exhaustive]
+pub enum Error {
+    /// There is no state file.
+    Missing {
+        /// The state file.
+        path: PathBuf,
+    },
+    /// There is a state file already.
+    Exists {
+        /// The state file.
+        path: PathBuf,
+    },
+    /// Another process has it open.
+    Busy {
+        /// The state file.
+        path: PathBuf,
+    },
+    /// The name belongs to something that is not a file.
+    NotAFile {
+        /// The name.
+        path: PathBuf,
+    },
+    /// The file has a second name (a hard link), which would keep the old state after a commit.
+    SecondName {
+        /// The state file.
+        path: PathBuf,
+    },
+    /// The file's permissions let others in.
+    OpenToOthers {
+        /// The state file.
+        path: PathBuf,
+    },
+    /// The state is larger than a state file may be.
+    TooLarge {
+        /// The state file.
+        path: PathBuf,
+        /// How large it is.
+        bytes: u64,
+    },
+    /// The content is not that of a whole state file.
+    Damaged {
+        /// The state file.
+        path: PathBuf,
+        /// What is wrong with it.
+        damage: Damage,
+    },
+    /// The system refused something. The state file is as it was.
+    System {
+        /// What was tried.
+        what: &'static str,
+        /// On which file.
+        path: PathBuf,
+        /// What the system said.
+        source: io::Error,
+    },
+    /// The new state is in its place, but the disk did not confirm it.
+    NotSynced {
+        /// The state file.
+        path: PathBuf,
+        /// What the system said.
+        source: io::Error,
+    },
+}
+
+/// What is wrong with the content of a state file.
+#[derive(Clone, Copy, Debug, PartialEq, Eq)]
+pub enum Damage {
+    /// It does not start as a state file does.
+    Start,
+    /// It was written in a version of the format that this program does not know.
+    Version(u32),
+    /// It is shorter or longer than it says.
+    Length,
+    /// Its checksum does not match.
+    Checksum,
+}
+
+impl Error {
+    /// The file that the error is about.
+    pub fn path(&self) -> &Path {
+        match self {
+            Error::Missing { path }
+            | Error::Exists { path }
+            | Error::Busy { path }
+            | Error::NotAFile { path }
+            | Error::SecondName { path }
+            | Error::OpenToOthers { path }
+            | Error::TooLarge { path, .. }
+            | Error::Damaged { path, .. }
+            | Error::System { path, .. }
+            | Error::NotSynced { path, .. } => path,
+        }
+    }
+}
+
+impl fmt::Display for Damage {
+    fn fmt(&self, f: &mut fmt::Formatter<'_>) -> fmt::Result {
+        match self {
+            Damage::Start => write!(f, "it does not start as a state file does"),
+            Damage::Version(version) => write!(f, "it has version {version} of the format, which is not known here"),
+            Damage::Length => write!(f, "its length is not the one that it states"),
+            Damage::Checksum => write!(f, "its checksum does not match"),
+        }
+    }
+}
+
+impl fmt::Display for Error {
+    fn fmt(&self, f: &mut fmt::Formatter<'_>) -> fmt::Result {
+        let path = self.path().display();
+        match self {
+            Error::Missing { .. } => write!(f, "There is no state file {path}."),
+            Error::Exists { .. } => write!(f, "There is a state file {path} already."),
+            Error::Busy { .. } => write!(f, "Another program is using the state file {path}."),
+            Error::NotAFile { .. } => write!(f, "{path} is not a file."),
+            Error::SecondName { .. } => {
+                write!(f, "The state file {path} has a second name, which would keep an old state: remove one of them.")
+            }
+            Error::OpenToOthers { .. } => {
+                write!(f, "Others may read or write the state file {path}: take that away with chmod 600.")
+            }
+            Error::TooLarge { bytes, .. } => {
+                write!(f, "The state file {path} would have {bytes} bytes, which is too many.")
+            }
+            Error::Damaged { damage, .. } => write!(f, "The state file {path} cannot be used: {damage}."),
+            Error::System { what, source, .. } => write!(f, "Could not {what} {path}: {source}."),
+            Error::NotSynced { source, .. } => write!(
+                f,
+                "The new state is in {path}, but the disk did not confirm it: {source}. A power failure may bring the old one back."
+            ),
+        }
+    }
+}
+
+impl std::error::Error for Error {
+    fn source(&self) -> Option<&(dyn std::error::Error + 'static)> {
+        match self {
+            Error::System { source, .. } | Error::NotSynced { source, .. } => Some(source),
+            _ => None,
+        }
+    }
+}

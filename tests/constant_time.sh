@@ -1,0 +1,31 @@
+#!/usr/bin/env bash
+# Runs tests/constant_time.c under valgrind, for lone sessions and for a group. It fails where a branch or an address depends on a secret,
+# but for the verdict on the tag, which is a single branch.
+set -eu
+cd "$(dirname "$0")/.."
+lib=${PEVGHAZO_LIB_DIR:-target/staticlib}
+out=target/constant_time
+fail() {
+  echo "constant time: $*" >&2
+  exit 1
+}
+command -v valgrind >/dev/null || fail "valgrind is missing (Debian package valgrind)"
+[ -f "$lib/libcapi.a" ] || fail "$lib/libcapi.a is missing: run 'make lib'"
+mkdir -p "$out"
+echo '#include <valgrind/memcheck.h>' | gcc -fsyntax-only -x c - 2>/dev/null || fail "valgrind/memcheck.h is missing (Debian package valgrind)"
+gcc -O1 -g -std=gnu11 -Wall -Wextra tests/constant_time.c "$lib/libcapi.a" -o "$out/constant_time"
+for who in lone group; do
+  # The library has no tables for walking its stack, so reports are told apart by their innermost function alone.
+  valgrind --quiet --expensive-definedness-checks=yes --error-limit=no --num-callers=1 --log-file="$out/$who" "$out/constant_time" "$who" || {
+    tail -n 3 "$out/$who" >&2
+    fail "failed; all reports are in $out/$who, the last one is the one that it stopped at"
+  }
+  # Kind and place of each report; the two made on purpose are left out.
+  awk '/Conditional jump/ { kind = "branch" }
+       /Use of uninitialised/ { kind = "address" }
+       / at 0x/ && $4 !~ /^leak_by_/ { print kind, $3, $4 }' "$out/$who" | sort -u >"$out/places"
+  if [ "$(wc -l <"$out/places")" -gt 1 ] || grep -q ^address "$out/places"; then
+    cat "$out/places" >&2
+    fail "$who: more than the verdict's branch depends on a secret; all reports are in $out/$who"
+  fi
+done
