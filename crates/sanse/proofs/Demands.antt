@@ -1,4 +1,4 @@
--- Demands 2 and 3 hold of the program's start, wrap and unwrap, known by their `ensures` alone. Assumes nothing.
+-- Demands 1 to 3 hold of the program's start, wrap and unwrap, known by their `ensures` alone. Assumes nothing.
 use mathlib.Core.Bool.{Bool}
 use mathlib.Core.List.{List, [], _∷_}
 use mathlib.Core.Path.{_≡_, refl, sym, ap, _∙_, subst}
@@ -9,21 +9,21 @@ use Rattle.modes.specs.Mode.{incremental, sanse}
 use Rattle.modes.specs.Rules.{SessionState, Outcome, wrapAt, unwrapAt}
 use Rattle.modes.specs.OneCall.{sessionOf, WrapClaim, UnwrapClaim}
 use Rattle.modes.specs.TwoEnds.{Ends, at, put, Runs}
-use Rattle.modes.proofs.OneCall.{wrap-claim, unwrap-claim}
+use Rattle.modes.proofs.OneCall as call
 use Rattle.modes.proofs.TwoEnds as modes
 use Rattle.sanse.specs.declared.Session.{Session}
 use Rattle.sanse.specs.Session.{stateOf, startResult, callResult}
 use Rattle.sanse.specs.Demands.{Records, recordAt, store, Run, sessionsOf, OneCallOf, Demand3Of}
 use Rattle.sanse.proofs.Contracts.{promises, start-is, wrap-is, unwrap-is}
 
--- demand 2
+-- demands 1 and 2, of one call
 pub one-call : OneCallOf promises
 one-call =
     record {
       wraps = λ key h e s i r out tag q p.
-          subst (WrapClaim key h e i) (sym (wrap-is p ∙ ap (λ (z : SessionState DeckState). wrapAt sanse incremental z i) q)) (wrap-claim key h e i);
+          subst (WrapClaim key h e i) (sym (wrap-is p ∙ ap (λ (z : SessionState DeckState). wrapAt sanse incremental z i) q)) (call.one-call .wrap-claim key h e i);
       unwraps = λ key h e s i r out tag q p.
-          subst (UnwrapClaim key h e i) (sym (unwrap-is p ∙ ap (λ (z : SessionState DeckState). unwrapAt sanse incremental z i) q)) (unwrap-claim key h e i);
+          subst (UnwrapClaim key h e i) (sym (unwrap-is p ∙ ap (λ (z : SessionState DeckState). unwrapAt sanse incremental z i) q)) (call.one-call .unwrap-claim key h e i);
     }
 
 -- ---- demand 3
