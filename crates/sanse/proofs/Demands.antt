@@ -1,18 +1,16 @@
 -- Demands 1 to 3 hold of the program's start, wrap and unwrap, known by their `ensures` alone. Assumes nothing.
-use mathlib.Core.Bool.{Bool}
-use mathlib.Core.List.{List, [], _∷_}
+use mathlib.Core.List.{List}
 use mathlib.Core.Path.{_≡_, refl, sym, ap, _∙_, subst}
-use Prim.Native.Nat.{ℕ, _≤_}
 use Rattle.xoofff.specs.declared.DeckState.{DeckState}
-use Rattle.modes.specs.Call.{CallInput, Side, office, group, Call, wrap, unwrap}
+use Rattle.modes.specs.Call.{Side, office, group, Call, wrap, unwrap}
 use Rattle.modes.specs.Mode.{incremental, sanse}
 use Rattle.modes.specs.Rules.{SessionState, Outcome, wrapAt, unwrapAt}
-use Rattle.modes.specs.OneCall.{sessionOf, WrapClaim, UnwrapClaim}
+use Rattle.modes.specs.OneCall.{WrapClaim, UnwrapClaim}
 use Rattle.modes.specs.TwoEnds.{Ends, at, put, Runs}
 use Rattle.modes.proofs.OneCall as call
 use Rattle.modes.proofs.TwoEnds as modes
 use Rattle.sanse.specs.declared.Session.{Session}
-use Rattle.sanse.specs.Session.{stateOf, startResult, callResult}
+use Rattle.sanse.specs.Session.{stateOf, startResult}
 use Rattle.sanse.specs.Demands.{Records, recordAt, store, Run, sessionsOf, OneCallOf, Demand3Of}
 use Rattle.sanse.proofs.Contracts.{promises, start-is, wrap-is, unwrap-is}
 
