@@ -1,13 +1,11 @@
 -- `steps::same_bytes` meets its contract. The loop's invariant: no bit is set where all bytes so far are equal, and some bit where one
 -- differs. Assumes nothing.
-use mathlib.Core.Path.{_≡_, refl, sym, ap, _∙_}
-use mathlib.Core.List.{List, _++_}
-use Prim.Native.Nat.{ℕ, _≤_, _-_}
+use mathlib.Core.Path.{_≡_, refl}
+use Prim.Native.Nat.{_≤_, _-_}
 use native.Mathlib.Omega.{arith}
 use lib.Dec.{eqb}
 use lib.ListN.{length, take}
 use denote.Ref.{now}
-use borrow.Author.Needs.{needs}
 use Rattle.modes.specs.Rules.{sameBytes}
 use Rattle.steps.proofs.Buffers.{same-more, same-all}
 use Rattle.steps.proofs.same_bytes.Statement.{statement}
