@@ -7,7 +7,6 @@ ghost use Rattle.xoodoo.specs.Xoodoo.{perm};
 ghost use Rattle.xoofff.specs.Deck.{outputByte, run};
 ghost use Rattle.xoofff.specs.Leaves.{outputBlocks};
 ghost use Rattle.bench_exports.specs.Bench.{accAfter, maskAfter};
-
 use xoofff::DeckState;
 
 // The permutation, in place.
