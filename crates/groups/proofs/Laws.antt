@@ -1,17 +1,17 @@
 -- Laws of the count's formula, of check 10 and of a group's calls, over plain values. Assumes nothing.
 use mathlib.Core.Path.{_≡_, refl, sym, ap, ap₂, _∙_}
-use mathlib.Core.Logic.{_≢_, _⊎_, inl, inr}
+use mathlib.Core.Logic.{_≢_}
 use mathlib.Core.Bool.{Bool, true, false, not, _&&_, cond}
 use mathlib.Core.List.{List}
 use Prim.Native.Nat.{ℕ, zero, suc, _+_, _/_, _≤_, _<_}
 use native.Mathlib.Omega.{arith}
-use lib.Dec.{ltb, leb}
+use lib.Dec.{leb}
 use lib.ListN.{length}
-use borrow.Author.Tests.{ltb-false, le-ltb, le-leb, lt-leb}
+use borrow.Author.Tests.{ltb-false, le-leb, lt-leb}
 use Rattle.xoofff.specs.declared.DeckState.{DeckState}
 use Rattle.modes.specs.Call.{CallInput}
 use Rattle.modes.specs.Mode.{sanse, incremental, sanseCount}
-use Rattle.modes.specs.Rules.{SessionState, Outcome, Opening, growth, firstCheck, checkNumber, countOf, metadataString, ifNoCheck, wrapAt, unwrapAt, keyFits, startAt}
+use Rattle.modes.specs.Rules.{SessionState, Outcome, Opening, growth, firstCheck, checkNumber, countOf, metadataString, ifNoCheck, wrapAt, unwrapAt, startAt}
 use Rattle.steps.proofs.History.{passed}
 use Rattle.sanse.specs.declared.Session.{Session}
 use Rattle.sanse.specs.declared.CallResult.{CallResult}
@@ -19,7 +19,7 @@ use Rattle.sanse.specs.Session.{stateOf, startResult, callResult, handed}
 use Rattle.groups.proofs.Counts.{wrap-count, unwrap-count, start-count}
 use Rattle.groups.specs.declared.Day.{Day}
 use Rattle.groups.specs.declared.GroupResult.{GroupResult}
-use Rattle.groups.specs.Groups.{addCount, aboveAllowance, then10, groupCheck, charged, groupWrapAt, groupUnwrapAt, openCheck, openedUnless, groupOpenAt, openingResult, groupResult, GroupOutcome, GroupOpening}
+use Rattle.groups.specs.Groups.{addCount, aboveAllowance, then10, groupCheck, charged, groupWrapAt, groupUnwrapAt, openCheck, openedUnless, groupOpenAt, openingResult, groupResult}
 
 -- ---- the count's formula
 
