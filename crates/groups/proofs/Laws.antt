@@ -190,19 +190,17 @@ module _ (day : Day) (s : Session) (key : List ℕ) where
       → openingResult g ≡ groupOpenAt day (stateOf s) key
   open-short g h e =
       open-refused-by 4 (λ z. omega (arith, z))
-      (ap (λ (t : Bool). cond (not (t && leb (length key) 47)) 4 (cond (aboveAllowance day 1) 10 0)) (lt-leb 16 (length key) h)) g e
+      (rw (lt-leb 16 (length key) h)) g e
 
   pub open-long : (g : GroupResult) → 16 ≤ length key → 47 < length key → g ≡ record { session = s; answer = record { number = 4; count = 0; day = day } }
       → openingResult g ≡ groupOpenAt day (stateOf s) key
   open-long g l h e =
       open-refused-by 4 (λ z. omega (arith, z))
-      (ap₂ (λ (t u : Bool). cond (not (t && u)) 4 (cond (aboveAllowance day 1) 10 0)) (le-leb 16 (length key) l) (lt-leb (length key) 47 h)) g e
+      (rw (le-leb 16 (length key) l, lt-leb (length key) 47 h)) g e
 
   module _ (l : 16 ≤ length key) (h : length key ≤ 47) (t : Bool) (above : t ≡ aboveAllowance day 1) where
     open-check : openCheck day key ≡ cond t 10 0
-    open-check =
-        ap₂ (λ (t u : Bool). cond (not (t && u)) 4 (cond (aboveAllowance day 1) 10 0)) (le-leb 16 (length key) l) (le-leb (length key) 47 h)
-        ∙ ap (λ (t : Bool). cond t 10 0) (sym above)
+    open-check = rw (le-leb 16 (length key) l, le-leb (length key) 47 h, above)
 
     pub open-above : (g : GroupResult) → t ≡ true → g ≡ record { session = s; answer = record { number = 10; count = 0; day = day } }
         → openingResult g ≡ groupOpenAt day (stateOf s) key
