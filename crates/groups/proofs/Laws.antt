@@ -89,7 +89,7 @@ refused-is (suc n) day s a x out tag o h =
     ap (λ (k : ℕ). record {
       outcome = record { number = suc n; count = 0; session = stateOf s; out = out; tag = tag };
       day = record { spent = k; allowance = day .allowance };
-    }) (let e : day .spent ≡ day .spent + 0 = omega arith in e)
+    }) (let e : day .spent ≡ charged day (ifNoCheck (suc n) (stateOf s) (handed a x out tag) o) .day .spent = omega arith in e)
 
 -- what a call gives that meets none of the checks 5 to 10
 charged-is : (n : ℕ) (day : Day) (r : CallResult) (s : SessionState DeckState) (i : CallInput) (out tag : List ℕ) (o : Outcome DeckState) → n ≡ 0

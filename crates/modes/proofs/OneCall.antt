@@ -1,23 +1,24 @@
--- Demand 2 for one call, from the ledger with that history. Assumes nothing.
-use mathlib.Core.Bool.{Bool}
+-- Demands 1 and 2 for one call, from the ledger with that history. Assumes nothing.
+use mathlib.Core.Bool.{Bool, cond}
 use mathlib.Core.List.{List, _++_}
-use mathlib.Core.Path.{_≡_, refl, sym, ap, _∙_}
-use Prim.Native.Nat.{ℕ}
+use mathlib.Core.Path.{_≡_, refl, sym, ap, _∙_, subst}
+use Prim.Native.Nat.{ℕ, suc, _≤_}
+use native.Mathlib.Omega.{arith}
 use lib.ListN.{length, drop, replicate, length-replicate}
 use Rattle.xoofff.specs.declared.DeckState.{DeckState}
 use Rattle.xoofff.specs.Strings.{Str}
 use Rattle.modes.specs.Call.{CallInput}
 use Rattle.modes.specs.Mode.{incremental, sanse}
-use Rattle.modes.specs.Paper.{PaperResult, sanseWrap, sanseUnwrap}
+use Rattle.modes.specs.Paper.{PaperResult}
 use Rattle.modes.specs.Rules.{Outcome, wrapAt, unwrapAt}
-use Rattle.modes.specs.Ledger.{PaperMode, sansePaper, Ledger, checkBefore11, accepts, refuses11, ledgerWrap, ledgerUnwrap}
-use Rattle.modes.specs.OneCall.{sessionOf, Within, Accepted, WrongTag, WrapClaim, UnwrapClaim, OneCall}
+use Rattle.modes.specs.Ledger.{PaperMode, sansePaper, Ledger, Entry, equalTags, checkBefore11, onCheck, accepts, refuses11, ledgerWrap, ledgerUnwrap}
+use Rattle.modes.specs.OneCall.{sessionOf, Within, Accepted, WrongTag, Refused, wrapped, unwrapped, WrapClaim, UnwrapClaim, OneCall}
 use Rattle.modes.specs.TwoEnds.{outcomeOf}
 use Rattle.modes.proofs.Papers.{sanse-paper}
 use Rattle.modes.proofs.Steps.{sanse-laws}
 use Rattle.modes.proofs.Ledgers.{wrap-by-ledger, unwrap-by-ledger}
 use Rattle.modes.proofs.Entries.{wrap-done, unwrap-same, unwrap-differs}
-use Rattle.modes.proofs.Exactly.{none-check}
+use Rattle.modes.proofs.Exactly.{First, first-check, none-check}
 
 module _ (key : List ℕ) (h : List Str) (e : Bool) (i : CallInput) where
   abbrev pub ledger : Ledger
@@ -54,18 +55,48 @@ module _ (key : List ℕ) (h : List Str) (e : Bool) (i : CallInput) where
         session = ap (λ (o : Outcome DeckState). o .session) g;
       }
 
-  pub wrap-claim : WrapClaim key h e i (wrapAt sanse incremental (sessionOf key h e) i)
-  wrap-claim w =
-      let r : PaperResult = sanseWrap key h e (i .metadata) (i .text) in
-      accepted-is r (r .tag) refl _ (wrap-is ∙ ap outcomeOf (wrap-done sansePaper ledger i (none r w)))
+  -- an entry of a call that meets a check before 11
+  stopped-is : (r : PaperResult) (f : Entry) (o : Outcome DeckState) → o ≡ outcomeOf (onCheck sansePaper (checkBefore11 sansePaper r i) ledger i f)
+      → (Within i (r .history) → ⊥) → Refused (sessionOf key h e) i o
+  stopped-is r f o g n = go (checkBefore11 sansePaper r i) (first-check sansePaper r i) g
+    where
+      refused : (k : ℕ) → o ≡ outcomeOf (onCheck sansePaper (suc k) ledger i f) → (6 ≤ suc k) × (suc k ≤ 9) → Refused (sessionOf key h e) i o
+      refused k g b =
+          record {
+            number = subst (λ (n : ℕ). (6 ≤ n) × (n ≤ 9)) (sym (ap (λ (o : Outcome DeckState). o .number) g)) b;
+            count = ap (λ (o : Outcome DeckState). o .count) g;
+            out = ap (λ (o : Outcome DeckState). o .out) g;
+            tag = ap (λ (o : Outcome DeckState). o .tag) g;
+            session = ap (λ (o : Outcome DeckState). o .session) g;
+          }
 
-  pub unwrap-claim : UnwrapClaim key h e i (unwrapAt sanse incremental (sessionOf key h e) i)
-  unwrap-claim w =
-      let r : PaperResult = sanseUnwrap key h e (i .metadata) (i .text) (i .tag) in (
-        λ t. accepted-is r (i .tag) t _ (unwrap-is ∙ ap outcomeOf (unwrap-same sansePaper ledger i (none r w) t)),
-        λ t. refused-is _ (unwrap-is ∙ ap outcomeOf (unwrap-differs sansePaper ledger i (none r w) t)),
-      )
+      go : (k : ℕ) → First sansePaper r i k → o ≡ outcomeOf (onCheck sansePaper k ledger i f) → Refused (sessionOf key h e) i o
+      go k (First.is6 a) g = refused 5 g (omega arith, omega arith)
+      go k (First.is7 a b) g = refused 6 g (omega arith, omega arith)
+      go k (First.is8 a b c) g = refused 7 g (omega arith, omega arith)
+      go k (First.is9 a b c d) g = refused 8 g (omega arith, omega arith)
+      go k (First.is0 c) g = absurd (n (record { metadata = c .metadata; text = c .text; tag = c .tag; out = c .out; index = c .index }))
 
--- the rules' wrap and unwrap meet demand 2
+  wraps : WrapClaim key h e i (wrapAt sanse incremental (sessionOf key h e) i)
+  unfolding ledgerWrap
+  wraps =
+      record {
+        accepted = λ w.
+            let r : PaperResult = wrapped key h e i in
+            accepted-is r (r .tag) refl _ (wrap-is ∙ ap outcomeOf (wrap-done sansePaper ledger i (none r w)));
+        refused = stopped-is (wrapped key h e i) (accepts sansePaper ledger i (wrapped key h e i) (wrapped key h e i .tag)) _ wrap-is;
+      }
+
+  unwraps : UnwrapClaim key h e i (unwrapAt sanse incremental (sessionOf key h e) i)
+  unfolding ledgerUnwrap
+  unwraps =
+      let r : PaperResult = unwrapped key h e i in
+      record {
+        accepted = λ w t. accepted-is r (i .tag) t _ (unwrap-is ∙ ap outcomeOf (unwrap-same sansePaper ledger i (none r w) t));
+        wrong-tag = λ w t. refused-is _ (unwrap-is ∙ ap outcomeOf (unwrap-differs sansePaper ledger i (none r w) t));
+        refused = stopped-is r (cond (equalTags (i .tag) (r .tag)) (accepts sansePaper ledger i r (i .tag)) (refuses11 sansePaper ledger i)) _ unwrap-is;
+      }
+
+-- the rules' wrap and unwrap meet demands 1 and 2
 pub one-call : OneCall (wrapAt sanse incremental) (unwrapAt sanse incremental)
-one-call = record { wraps = wrap-claim; unwraps = unwrap-claim }
+one-call = record { wrap-claim = wraps; unwrap-claim = unwraps }

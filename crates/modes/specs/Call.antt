@@ -15,6 +15,7 @@ pub record CallInput : Type 0 where
 pub data Side : Type 0 where
   office group : Side
 
+-- the end across from one
 abbrev pub other : Side → Side
 other office = group
 other group = office

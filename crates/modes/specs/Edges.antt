@@ -14,6 +14,7 @@ use Rattle.modes.specs.Rules.{growth, startAt}
 
 -- ---- the table
 
+-- the rows, each with what the definitions give and what document 01 says
 abbrev pub edgeRows : List Row
 edgeRows =
     -- b of 0, 47, 48, 96

@@ -6,12 +6,12 @@ use mathlib.Core.List.{List}
 use mathlib.Core.Logic.{_↔_, _≢_, _⊎_}
 use mathlib.Core.Path.{_≡_}
 use Prim.Native.Nat.{ℕ, _<_, _≤_}
-use lib.ListN.{length}
+use lib.ListN.{length, replicate}
 use Rattle.xoofff.specs.Deck.{indexOf}
 use Rattle.modes.specs.Call.{CallInput}
 use Rattle.modes.specs.Paper.{PaperResult}
 use Rattle.modes.specs.Mode.{HistoryRep, Mode}
-use Rattle.modes.specs.Rules.{SessionState, closed, startAt, wrapAt, unwrapAt}
+use Rattle.modes.specs.Rules.{SessionState, startAt, wrapAt, unwrapAt}
 use Rattle.modes.specs.Ledger.{PaperMode, Ledger, wrapFinds, unwrapFinds, ledgerWrap, ledgerUnwrap}
 
 -- ---- the conditions, for a call for which the algorithm finds r
@@ -66,11 +66,22 @@ pub record UnwrapExactly (m : PaperMode) (l : Ledger) (i : CallInput) : Type 0 w
   pub eleven : (ledgerUnwrap m l i .answer .number ≡ 11) ↔ (NoneBefore11 m (unwrapFinds m l i) i × Check11 m (unwrapFinds m l i) i)
   pub accepted : (ledgerUnwrap m l i .answer .number ≡ 0) ↔ (NoneBefore11 m (unwrapFinds m l i) i × (i .tag ≡ unwrapFinds m l i .tag))
 
--- a start is refused by 4 exactly when the key's length is outside its limits, and gives a closed session then
+-- a start is refused by 4 exactly when the key's length is outside its limits; its count is 0 then, and its session is closed, with zero in
+-- all its numbers
 pub record StartExactly (key : List ℕ) : Type 0 where
   pub accepted : (startAt key .number ≡ 0) ↔ ((16 ≤ length key) × (length key ≤ 47))
   pub four : (startAt key .number ≡ 4) ↔ ((length key < 16) ⊎ (47 < length key))
-  pub refused : (length key < 16) ⊎ (47 < length key) → startAt key ≡ record { number = 4; count = 0; session = closed }
+  pub refused : (length key < 16) ⊎ (47 < length key)
+      → startAt key
+      ≡ record {
+        number = 4;
+        count = 0;
+        session = record {
+          history = record { acc = replicate 12 0; mask = replicate 12 0; index = 0 };
+          toggle = false;
+          opened = false;
+        };
+      }
 
 -- a call of a session that is not open gets 5, and nothing is altered: in any mode, and whatever the session holds
 pub record ClosedRefused (m : Mode) {S : Type 0} (d : HistoryRep S) (s : SessionState S) (i : CallInput) : Type 0 where

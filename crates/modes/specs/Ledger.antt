@@ -29,6 +29,7 @@ sansePermutations A M =
     let ceiling : ℕ = cond (eqb (M % 48) 0) (M / 48) (M / 48 + 1) in
     cond (eqb M 0) (bA + 2) (cond (eqb A 0) 0 bA + bM + 4 + ceiling)
 
+-- SANSE as 003 and document 01 give it
 abbrev pub sansePaper : PaperMode
 sansePaper = record { tagLength = 32; opens = sanseOpens; count = sansePermutations; wraps = sanseWrap; unwraps = sanseUnwrap }
 
@@ -58,10 +59,11 @@ equalTags (x ∷ s) [] = false
 equalTags (x ∷ s) (y ∷ t) = cond (eqb x y) (equalTags s t) false
 
 module _ (m : PaperMode) where
-  -- what the algorithms find for a call at the ledger's key, history and e
+  -- what the algorithm finds for a wrap at the ledger's key, history and e
   abbrev pub wrapFinds : Ledger → CallInput → PaperResult
   wrapFinds l i = m .wraps (l .key) (l .history) (l .toggle) (i .metadata) (i .text)
 
+  -- and the same of an unwrap
   abbrev pub unwrapFinds : Ledger → CallInput → PaperResult
   unwrapFinds l i = m .unwraps (l .key) (l .history) (l .toggle) (i .metadata) (i .text) (i .tag)
 

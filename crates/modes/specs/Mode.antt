@@ -58,6 +58,7 @@ pub record Mode : Type 1 where
   pub wraps : {S : Type 0} → HistoryRep S → S → Bool → (a m : List ℕ) → StepResult S
   pub unwraps : {S : Type 0} → HistoryRep S → S → Bool → (a c t : List ℕ) → StepResult S
 
+-- whether a run of bytes is empty
 abbrev pub isEmpty : List ℕ → Bool
 isEmpty [] = true
 isEmpty (a ∷ s) = false
@@ -84,9 +85,9 @@ module _ (p : Parameters) {S : Type 0} (d : HistoryRep S) where
   abbrev pub stepResult : S → List ℕ → StepResult S
   stepResult h x = record { after = h; body = x; tag = tagOf h }
 
-  -- ---- modes whose keystream is that of the history with the tag: SANSE. h is the history after the step of A
+  -- ---- modes whose keystream is that of the history with the tag: SANSE
 
-  -- x plus the keystream for the tag t
+  -- x plus the keystream of the history h, which A has entered, with the tag t as its newest string
   abbrev pub sivBody : S → Bool → (x t : List ℕ) → List ℕ
   sivBody h e x t = addKeystream (d .append h (framed t (p .frameT e))) x
 
@@ -124,6 +125,7 @@ unfoldable pub sanseCount : (a m : ℕ) → ℕ
 sanseCount a zero = b a + 2
 sanseCount a (suc m) = blocksOfA a + b (suc m) + 4 + ceiling48 (suc m)
 
+-- its frame bits: A, 0, e; M, 0, 1, e; T, 1, 1, e. Its tags have 32 bytes, e toggles, and a session opens with no string
 abbrev pub sanseParameters : Parameters
 sanseParameters =
     record {
@@ -137,5 +139,6 @@ sanseParameters =
       opens = [];
     }
 
+-- Xoofff-SANSE
 abbrev pub sanse : Mode
 sanse = siv sanseParameters

@@ -1,6 +1,6 @@
 -- Demand 2, one call: for every key, history and e, the session that this history gives, wrapped or unwrapped, gives what Algorithm 3 of 003
--- gives over the whole history, and the session of the longer history. First what the words mean, then the two claims. `sanseWrap` and
--- `sanseUnwrap` are the algorithm as printed. Assumes nothing.
+-- gives over the whole history, and the session of the longer history; and demand 1 of it: every other call is refused and alters nothing.
+-- First what the words mean, then the two claims. `sanseWrap` and `sanseUnwrap` are the algorithm as printed. Assumes nothing.
 use mathlib.Core.Bool.{Bool, true}
 use mathlib.Core.List.{List, _++_}
 use mathlib.Core.Logic.{_≢_}
@@ -64,20 +64,35 @@ pub record WrongTag (s : SessionState DeckState) (i : CallInput) (o : Outcome De
   -- the session is left as it was
   pub session : o .session ≡ s
 
+-- a call outside the limits: refused by a number from 6 to 9 with count 0, and nothing is altered
+pub record Refused (s : SessionState DeckState) (i : CallInput) (o : Outcome DeckState) : Type 0 where
+  pub number : (6 ≤ o .number) × (o .number ≤ 9)
+  pub count : o .count ≡ 0
+  pub out : o .out ≡ i .out
+  pub tag : o .tag ≡ i .tag
+  pub session : o .session ≡ s
+
+-- where the algorithm arrives for what a wrap is handed
+abbrev pub wrapped : (key : List ℕ) → List Str → Bool → CallInput → PaperResult
+wrapped key h e i = sanseWrap key h e (i .metadata) (i .text)
+
+-- and for what an unwrap is handed
+abbrev pub unwrapped : (key : List ℕ) → List Str → Bool → CallInput → PaperResult
+unwrapped key h e i = sanseUnwrap key h e (i .metadata) (i .text) (i .tag)
+
 -- a wrap of the session that the history h and e give: within the limits it is accepted, with C and T of the algorithm
-abbrev pub WrapClaim : (key : List ℕ) → List Str → Bool → CallInput → Outcome DeckState → Type 0
-WrapClaim key h e i o =
-    let r : PaperResult = sanseWrap key h e (i .metadata) (i .text) in
-    Within i (r .history) → Accepted key i r o
+pub record WrapClaim (key : List ℕ) (h : List Str) (e : Bool) (i : CallInput) (o : Outcome DeckState) : Type 0 where
+  pub accepted : Within i (wrapped key h e i .history) → Accepted key i (wrapped key h e i) o
+  pub refused : (Within i (wrapped key h e i .history) → ⊥) → Refused (sessionOf key h e) i o
 
 -- an unwrap of it: within the limits it is accepted, with P of the algorithm, where the tag handed in is the algorithm's, and refused by 11
 -- where it is not
-abbrev pub UnwrapClaim : (key : List ℕ) → List Str → Bool → CallInput → Outcome DeckState → Type 0
-UnwrapClaim key h e i o =
-    let r : PaperResult = sanseUnwrap key h e (i .metadata) (i .text) (i .tag) in
-    Within i (r .history) → (i .tag ≡ r .tag → Accepted key i r o) × (i .tag ≢ r .tag → WrongTag (sessionOf key h e) i o)
+pub record UnwrapClaim (key : List ℕ) (h : List Str) (e : Bool) (i : CallInput) (o : Outcome DeckState) : Type 0 where
+  pub accepted : Within i (unwrapped key h e i .history) → i .tag ≡ unwrapped key h e i .tag → Accepted key i (unwrapped key h e i) o
+  pub wrong-tag : Within i (unwrapped key h e i .history) → i .tag ≢ unwrapped key h e i .tag → WrongTag (sessionOf key h e) i o
+  pub refused : (Within i (unwrapped key h e i .history) → ⊥) → Refused (sessionOf key h e) i o
 
--- demand 2 of functions `wrapped` and `unwrapped` from a session and what they are handed to an outcome
-pub record OneCall (wrapped unwrapped : SessionState DeckState → CallInput → Outcome DeckState) : Type 0 where
-  pub wraps : (key : List ℕ) (h : List Str) (e : Bool) (i : CallInput) → WrapClaim key h e i (wrapped (sessionOf key h e) i)
-  pub unwraps : (key : List ℕ) (h : List Str) (e : Bool) (i : CallInput) → UnwrapClaim key h e i (unwrapped (sessionOf key h e) i)
+-- demands 1 and 2 of two functions from a session and what a call is handed to its outcome
+pub record OneCall (wraps unwraps : SessionState DeckState → CallInput → Outcome DeckState) : Type 0 where
+  pub wrap-claim : (key : List ℕ) (h : List Str) (e : Bool) (i : CallInput) → WrapClaim key h e i (wraps (sessionOf key h e) i)
+  pub unwrap-claim : (key : List ℕ) (h : List Str) (e : Bool) (i : CallInput) → UnwrapClaim key h e i (unwraps (sessionOf key h e) i)

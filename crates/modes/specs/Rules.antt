@@ -91,10 +91,11 @@ module _ (m : Mode) {S : Type 0} (d : HistoryRep S) where
   abbrev pub countOf : CallInput → ℕ
   countOf i = m .parameters .count (length (metadataString i)) (length (i .text))
 
-  -- what the mode's steps find in a session
+  -- what the mode's steps of wrap find in a session
   abbrev pub wrapSteps : SessionState S → CallInput → StepResult S
   wrapSteps s i = m .wraps d (s .history) (s .toggle) (metadataString i) (i .text)
 
+  -- and of unwrap
   abbrev pub unwrapSteps : SessionState S → CallInput → StepResult S
   unwrapSteps s i = m .unwraps d (s .history) (s .toggle) (metadataString i) (i .text) (i .tag)
 
@@ -146,5 +147,6 @@ closed = record { history = record { acc = zeros; mask = zeros; index = 0 }; tog
 abbrev pub newSession : (key : List ℕ) → SessionState DeckState
 newSession key = record { history = record { acc = zeros; mask = keyMask key; index = 0 }; toggle = false; opened = true }
 
+-- start, of any key
 unfoldable pub startAt : (key : List ℕ) → Opening
 startAt key = cond (keyFits key) (record { number = 0; count = 1; session = newSession key }) (record { number = 4; count = 0; session = closed })

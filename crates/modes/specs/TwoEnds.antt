@@ -21,10 +21,12 @@ pub record Ends (S : Type 0) : Type 0 where
   pub group : SessionState S
 
 module _ {S : Type 0} where
+  -- the session at an end
   abbrev pub at : Side → Ends S → SessionState S
   at office p = p .office
   at group p = p .group
 
+  -- the sessions with one put in the place of that at an end
   abbrev pub put : Side → SessionState S → Ends S → Ends S
   put office s p = record { office = s; group = p .group }
   put group s p = record { office = p .office; group = s }
@@ -44,14 +46,17 @@ module _ (m : Mode) {S : Type 0} (d : HistoryRep S) where
 
 -- ---- the two ends by the ledgers
 
+-- the ledgers of the two ends
 pub record Ledgers : Type 0 where
   pub office : Ledger
   pub group : Ledger
 
+-- the ledger of an end
 abbrev pub ledgerAt : Side → Ledgers → Ledger
 ledgerAt office p = p .office
 ledgerAt group p = p .group
 
+-- the ledgers with one put in the place of that of an end
 abbrev pub setLedger : Side → Ledger → Ledgers → Ledgers
 setLedger office l p = record { office = l; group = p .group }
 setLedger group l p = record { office = p .office; group = l }
@@ -62,6 +67,7 @@ module _ (m : PaperMode) where
   ledgerStep (wrap x i) p = ledgerWrap m (ledgerAt x p) i
   ledgerStep (unwrap x i) p = ledgerUnwrap m (ledgerAt x p) i
 
+  -- the ledgers after a call
   abbrev pub nextLedgers : Call → Ledgers → Ledgers
   nextLedgers c p = setLedger (sideOf c) (ledgerStep c p .ledger) p
 

@@ -4,13 +4,13 @@ use mathlib.Core.Path.{_≡_, refl, sym, ap, ap₂, _∙_}
 use mathlib.Core.Logic.{_≢_}
 use mathlib.Core.Bool.{Bool, true, false, not, _||_, _&&_, cond}
 use mathlib.Core.List.{List, [], _∷_, _++_}
-use Prim.Native.Nat.{ℕ, zero, suc, _+_, _/_, _≤_, _<_}
+use Prim.Native.Nat.{ℕ, zero, suc, _+_, _≤_}
 use native.Mathlib.Omega.{arith}
 use lib.Dec.{leb, lit≤}
 use lib.ListN.{length, take, drop, replicate, length-replicate}
 use lib.Seq.{take-at, drop-at}
 use borrow.Author.Tests.{le-leb}
-use Rattle.word.specs.Lists.{tabulate, sum}
+use Rattle.word.specs.Lists.{sum}
 use Rattle.word.proofs.Lists.{tabulate-length, sum-length}
 use Rattle.xoofff.specs.declared.DeckState.{DeckState}
 use Rattle.xoofff.specs.declared.Compressed.{Compressed}
@@ -21,9 +21,8 @@ use Rattle.xoofff.specs.Leaves.{closingByte, closedBy, compressed, outputBlocks
 use Rattle.xoofff.proofs.Closing.{closedBy-closing}
 use Rattle.xoofff.proofs.Strings.{blocks-is, closed-blocks}
 use Rattle.xoofff.proofs.Leaves.{blocks-most}
-use Rattle.modes.specs.Call.{CallInput}
 use Rattle.modes.specs.Mode.{framed, isEmpty, incremental, withA, withText, sivBody, sivWrap, sivUnwrap, sanse, sanseParameters, sanseCount}
-use Rattle.modes.specs.Rules.{SessionState, Outcome, Opening, growth, firstCheck, checkNumber, metadataString, written, sameBytes, accepted, wrongTag, compareTag, ifNoCheck, wrapSteps, unwrapSteps, wrapAt, unwrapAt, startAt, newSession, closed}
+use Rattle.modes.specs.Rules.{Outcome, Opening, growth, firstCheck, checkNumber, metadataString, written, sameBytes, accepted, wrongTag, compareTag, ifNoCheck, wrapSteps, unwrapSteps, wrapAt, unwrapAt, startAt, newSession, closed}
 use Rattle.modes.proofs.Sessions.{incremental-grows}
 use Rattle.steps.specs.Steps.{compressedIf, outputCount}
 use Rattle.steps.proofs.History.{Passed, passed}

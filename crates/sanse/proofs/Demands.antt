@@ -1,16 +1,15 @@
--- Demands 2 and 3 hold of all promises that give each call's equation with the rules; and so of the program's start, wrap and unwrap, known
+-- Demands 1 to 3 hold of all promises that give each call's equation with the rules; and so of the program's start, wrap and unwrap, known
 -- by their `ensures` alone. Assumes nothing.
-use mathlib.Core.Bool.{Bool}
-use mathlib.Core.List.{List, [], _∷_}
+use mathlib.Core.List.{List}
 use mathlib.Core.Path.{_≡_, refl, sym, ap, _∙_, subst}
-use Prim.Native.Nat.{ℕ, _≤_}
+use Prim.Native.Nat.{ℕ}
 use Rattle.xoofff.specs.declared.DeckState.{DeckState}
 use Rattle.modes.specs.Call.{CallInput, Side, office, group, Call, wrap, unwrap}
 use Rattle.modes.specs.Mode.{incremental, sanse}
 use Rattle.modes.specs.Rules.{SessionState, Outcome, startAt, wrapAt, unwrapAt}
-use Rattle.modes.specs.OneCall.{sessionOf, WrapClaim, UnwrapClaim}
+use Rattle.modes.specs.OneCall.{WrapClaim, UnwrapClaim}
 use Rattle.modes.specs.TwoEnds.{Ends, at, put, Runs}
-use Rattle.modes.proofs.OneCall.{wrap-claim, unwrap-claim}
+use Rattle.modes.proofs.OneCall as call
 use Rattle.modes.proofs.TwoEnds as modes
 use Rattle.sanse.specs.declared.Session.{Session}
 use Rattle.sanse.specs.declared.CallResult.{CallResult}
@@ -35,14 +34,14 @@ store-records office s p = refl
 store-records group s p = refl
 
 module _ {p : Promises} (l : ByRules p) where
-  -- demand 2
+  -- demands 1 and 2, of one call
   pub one-call-of : OneCallOf p
   one-call-of =
       record {
         wraps = λ key h e s i r out tag q w.
-            subst (WrapClaim key h e i) (sym (l .wraps w ∙ ap (λ (z : SessionState DeckState). wrapAt sanse incremental z i) q)) (wrap-claim key h e i);
+            subst (WrapClaim key h e i) (sym (l .wraps w ∙ ap (λ (z : SessionState DeckState). wrapAt sanse incremental z i) q)) (call.one-call .wrap-claim key h e i);
         unwraps = λ key h e s i r out tag q w.
-            subst (UnwrapClaim key h e i) (sym (l .unwraps w ∙ ap (λ (z : SessionState DeckState). unwrapAt sanse incremental z i) q)) (unwrap-claim key h e i);
+            subst (UnwrapClaim key h e i) (sym (l .unwraps w ∙ ap (λ (z : SessionState DeckState). unwrapAt sanse incremental z i) q)) (call.one-call .unwrap-claim key h e i);
       }
 
   -- the promises' runs are runs by the rules

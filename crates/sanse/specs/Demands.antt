@@ -1,4 +1,4 @@
--- Demands 2 and 3 of functions start, wrap and unwrap over records, of which only promises are known: what each promises of a call, from
+-- Demands 1 to 3 of functions start, wrap and unwrap over records, of which only promises are known: what each promises of a call, from
 -- what it was handed to what it gave and left. `proofs/Demands.antt` proves both claims of the promises that the program's functions make
 -- in their `ensures`, and `proofs/Contracts.antt` that these ask nothing of a call. The words are those of the modes' `OneCall` (one call
 -- of a session that a history gives) and `TwoEnds` (the ledgers, the lists in which each message is delivered). Assumes nothing.
@@ -24,9 +24,10 @@ pub record Promises : Type 1 where
   pub wraps : Session → CallInput → CallResult → (out tag : List ℕ) → Type 0
   pub unwraps : Session → CallInput → CallResult → (out tag : List ℕ) → Type 0
 
--- ---- demand 2: one call
+-- ---- demands 1 and 2: one call
 
--- a call that is handed the record of a history gives what Algorithm 3 of 003 gives over the whole history, and the record of the longer one
+-- a call that is handed the record of a history: within the limits it gives what Algorithm 3 of 003 gives over the whole history, and the
+-- record of the longer one; outside them it is refused, and alters nothing
 pub record OneCallOf (p : Promises) : Type 0 where
   pub wraps : (key : List ℕ) (h : List Str) (e : Bool) (s : Session) (i : CallInput) (r : CallResult) (out tag : List ℕ)
       → stateOf s ≡ sessionOf key h e → p .wraps s i r out tag → WrapClaim key h e i (callResult r out tag)

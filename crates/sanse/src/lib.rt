@@ -91,20 +91,9 @@ fn deck_of(s: Session) -> DeckState
     }
 }
 
-// A refused call's result: the record as it was.
-fn refused(number: u32, count: u32, s: Session) -> CallResult
-    ensures { λ r. ⌜ r ≡ record { number = number; count = count; session = s } ⌝ }
-{
-    CallResult {
-        number,
-        count,
-        session: s,
-    }
-}
-
-// An accepted call's result, with the history after it.
-fn accepted(d: DeckState, e: bool, opened: bool, count: u32) -> CallResult
-    ensures { λ r. ⌜ r ≡ record { number = 0; count = count; session = record { acc = d .acc; mask = d .mask; index = d .index; toggle = e; opened = opened } } ⌝ }
+// What a call gives, with this history and e in the record after it.
+fn result(number: u32, count: u32, d: DeckState, toggle: bool, opened: bool) -> CallResult
+    ensures { λ r. ⌜ r ≡ record { number = number; count = count; session = record { acc = d .acc; mask = d .mask; index = d .index; toggle = toggle; opened = opened } } ⌝ }
 {
     let acc = d.acc;
     let mask = d.mask;
@@ -112,11 +101,11 @@ fn accepted(d: DeckState, e: bool, opened: bool, count: u32) -> CallResult
         acc,
         mask,
         index: d.index,
-        toggle: e,
+        toggle,
         opened,
     };
     CallResult {
-        number: 0,
+        number,
         count,
         session,
     }
@@ -167,6 +156,8 @@ pub fn wrap(
     ensures { λ r. ⌜ callResult r (now (out .exit)) (now (tag .exit))
         ≡ wrapAt sanse incremental (stateOf s) (handed (now (metadata .entry)) (now (message .entry)) (now (out .entry)) (now (tag .entry))) ⌝ }
 {
+    let d = deck_of(s);
+    let e = s.toggle;
     let number = check(
         s.opened,
         s.index,
@@ -176,17 +167,15 @@ pub fn wrap(
         out.len(),
     );
     if number != 0 {
-        return refused(number, 0, s);
+        return result(number, 0, d, e, s.opened);
     }
-    let e = s.toggle;
-    let d = deck_of(s);
     let h = steps::append_metadata(d, metadata, message, closing_a(e));
     let d1 = h.state;
     let g = steps::append_text(d1, message, closing_m(e));
     let d2 = g.state;
     let t = steps::tag_of(d2, tag);
     let c = add_body(d1, message, tag, closing_t(e), out);
-    accepted(d2, !e, s.opened, h.count + g.count + t + c)
+    result(0, h.count + g.count + t + c, d2, !e, s.opened)
 }
 
 // Unwraps a cryptogram: the message goes to the start of `out`. Checks 5 to 9, and 11 for a tag that differs, whose 32 bytes are all compared.
@@ -201,12 +190,12 @@ pub fn unwrap(
         ≡ unwrapAt sanse incremental (stateOf s) (handed (now (metadata .entry)) (now (cryptogram .entry)) (now (out .entry)) (now (tag .entry))) ⌝ }
 {
     let n = cryptogram.len();
+    let d = deck_of(s);
+    let e = s.toggle;
     let number = check(s.opened, s.index, metadata.len(), n, tag.len(), out.len());
     if number != 0 {
-        return refused(number, 0, s);
+        return result(number, 0, d, e, s.opened);
     }
-    let e = s.toggle;
-    let d = deck_of(s);
     let h = steps::append_metadata(d, metadata, cryptogram, closing_a(e));
     let d1 = h.state;
     let c = add_body(d1, cryptogram, tag, closing_t(e), out);
@@ -216,8 +205,8 @@ pub fn unwrap(
     let t = steps::tag_of(d2, &mut found);
     let count = h.count + g.count + t + c;
     if steps::same_bytes(tag, &found) {
-        return accepted(d2, !e, s.opened, count);
+        return result(0, count, d2, !e, s.opened);
     }
     steps::clear(out, n);
-    refused(11, count, s)
+    result(11, count, d, e, s.opened)
 }

@@ -2,7 +2,6 @@
 // of two parts (two bytes each, the lowest first), the parts and 32 bytes. The parts are key and nothing, metadata and message, or metadata
 // and cryptogram; the 32 bytes are the tag handed to unwrap. Written for each: the number, the count, the index and e; then a line of
 // hexadecimal digits for the output, the tag, the accumulator and the mask.
-ghost use mathlib.Core.Path.{_≡_};
 ghost use Prim.Native.Nat.{_≤_, _<_};
 ghost use lib.ListN.{length};
 use sanse::CallResult;

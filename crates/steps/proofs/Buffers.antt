@@ -2,7 +2,7 @@
 use mathlib.Core.Path.{_≡_, refl, sym, ap, ap₂, _∙_}
 use mathlib.Core.Bool.{Bool, true, false, _&&_}
 use mathlib.Core.List.{List, [], _∷_, _++_, append-nil}
-use Prim.Native.Nat.{ℕ, zero, suc, _+_, _≤_, _<_}
+use Prim.Native.Nat.{ℕ, zero, suc, _+_, _<_}
 use native.Mathlib.Numerals.{add-one}
 use native.Mathlib.Omega.{arith}
 use lib.Bits.{bitOr, bitXor, or-zero-l, or-add-and, and-le-r, xor-zero-l, xor-self}
@@ -10,7 +10,7 @@ use lib.Dec.{eqb}
 use lib.ListN.{length, getD, take, drop, set, replicate, length-replicate}
 use lib.Seq.{length-take-le, take-length, take-suc, drop-length, drop-cons, append-snoc, set-at, take-at, drop-at}
 use borrow.Author.Tests.{eq-eqb, ne-eqb, eqb-true, eqb-false}
-use Rattle.word.specs.Lists.{tabulate, sum}
+use Rattle.word.specs.Lists.{sum}
 use Rattle.word.proofs.Lists.{tabulate-length, sum-comm, sum-zero, sum-length, xor-undone}
 use Rattle.xoofff.specs.Deck.{run}
 use Rattle.modes.specs.Rules.{written, sameBytes}

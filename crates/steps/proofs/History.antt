@@ -1,9 +1,9 @@
 -- Laws of the first check and of the strings that enter the history, over plain values. Assumes nothing.
-use mathlib.Core.Path.{_≡_, refl, sym, ap, ap₂, _∙_}
+use mathlib.Core.Path.{_≡_, refl}
 use mathlib.Core.Logic.{_≢_, _⊎_, inl, inr}
 use mathlib.Core.Bool.{Bool, true, false, not, _||_, cond}
 use mathlib.Core.List.{List, [], _∷_}
-use Prim.Native.Nat.{ℕ, zero, suc, _+_, _/_, _≤_, _<_}
+use Prim.Native.Nat.{ℕ, zero, suc, _+_, _/_, _≤_}
 use native.Mathlib.Omega.{arith}
 use lib.Dec.{ltb, eqb}
 use lib.ListN.{length}
@@ -11,7 +11,7 @@ use borrow.Author.Tests.{ltb-false, eqb-true}
 use Rattle.xoofff.specs.declared.DeckState.{DeckState}
 use Rattle.xoofff.specs.declared.Compressed.{Compressed}
 use Rattle.xoofff.specs.Strings.{Str}
-use Rattle.xoofff.specs.Leaves.{compressed, closedBy}
+use Rattle.xoofff.specs.Leaves.{compressed}
 use Rattle.modes.specs.Mode.{isEmpty}
 use Rattle.modes.specs.Rules.{growth, firstCheck, longest, highestIndex}
 use Rattle.steps.specs.Steps.{compressedIf}

@@ -87,14 +87,14 @@ pub fn append_metadata(d: DeckState, a: &[u8], m: &[u8], closing: u8) -> Compres
 }
 
 // The history gains a text, with this closing byte, if it is not empty.
-pub fn append_text(d: DeckState, m: &[u8], closing: u8) -> Compressed
-    requires { ⌜ (0 < closing) × (length (now m) ≤ 16401) × (d .index ≤ 1048576) ⌝ }
-    ensures { λ r. ⌜ r ≡ compressedIf (not (isEmpty (now (m .entry)))) d (closedBy (now (m .entry)) closing) ⌝ }
+pub fn append_text(d: DeckState, text: &[u8], closing: u8) -> Compressed
+    requires { ⌜ (0 < closing) × (length (now text) ≤ 16401) × (d .index ≤ 1048576) ⌝ }
+    ensures { λ r. ⌜ r ≡ compressedIf (not (isEmpty (now (text .entry)))) d (closedBy (now (text .entry)) closing) ⌝ }
 {
-    if m.len() == 0 {
+    if text.len() == 0 {
         return Compressed { state: d, count: 0 };
     }
-    xoofff::compress(d, m, closing)
+    xoofff::compress(d, text, closing)
 }
 
 // ---- tag and keystream
@@ -164,10 +164,10 @@ pub fn same_bytes(a: &[u8], b: &[u8]) -> bool
     ensures { λ r. ⌜ r ≡ sameBytes (now (a .entry)) (now (b .entry)) ⌝ }
 {
     let mut differing: u8 = 0;
-    let mut i: usize = 0;
-    while i < a.len() {
-        differing |= a[i] ^ b[i];
-        i += 1;
+    let mut j: usize = 0;
+    while j < a.len() {
+        differing |= a[j] ^ b[j];
+        j += 1;
     }
     differing == 0
 }

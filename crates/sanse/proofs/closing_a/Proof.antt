@@ -1,6 +1,6 @@
 -- `sanse::closing_a` meets its contract. Assumes nothing.
 use mathlib.Core.Path.{sym, ap}
-use mathlib.Core.Bool.{Bool, true, false}
+use mathlib.Core.Bool.{Bool, false}
 use mathlib.Core.List.{[], _∷_}
 use Rattle.xoofff.specs.Leaves.{closingByte}
 use Rattle.sanse.proofs.closing_a.Statement.{statement}

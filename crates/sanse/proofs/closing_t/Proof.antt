@@ -1,6 +1,6 @@
 -- `sanse::closing_t` meets its contract. Assumes nothing.
 use mathlib.Core.Path.{sym, ap}
-use mathlib.Core.Bool.{Bool, true, false}
+use mathlib.Core.Bool.{Bool, true}
 use mathlib.Core.List.{[], _∷_}
 use Rattle.xoofff.specs.Leaves.{closingByte}
 use Rattle.sanse.proofs.closing_t.Statement.{statement}

@@ -1,12 +1,11 @@
 -- `steps::clear` meets its contract. The loop's invariant: the first i bytes are zero, and the rest is as it was. Assumes nothing.
-use mathlib.Core.Path.{_≡_, refl, sym, ap, _∙_}
+use mathlib.Core.Path.{_≡_, refl, ap, _∙_}
 use mathlib.Core.List.{List, _++_}
 use Prim.Native.Nat.{ℕ, _≤_, _-_}
 use native.Mathlib.Omega.{arith}
 use lib.ListN.{length, replicate, drop, set, length-set}
 use denote.Ref.{now}
 use borrow.Author.Fill.{fill-none, fill-more}
-use borrow.Author.Needs.{needs}
 use Rattle.steps.proofs.Buffers.{zeros-all}
 use Rattle.steps.proofs.clear.Statement.{statement}
 use Rattle.steps.proofs.clear.Tie as tie

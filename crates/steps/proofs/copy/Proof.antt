@@ -1,11 +1,10 @@
 -- `steps::copy` meets its contract. The loop's invariant: the first i bytes are the text's, and the rest is as it was. Assumes nothing.
-use mathlib.Core.Path.{_≡_, refl, sym, ap, _∙_}
+use mathlib.Core.Path.{_≡_, refl, ap, _∙_}
 use mathlib.Core.List.{List, _++_}
 use Prim.Native.Nat.{ℕ, _≤_, _-_}
 use native.Mathlib.Omega.{arith}
 use lib.ListN.{length, take, drop, set, getD, length-set}
 use denote.Ref.{now}
-use borrow.Author.Needs.{needs}
 use Rattle.steps.proofs.Buffers.{front-more, front-all}
 use Rattle.steps.proofs.copy.Statement.{statement}
 use Rattle.steps.proofs.copy.Tie as tie
