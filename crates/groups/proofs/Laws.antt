@@ -1,17 +1,17 @@
 -- Laws of the count's formula, of check 10 and of a group's calls, over plain values. Assumes nothing.
 use mathlib.Core.Path.{_≡_, refl, sym, ap, ap₂, _∙_}
-use mathlib.Core.Logic.{_≢_, _⊎_, inl, inr}
+use mathlib.Core.Logic.{_≢_}
 use mathlib.Core.Bool.{Bool, true, false, not, _&&_, cond}
 use mathlib.Core.List.{List}
 use Prim.Native.Nat.{ℕ, zero, suc, _+_, _/_, _≤_, _<_}
 use native.Mathlib.Omega.{arith}
-use lib.Dec.{ltb, leb}
+use lib.Dec.{leb}
 use lib.ListN.{length}
-use borrow.Author.Tests.{ltb-false, le-ltb, le-leb, lt-leb}
+use borrow.Author.Tests.{ltb-false, le-leb, lt-leb}
 use Rattle.xoofff.specs.declared.DeckState.{DeckState}
 use Rattle.modes.specs.Call.{CallInput}
 use Rattle.modes.specs.Mode.{sanse, incremental, sanseCount}
-use Rattle.modes.specs.Rules.{SessionState, Outcome, Opening, growth, firstCheck, checkNumber, countOf, metadataString, ifNoCheck, wrapAt, unwrapAt, keyFits, startAt}
+use Rattle.modes.specs.Rules.{SessionState, Outcome, Opening, growth, firstCheck, checkNumber, countOf, metadataString, ifNoCheck, wrapAt, unwrapAt, startAt}
 use Rattle.steps.proofs.History.{passed}
 use Rattle.sanse.specs.declared.Session.{Session}
 use Rattle.sanse.specs.declared.CallResult.{CallResult}
@@ -19,7 +19,7 @@ use Rattle.sanse.specs.Session.{stateOf, startResult, callResult, handed}
 use Rattle.groups.proofs.Counts.{wrap-count, unwrap-count, start-count}
 use Rattle.groups.specs.declared.Day.{Day}
 use Rattle.groups.specs.declared.GroupResult.{GroupResult}
-use Rattle.groups.specs.Groups.{addCount, aboveAllowance, then10, groupCheck, charged, groupWrapAt, groupUnwrapAt, openCheck, openedUnless, groupOpenAt, openingResult, groupResult, GroupOutcome, GroupOpening}
+use Rattle.groups.specs.Groups.{addCount, aboveAllowance, then10, groupCheck, charged, groupWrapAt, groupUnwrapAt, openCheck, openedUnless, groupOpenAt, openingResult, groupResult}
 
 -- ---- the count's formula
 
@@ -89,7 +89,7 @@ refused-is (suc n) day s a x out tag o h =
     ap (λ (k : ℕ). record {
       outcome = record { number = suc n; count = 0; session = stateOf s; out = out; tag = tag };
       day = record { spent = k; allowance = day .allowance };
-    }) (let e : day .spent ≡ day .spent + 0 = omega arith in e)
+    }) (let e : day .spent ≡ charged day (ifNoCheck (suc n) (stateOf s) (handed a x out tag) o) .day .spent = omega arith in e)
 
 -- what a call gives that meets none of the checks 5 to 10
 charged-is : (n : ℕ) (day : Day) (r : CallResult) (s : SessionState DeckState) (i : CallInput) (out tag : List ℕ) (o : Outcome DeckState) → n ≡ 0
@@ -190,19 +190,17 @@ module _ (day : Day) (s : Session) (key : List ℕ) where
       → openingResult g ≡ groupOpenAt day (stateOf s) key
   open-short g h e =
       open-refused-by 4 (λ z. omega (arith, z))
-      (ap (λ (t : Bool). cond (not (t && leb (length key) 47)) 4 (cond (aboveAllowance day 1) 10 0)) (lt-leb 16 (length key) h)) g e
+      (rw (lt-leb 16 (length key) h)) g e
 
   pub open-long : (g : GroupResult) → 16 ≤ length key → 47 < length key → g ≡ record { session = s; answer = record { number = 4; count = 0; day = day } }
       → openingResult g ≡ groupOpenAt day (stateOf s) key
   open-long g l h e =
       open-refused-by 4 (λ z. omega (arith, z))
-      (ap₂ (λ (t u : Bool). cond (not (t && u)) 4 (cond (aboveAllowance day 1) 10 0)) (le-leb 16 (length key) l) (lt-leb (length key) 47 h)) g e
+      (rw (le-leb 16 (length key) l, lt-leb (length key) 47 h)) g e
 
   module _ (l : 16 ≤ length key) (h : length key ≤ 47) (t : Bool) (above : t ≡ aboveAllowance day 1) where
     open-check : openCheck day key ≡ cond t 10 0
-    open-check =
-        ap₂ (λ (t u : Bool). cond (not (t && u)) 4 (cond (aboveAllowance day 1) 10 0)) (le-leb 16 (length key) l) (le-leb (length key) 47 h)
-        ∙ ap (λ (t : Bool). cond t 10 0) (sym above)
+    open-check = rw (le-leb 16 (length key) l, le-leb (length key) 47 h, above)
 
     pub open-above : (g : GroupResult) → t ≡ true → g ≡ record { session = s; answer = record { number = 10; count = 0; day = day } }
         → openingResult g ≡ groupOpenAt day (stateOf s) key

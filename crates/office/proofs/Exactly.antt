@@ -1,12 +1,12 @@
 -- The claims of `specs/Exactly.antt` hold of every call of the table by the rules, and so of the program's calls. Assumes nothing.
 use mathlib.Core.Path.{_≡_, refl, sym, ap, ap₂, _∙_, subst}
-use mathlib.Core.Logic.{_↔_, _≢_, _⊎_, inl, inr}
+use mathlib.Core.Logic.{_≢_, _⊎_, inl, inr}
 use mathlib.Core.Bool.{Bool, true, false, not, _||_, _&&_, cond}
 use mathlib.Core.List.{List}
 use Prim.Native.Nat.{ℕ, zero, suc, _+_, _<_, _≤_}
 use native.Mathlib.Omega.{arith}
-use lib.Dec.{T as Holds, ltb, leb, eqb}
-use lib.ListN.{length, getD, set, length-set}
+use lib.Dec.{ltb, leb, eqb}
+use lib.ListN.{length, set, length-set}
 use lib.Seq.{getD-set-other, set-getD}
 use borrow.Author.Tests.{ltb-true, ltb-false, leb-true, leb-false, eqb-true, eqb-false}
 use Rattle.xoofff.specs.declared.DeckState.{DeckState}
@@ -14,7 +14,7 @@ use Rattle.modes.specs.Call.{CallInput}
 use Rattle.modes.specs.Mode.{sanse, incremental}
 use Rattle.modes.specs.Rules.{SessionState, Outcome, Opening, longest, highestIndex, growth, metadataString, firstCheck, checkNumber, countOf, ifNoCheck, sameBytes, accepted, wrongTag, compareTag, wrapSteps, unwrapSteps, wrapAt, unwrapAt, keyFits, startAt, newSession, closed}
 use Rattle.groups.specs.declared.Day.{Day}
-use Rattle.groups.specs.Groups.{addCount, aboveAllowance, then10, groupCheck, charged, groupWrapAt, groupUnwrapAt, openCheck, openedUnless, groupOpenAt, GroupOutcome, GroupOpening}
+use Rattle.groups.specs.Groups.{addCount, aboveAllowance, then10, groupCheck, charged, groupWrapAt, groupUnwrapAt, openedUnless, groupOpenAt}
 use Rattle.office.specs.Table.{Sessions, noGroup, sessionAt, TableOutcome, TableOpening, refused3, writtenBack, wrapGroupAt, unwrapGroupAt, openGroupAt}
 use Rattle.office.specs.Exactly.{Check3, Check10, CallExactly, OpenExactly}
 

@@ -1,23 +1,20 @@
 -- How the table's tests come out, and what a group's call leaves of the whole table, over plain values. Assumes nothing.
-use mathlib.Core.Path.{_≡_, refl, sym, ap, ap₂, _∙_, subst}
-use mathlib.Core.Bool.{Bool, true, false, not, _||_, _&&_, cond}
-use mathlib.Core.List.{List, [], _∷_, map}
+use mathlib.Core.Path.{_≡_, refl, sym, ap, ap₂, _∙_}
+use mathlib.Core.Bool.{Bool, true, false, not, _||_, cond}
+use mathlib.Core.List.{List, [], _∷_}
 use Prim.Native.Nat.{ℕ, zero, suc, _<_, _≤_, _*_, _^_}
 use native.Mathlib.Omega.{arith}
-use lib.Dec.{T as Holds, ltb, eqb, eqb→eq, ltb→lt, nltb→le}
+use lib.Dec.{T as Holds, ltb, eqb, eqb→eq, nltb→le}
 use lib.ListN.{length, getD, set, length-map, List·getD-map}
-use borrow.Author.Tests.{lt-ltb, le-ltb, eq-eqb}
 use Rattle.xoofff.specs.declared.DeckState.{DeckState}
 use Rattle.xoofff.specs.Deck.{zeros}
-use Rattle.modes.specs.Call.{CallInput}
-use Rattle.modes.specs.Rules.{SessionState, closed}
+use Rattle.modes.specs.Rules.{SessionState}
 use Rattle.sanse.specs.declared.Session.{Session}
 use Rattle.sanse.specs.Session.{stateOf, handed}
 use Rattle.groups.specs.declared.Day.{Day}
-use Rattle.groups.specs.declared.GroupAnswer.{GroupAnswer}
 use Rattle.groups.specs.declared.GroupResult.{GroupResult}
 use Rattle.groups.specs.Groups.{GroupOutcome, GroupOpening, groupWrapAt, groupUnwrapAt, groupOpenAt, groupResult, openingResult as group-openingResult}
-use Rattle.office.specs.Table.{Sessions, noGroup, sessionAt, sessionsOf, TableOutcome, TableOpening, refused3, writtenBack, wrapGroupAt, unwrapGroupAt, openGroupAt, tableResult, openingResult}
+use Rattle.office.specs.Table.{Sessions, noGroup, sessionAt, sessionsOf, TableOpening, refused3, writtenBack, wrapGroupAt, unwrapGroupAt, openGroupAt, tableResult, openingResult}
 
 -- ---- how the tests come out
 

@@ -11,7 +11,6 @@ use Rattle.xoofff.specs.declared.DeckState.{DeckState}
 use Rattle.modes.specs.Rules.{SessionState}
 use Rattle.sanse.specs.declared.Session.{Session}
 use Rattle.sanse.specs.Session.{stateOf}
-use Rattle.office.specs.declared.NearlyFull.{NearlyFull}
 use Rattle.office.specs.Table.{sessionAt, sessionsOf, aboveMark, NearlyFullIs}
 use Rattle.office.proofs.Laws.{blank, session-at}
 

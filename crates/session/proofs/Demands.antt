@@ -1,4 +1,4 @@
--- Demands 2 and 3 hold of the functions over a lent record, each known only by its promise, which is its `ensures` (`proofs/Contracts.antt`).
+-- Demands 1 to 3 hold of the functions over a lent record, each known only by its promise, which is its `ensures` (`proofs/Contracts.antt`).
 -- Assumes nothing.
 use Rattle.sanse.specs.Demands.{OneCallOf, Demand3Of}
 use Rattle.sanse.proofs.Demands.{ByRules, one-call-of, demand-3-of}
@@ -8,7 +8,7 @@ use Rattle.session.specs.Lent.{lentPromises}
 by-rules : ByRules lentPromises
 by-rules = record { starts = λ e. e; wraps = λ e. e; unwraps = λ e. e }
 
--- demand 2, one call
+-- demands 1 and 2, of one call
 pub one-call : OneCallOf lentPromises
 one-call = one-call-of by-rules
 

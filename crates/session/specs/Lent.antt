@@ -1,5 +1,5 @@
 -- The promises of start, wrap and unwrap over a lent record (document 01, "A session is one record, lent to wrap and unwrap and altered by
--- them"): the same equations with the rules as the functions by value have, of the record at entry and at exit. Demands 2 and 3 are those of
+-- them"): the same equations with the rules as the functions by value have, of the record at entry and at exit. Demands 1 to 3 are those of
 -- `sanse`'s `Demands`, of these promises. Assumes nothing.
 use mathlib.Core.List.{List}
 use mathlib.Core.Path.{_≡_}
