@@ -12,28 +12,7 @@ import sys, re
 sys.setrecursionlimit(10000)
 crate, fn = sys.argv[1], sys.argv[2]
 enums = set(sys.argv[3:])                    # declared types that are enums
-tok = re.findall(r'"[^"]*"|[()]|[^\s()]+', sys.stdin.read())
-pos = 0
-def parse():
-    global pos
-    x = tok[pos]; pos += 1
-    if x == '(':
-        r = []
-        while tok[pos] != ')': r.append(parse())
-        pos += 1; return r
-    return x
-top = []
-while pos < len(tok): top.append(parse())
-def lst(x):
-    r = []
-    while isinstance(x, list) and x[0] in ('lcons', 'tcons'): r.append(x[1]); x = x[2]
-    return r
-def find(x, name):
-    if isinstance(x, list):
-        if x and x[0] == 'fn-def' and x[1].strip('"') == name: return x[2]
-        for y in x:
-            r = find(y, name)
-            if r: return r
+from mir import top, lst, find
 item = find(top, f'{crate}::{fn}')
 locs = [l[1] for l in lst(item[4])]
 N, NP = len(locs), int(item[3])

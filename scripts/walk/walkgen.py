@@ -14,28 +14,7 @@ import sys, re, runpy
 sys.setrecursionlimit(10000)
 cfg = runpy.run_path(sys.argv[1])['cfg']
 # ---------------------------------------------------------------- the MIR
-tok = re.findall(r'"[^"]*"|[()]|[^\s()]+', sys.stdin.read())
-pos = 0
-def parse():
-    global pos
-    x = tok[pos]; pos += 1
-    if x == '(':
-        r = []
-        while tok[pos] != ')': r.append(parse())
-        pos += 1; return r
-    return x
-top = []
-while pos < len(tok): top.append(parse())
-def lst(x):
-    r = []
-    while isinstance(x, list) and x[0] in ('lcons', 'tcons'): r.append(x[1]); x = x[2]
-    return r
-def find(x, name):
-    if isinstance(x, list):
-        if x and x[0] == 'fn-def' and x[1].strip('"') == name: return x[2]
-        for y in x:
-            r = find(y, name)
-            if r: return r
+from mir import top, lst, find
 crate, fn, core = cfg['crate'], cfg['fn'], cfg['core']
 # where a function or a type is declared: name -> (crate, 'mod.path'); not named: this crate's root
 def home(n): return cfg.get('where', {}).get(n, (crate, ''))
