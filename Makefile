@@ -5,34 +5,32 @@
 
 PREFIX ?= /usr/local
 CARGO = cargo $(1) --manifest-path rust/Cargo.toml --locked --offline
+LIBRARY = target/staticlib/libcapi.a
 
 demo:
 	@bash scripts/tools rt cargo gcc
-	rt staticlib capi
+	@$(MAKE) --no-print-directory lib
 	$(call CARGO,run) --quiet --release -p pevghazo-cli -- demo
 
 test:
 	@bash scripts/tools rt python3 cargo gcc valgrind pkg-config
-	rt fmt --check
-	python3 scripts/vectors.py --check
-	python3 scripts/envelope_vectors.py --check
-	rt staticlib capi
-	$(call CARGO,test) --quiet
-	tests/interface.sh
-	tests/constant_time.sh
-	rt ci
+	@bash scripts/gate
 
-bench: lib
+bench:
 	@bash scripts/tools rt cargo gcc
+	@$(MAKE) --no-print-directory lib
 	rt staticlib bench_exports
 	bash bench/run
 
-lib:
+lib: $(LIBRARY)
+
+# Proves what changed since it was last proved, and makes the library.
+$(LIBRARY): crates.txt toolchain $(shell find crates -name '*.rt' -o -name '*.antt')
 	@bash scripts/tools rt
 	rt staticlib capi
 
 install: lib
 	install -d $(DESTDIR)$(PREFIX)/lib/pkgconfig $(DESTDIR)$(PREFIX)/include
-	install -m 644 target/staticlib/libcapi.a $(DESTDIR)$(PREFIX)/lib/libpevghazo.a
+	install -m 644 $(LIBRARY) $(DESTDIR)$(PREFIX)/lib/libpevghazo.a
 	install -m 644 include/pevghazo.h $(DESTDIR)$(PREFIX)/include/pevghazo.h
 	sed 's|@PREFIX@|$(PREFIX)|' pevghazo.pc.in >$(DESTDIR)$(PREFIX)/lib/pkgconfig/pevghazo.pc
