@@ -1,4 +1,4 @@
--- `capi::pevghazo_nearly_full` hands all that it was handed on, as it came, to `office::nearly_full`, and the answer to `capi::narrow`: a walk
+-- `capi::c_table::pevghazo_nearly_full` hands all that it was handed on, as it came, to `office::nearly_full`, and the answer to `capi::c_table::narrow`: a walk
 -- of its MIR. All that the proof knows of the two is that each meets its contract. Assumes nothing.
 use mathlib.Core.Path.{_≡_, refl, sym, subst}
 use mathlib.Core.List.{[], _∷_}
@@ -33,26 +33,26 @@ use denote.Triple.Walked.{says}
 use Rattle.office.specs.Table.{NearlyFullIs, sessionsOf}
 use Rattle.office.specs.declared.NearlyFull.{NearlyFull}
 use Rattle.capi.specs.Found.{narrowed, widened}
-use Rattle.capi.specs.declared.Found.{Found}
-use Rattle.capi.proofs.Below.{group-below}
+use Rattle.capi.specs.declared.c_table.Found.{Found}
+use Rattle.capi.proofs.c_table.Below.{group-below}
 use Rattle.capi.proofs.Pass.{passes, ends}
 use Rattle.sanse.proofs.Session as T
 use Rattle.office.proofs.NearlyFull as N
 use Rattle.office.proofs.NearlyFull.Laws as N′
-use Rattle.capi.proofs.Found as F
-use Rattle.capi.proofs.Found.Laws as F′
+use Rattle.capi.proofs.c_table.Found as F
+use Rattle.capi.proofs.c_table.Found.Laws as F′
 use Rattle.office.proofs.nearly_full as asked
 use Rattle.office.proofs.nearly_full.Symbol as asked-def
 use Rattle.office.proofs.nearly_full.Symbol.{name as #asked}
 use Rattle.office.proofs.nearly_full.Met as asked-thm
-use Rattle.capi.proofs.narrow as narrow
-use Rattle.capi.proofs.narrow.Symbol as narrow-def
-use Rattle.capi.proofs.narrow.Symbol.{name as #narrow}
-use Rattle.capi.proofs.narrow.Met as narrow-thm
-use Rattle.capi.proofs.pevghazo_nearly_full.Key.{name as #f}
-use Rattle.capi.proofs.pevghazo_nearly_full as f
-use Rattle.capi.proofs.pevghazo_nearly_full.Statement as stated
-use Rattle.capi.proofs.pevghazo_nearly_full.Code as code
+use Rattle.capi.proofs.c_table.narrow as narrow
+use Rattle.capi.proofs.c_table.narrow.Symbol as narrow-def
+use Rattle.capi.proofs.c_table.narrow.Symbol.{name as #narrow}
+use Rattle.capi.proofs.c_table.narrow.Met as narrow-thm
+use Rattle.capi.proofs.c_table.pevghazo_nearly_full.Key.{name as #f}
+use Rattle.capi.proofs.c_table.pevghazo_nearly_full as f
+use Rattle.capi.proofs.c_table.pevghazo_nearly_full.Statement as stated
+use Rattle.capi.proofs.c_table.pevghazo_nearly_full.Code as code
 
 -- the three contracts
 abbrev Asked : {M : Type 1} (𝓤 : URA M) (H : Heap 𝓤) (A : Atoms 𝓤) (at-mem : Memory → SProp 𝓤) (run : Routine → Fun 𝓤) → Contract 𝓤
@@ -121,4 +121,4 @@ pevghazo-nearly-full-spec 𝓤 H 𝓜 𝓖 𝓡 =
     entered 𝓤 H (Own 𝓤 H (𝓖 .A) (𝓜 .mem) (𝓡 .run)) (tables 𝓤 H 𝓜 𝓡 code.env .C) (tables 𝓤 H 𝓜 𝓡 code.env .Λ) #f code.function (code.unfolded 𝓤 H 𝓜 𝓡)
     (meets 𝓤 H (𝓖 .A) (givenOf 𝓤 H 𝓜 𝓖) (𝓜 .mem) (𝓡 .run) (tables 𝓤 H 𝓜 𝓡 code.env .C) (tables 𝓤 H 𝓜 𝓡 code.env .Λ) (fmOf 𝓤 H (givenOf 𝓤 H 𝓜 𝓖 .laws) (tablesOf 𝓤 H 𝓜 (tables 𝓤 H 𝓜 𝓡 code.env)))
     (cited 𝓤 H (Asked 𝓤 H (𝓖 .A) (𝓜 .mem) (𝓡 .run)) 𝓜 𝓡 code.env #asked asked-def.routine code.calls-office·nearly-full (asked-thm.met 𝓤 H 𝓜 𝓖 𝓡))
-    (cited 𝓤 H (Narrow 𝓤 H (𝓖 .A) (𝓜 .mem) (𝓡 .run)) 𝓜 𝓡 code.env #narrow narrow-def.routine code.calls-capi·narrow (narrow-thm.met 𝓤 H 𝓜 𝓖 𝓡)))
+    (cited 𝓤 H (Narrow 𝓤 H (𝓖 .A) (𝓜 .mem) (𝓡 .run)) 𝓜 𝓡 code.env #narrow narrow-def.routine code.calls-capi·c-table·narrow (narrow-thm.met 𝓤 H 𝓜 𝓖 𝓡)))

@@ -1,4 +1,4 @@
--- `capi::pevghazo_start` hands all that it was handed on, as it came, to `session::start` and returns what that returns, under the same contract: a walk of its MIR.
+-- `capi::c_session::pevghazo_start` hands all that it was handed on, as it came, to `session::start` and returns what that returns, under the same contract: a walk of its MIR.
 -- All that the proof knows of `session::start` is that it meets its contract. Assumes nothing.
 use mathlib.Core.Path.{refl}
 use mathlib.Core.List.{[], _∷_}
@@ -37,10 +37,10 @@ use Rattle.session.proofs.start as callee
 use Rattle.session.proofs.start.Symbol as callee-def
 use Rattle.session.proofs.start.Symbol.{name as #callee}
 use Rattle.session.proofs.start.Met as callee-thm
-use Rattle.capi.proofs.pevghazo_start.Key.{name as #f}
-use Rattle.capi.proofs.pevghazo_start as f
-use Rattle.capi.proofs.pevghazo_start.Statement as stated
-use Rattle.capi.proofs.pevghazo_start.Code as code
+use Rattle.capi.proofs.c_session.pevghazo_start.Key.{name as #f}
+use Rattle.capi.proofs.c_session.pevghazo_start as f
+use Rattle.capi.proofs.c_session.pevghazo_start.Statement as stated
+use Rattle.capi.proofs.c_session.pevghazo_start.Code as code
 
 -- the two contracts
 abbrev Callee : {M : Type 1} (𝓤 : URA M) (H : Heap 𝓤) (A : Atoms 𝓤) (at-mem : Memory → SProp 𝓤) (run : Routine → Fun 𝓤) → Contract 𝓤

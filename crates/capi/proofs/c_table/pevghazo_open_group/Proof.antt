@@ -1,4 +1,4 @@
--- `capi::pevghazo_open_group` hands all that it was handed on, a number at a greater width, to `office::open_group` and returns what that returns, under the same contract: a walk of its MIR.
+-- `capi::c_table::pevghazo_open_group` hands all that it was handed on, a number at a greater width, to `office::open_group` and returns what that returns, under the same contract: a walk of its MIR.
 -- All that the proof knows of `office::open_group` is that it meets its contract. Assumes nothing.
 use mathlib.Core.Path.{refl}
 use mathlib.Core.List.{[], _∷_}
@@ -44,10 +44,10 @@ use Rattle.office.proofs.open_group as callee
 use Rattle.office.proofs.open_group.Symbol as callee-def
 use Rattle.office.proofs.open_group.Symbol.{name as #callee}
 use Rattle.office.proofs.open_group.Met as callee-thm
-use Rattle.capi.proofs.pevghazo_open_group.Key.{name as #f}
-use Rattle.capi.proofs.pevghazo_open_group as f
-use Rattle.capi.proofs.pevghazo_open_group.Statement as stated
-use Rattle.capi.proofs.pevghazo_open_group.Code as code
+use Rattle.capi.proofs.c_table.pevghazo_open_group.Key.{name as #f}
+use Rattle.capi.proofs.c_table.pevghazo_open_group as f
+use Rattle.capi.proofs.c_table.pevghazo_open_group.Statement as stated
+use Rattle.capi.proofs.c_table.pevghazo_open_group.Code as code
 
 -- the two contracts
 abbrev Callee : {M : Type 1} (𝓤 : URA M) (H : Heap 𝓤) (A : Atoms 𝓤) (at-mem : Memory → SProp 𝓤) (run : Routine → Fun 𝓤) → Contract 𝓤

@@ -1,4 +1,4 @@
--- `capi::pevghazo_wrap_group` hands all that it was handed on, a number at a greater width, to `office::wrap_group` and returns what that returns, under the same contract: a walk of its MIR.
+-- `capi::c_table::pevghazo_wrap_group` hands all that it was handed on, a number at a greater width, to `office::wrap_group` and returns what that returns, under the same contract: a walk of its MIR.
 -- All that the proof knows of `office::wrap_group` is that it meets its contract. Assumes nothing.
 use mathlib.Core.Path.{refl}
 use mathlib.Core.List.{[], _∷_}
@@ -44,10 +44,10 @@ use Rattle.office.proofs.wrap_group as callee
 use Rattle.office.proofs.wrap_group.Symbol as callee-def
 use Rattle.office.proofs.wrap_group.Symbol.{name as #callee}
 use Rattle.office.proofs.wrap_group.Met as callee-thm
-use Rattle.capi.proofs.pevghazo_wrap_group.Key.{name as #f}
-use Rattle.capi.proofs.pevghazo_wrap_group as f
-use Rattle.capi.proofs.pevghazo_wrap_group.Statement as stated
-use Rattle.capi.proofs.pevghazo_wrap_group.Code as code
+use Rattle.capi.proofs.c_table.pevghazo_wrap_group.Key.{name as #f}
+use Rattle.capi.proofs.c_table.pevghazo_wrap_group as f
+use Rattle.capi.proofs.c_table.pevghazo_wrap_group.Statement as stated
+use Rattle.capi.proofs.c_table.pevghazo_wrap_group.Code as code
 
 -- the two contracts
 abbrev Callee : {M : Type 1} (𝓤 : URA M) (H : Heap 𝓤) (A : Atoms 𝓤) (at-mem : Memory → SProp 𝓤) (run : Routine → Fun 𝓤) → Contract 𝓤
