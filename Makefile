@@ -32,7 +32,8 @@ lib:
 	rt staticlib capi
 
 install: lib
-	install -d $(DESTDIR)$(PREFIX)/lib/pkgconfig $(DESTDIR)$(PREFIX)/include
+	install -d $(DESTDIR)$(PREFIX)/lib/pkgconfig $(DESTDIR)$(PREFIX)/include/pevghazo
 	install -m 644 target/staticlib/libcapi.a $(DESTDIR)$(PREFIX)/lib/libpevghazo.a
 	install -m 644 include/pevghazo.h $(DESTDIR)$(PREFIX)/include/pevghazo.h
+	install -m 644 include/pevghazo/*.h $(DESTDIR)$(PREFIX)/include/pevghazo
 	sed 's|@PREFIX@|$(PREFIX)|' pevghazo.pc.in >$(DESTDIR)$(PREFIX)/lib/pkgconfig/pevghazo.pc
