@@ -3,7 +3,7 @@
 //! The table has 32 records, one for each group, with one day's count of permutations and one allowance for all of them.
 
 use crate::refusal::{Number, Refusal};
-use crate::sanse::Session;
+use crate::session::Session;
 
 /// The number of records of a table.
 pub const GROUPS: usize = 32;

@@ -1,122 +1,15 @@
-//! The lanes against the bits, and the record against the ledger, on random inputs and at the edges of document 01.
+//! Sessions: the record against the ledger, on random inputs and at the edges.
 
 use pevghazo_reference::bits;
-use pevghazo_reference::deck::{Deck, Text, blocks, pad, xoofff};
-use pevghazo_reference::ledger::Ledger;
+use pevghazo_reference::deck::xoofff;
+use pevghazo_reference::ledger::{DeckFunction, Ledger};
+use pevghazo_reference::limits::{INDEX_MAX, LENGTH_MAX};
 use pevghazo_reference::random::Random;
 use pevghazo_reference::refusal::{Number, Refusal};
-use pevghazo_reference::sanse::{
-    INDEX_MAX, LENGTH_MAX, Session, count, growth, message_frame, metadata_frame, tag_frame,
-};
-use pevghazo_reference::xoodoo::{inverse, permute, roll_input, roll_output, to_bytes};
+use pevghazo_reference::sanse::count;
+use pevghazo_reference::session::Session;
 
 const EDGES: [usize; 12] = [0, 1, 2, 31, 32, 33, 47, 48, 49, 95, 96, 97];
-
-#[test]
-fn permutation_and_rolling_on_lanes_and_bits() {
-    let mut random = Random::new(1);
-    for rounds in 0..=12 {
-        for _ in 0..20 {
-            let state = random.state();
-            let string = bits::of_bytes(&to_bytes(&state));
-            let permuted = permute(&state, rounds);
-            assert_eq!(bits::to_bytes(&bits::permute(&string, rounds as i32)), to_bytes(&permuted));
-            assert_eq!(inverse(&permuted, rounds), state);
-            assert_eq!(permute(&inverse(&state, rounds), rounds), state);
-            assert_eq!(bits::to_bytes(&bits::roll_input(&string)), to_bytes(&roll_input(&state)));
-            assert_eq!(bits::to_bytes(&bits::roll_output(&string)), to_bytes(&roll_output(&state)));
-        }
-    }
-}
-
-#[test]
-fn every_bit_of_the_state_matters_alike_on_lanes_and_bits() {
-    for bit in 0..384 {
-        let mut state = [0; 12];
-        state[bit / 32] = 1 << (bit % 32);
-        let string = bits::of_bytes(&to_bytes(&state));
-        assert_eq!(bits::to_bytes(&bits::permute(&string, 1)), to_bytes(&permute(&state, 1)));
-        assert_eq!(bits::to_bytes(&bits::roll_input(&string)), to_bytes(&roll_input(&state)));
-        assert_eq!(bits::to_bytes(&bits::roll_output(&string)), to_bytes(&roll_output(&state)));
-    }
-}
-
-#[test]
-fn padding_on_bytes_and_bits() {
-    let mut random = Random::new(2);
-    for length in 0..150 {
-        for frame_bits in 0..=7 {
-            let text =
-                Text { bytes: random.bytes(length), frame: (0..frame_bits).map(|_| random.once_in(2)).collect() };
-            let padded = pad(&text.bytes, &text.frame);
-            assert_eq!(padded, bits::to_bytes(&bits::pad(&bits::of_text(&text))));
-            assert_eq!(padded.len(), 48 * blocks(length));
-        }
-    }
-}
-
-#[test]
-fn deck_function_on_lanes_and_bits() {
-    let mut random = Random::new(3);
-    for _ in 0..60 {
-        let length = random.below(48);
-        let key = random.bytes(length);
-        let history: Vec<Text> = (0..random.below(5))
-            .map(|_| {
-                let length = if random.once_in(2) { random.pick(&EDGES) } else { random.below(300) };
-                let frame = (0..random.below(8)).map(|_| random.once_in(2)).collect();
-                Text { bytes: random.bytes(length), frame }
-            })
-            .collect();
-        let (offset, length) = (random.below(200), random.below(200));
-        assert_eq!(xoofff(&key, &history, offset, length), bits::xoofff(&key, &history, offset, length));
-        let strings: Vec<bits::Bits> = history.iter().map(bits::of_text).collect();
-        let (x, k, index) = bits::compress(&bits::of_bytes(&key), &strings);
-        let deck = Deck::of(&key, &history);
-        assert_eq!(
-            (to_bytes(&deck.accumulator).to_vec(), to_bytes(&deck.mask).to_vec(), deck.index as usize),
-            (bits::to_bytes(&x), bits::to_bytes(&k), index)
-        );
-    }
-}
-
-#[test]
-fn output_from_an_offset_is_part_of_the_stream() {
-    let mut random = Random::new(4);
-    let key = random.bytes(32);
-    let history = [Text::new(&random.bytes(100), &[true])];
-    let stream = xoofff(&key, &history, 0, 1_000);
-    for offset in 0..200 {
-        for length in [0, 1, 47, 48, 49, 300] {
-            assert_eq!(xoofff(&key, &history, offset, length), stream[offset..offset + length]);
-        }
-    }
-}
-
-#[test]
-fn table_of_edges() {
-    assert_eq!([0, 47, 48, 96].map(blocks), [1, 1, 2, 3]);
-    assert_eq!([count(0, 0), count(0, 1), count(20, 48), count(16_384, 16_384)], [3, 6, 8, 1_030]);
-    assert_eq!([growth(0, 0), growth(20, 48)], [2, 5]);
-    for length in [0, 1, 46, 47, 48, 100] {
-        let after = |frame: &[bool]| pad(&vec![0xFF; length], frame)[length];
-        assert_eq!([after(&metadata_frame(false)), after(&metadata_frame(true))], [4, 6]);
-        assert_eq!([after(&message_frame(false)), after(&message_frame(true))], [10, 14]);
-        assert_eq!([after(&tag_frame(false)), after(&tag_frame(true))], [11, 15]);
-    }
-    // The lane s_n is element x + 4y, where n = 3x + y.
-    let s = |n: usize| n / 3 + 4 * (n % 3);
-    let lanes = |set: &[(usize, u32)]| {
-        let mut state = [0; 12];
-        for (n, value) in set {
-            state[s(*n)] = *value;
-        }
-        state
-    };
-    assert_eq!(roll_input(&lanes(&[(0, 1)])), lanes(&[(11, 0x2001)]));
-    assert_eq!(roll_input(&lanes(&[(1, 0x8000_0000)])), lanes(&[(0, 0x8000_0000), (11, 4)]));
-    assert_eq!(roll_output(&[0; 12]), lanes(&[(11, 7)]));
-}
 
 /// One end kept as a record and as a ledger; each call is made on both, and the answers must be the same.
 struct End {
@@ -125,7 +18,7 @@ struct End {
 }
 
 impl End {
-    fn start(key: &[u8], deck: pevghazo_reference::ledger::DeckFunction) -> End {
+    fn start(key: &[u8], deck: DeckFunction) -> End {
         End { session: Session::start(key).unwrap(), ledger: Ledger::start(key, deck).unwrap() }
     }
 
@@ -166,7 +59,7 @@ impl End {
 }
 
 /// Plays one random session between two ends, with damaged and repeated arrivals in between.
-fn play(random: &mut Random, messages: usize, longest: usize, deck: pevghazo_reference::ledger::DeckFunction) {
+fn play(random: &mut Random, messages: usize, longest: usize, deck: DeckFunction) {
     let length = 16 + random.below(32);
     let key = random.bytes(length);
     let mut ends = [End::start(&key, deck), End::start(&key, deck)];
