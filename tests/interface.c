@@ -56,7 +56,8 @@ static void refused_start(void) {
     pevghazo_session before, *session = &table[31];
     check("starting", pevghazo_start(session, key, key_len).number, PEVGHAZO_ACCEPTED);
     before = *session;
-    check("opening with a short key", pevghazo_open_group(table, PEVGHAZO_GROUPS, 31, pevghazo_start_day(9), key, PEVGHAZO_KEY_MIN - 1).number, PEVGHAZO_BAD_KEY);
+    pevghazo_group_answer refused = pevghazo_open_group(table, PEVGHAZO_GROUPS, 31, pevghazo_start_day(9), key, PEVGHAZO_KEY_MIN - 1);
+    check("opening with a short key", refused.number, PEVGHAZO_BAD_KEY);
     check("the group's record after it", (uint32_t)memcmp(session, &before, sizeof before), 0);
     pevghazo_answer answer = pevghazo_start(session, key, PEVGHAZO_KEY_MIN - 1);
     check("starting with a short key", answer.number, PEVGHAZO_BAD_KEY);

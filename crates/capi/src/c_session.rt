@@ -4,7 +4,8 @@ ghost use Rattle.session.specs.Lent.{Started, Wrapped, Unwrapped};
 use sanse::Session;
 use session::Answer;
 
-// Opens a session under a key of 16 to 47 bytes in the place of the record. Check 4; a refused start gives a closed session.
+// Opens a session under a key of 16 to 47 bytes in the place of the record. Check 4; a refused start closes the record,
+// and the session that it held is lost.
 #[no_mangle]
 pub extern "C" fn pevghazo_start(session: &mut Session, key: &[u8]) -> Answer
     ensures { λ r. ⌜ Started (now (key .entry)) r (now (session .exit)) ⌝ }
