@@ -1,6 +1,6 @@
 # demo: proves the library and plays a season with the command line over it.
 # test: everything, from nothing; the last line is 'N passed, M failed'.
-# lib: the proved C library, target/staticlib/libcapi.a. install: library, header and pkg-config file under PREFIX.
+# lib: the proved C library, target/staticlib/libcapi.a. install: library, headers and pkg-config file under PREFIX.
 .PHONY: demo test bench lib install
 
 PREFIX ?= /usr/local
@@ -30,7 +30,8 @@ $(LIBRARY): crates.txt toolchain $(shell find crates -name '*.rt' -o -name '*.an
 	rt staticlib capi
 
 install: lib
-	install -d $(DESTDIR)$(PREFIX)/lib/pkgconfig $(DESTDIR)$(PREFIX)/include
+	install -d $(DESTDIR)$(PREFIX)/lib/pkgconfig $(DESTDIR)$(PREFIX)/include/pevghazo
 	install -m 644 $(LIBRARY) $(DESTDIR)$(PREFIX)/lib/libpevghazo.a
 	install -m 644 include/pevghazo.h $(DESTDIR)$(PREFIX)/include/pevghazo.h
+	install -m 644 include/pevghazo/*.h $(DESTDIR)$(PREFIX)/include/pevghazo
 	sed 's|@PREFIX@|$(PREFIX)|' pevghazo.pc.in >$(DESTDIR)$(PREFIX)/lib/pkgconfig/pevghazo.pc

@@ -1,4 +1,5 @@
-/* What a C program sees of the installed library: the layouts that other languages rely on, and a message from the office to a group. */
+/* What a C program sees of the installed library: the layouts that other languages rely on, the table and the day of zeros, what a refused
+ * start leaves, and a message from the office to a group and back. */
 #include <pevghazo.h>
 #include <stdio.h>
 #include <stdlib.h>
@@ -18,11 +19,56 @@ static void check(const char *what, uint32_t found, uint32_t expected) {
     exit(1);
 }
 
-int main(void) {
-    static pevghazo_session office[PEVGHAZO_GROUPS]; /* all zero: 32 closed sessions */
-    pevghazo_session group;
-    const uint8_t key[] = "the key of group 7", metadata[] = "size C", message[] = "12001-12100";
-    const size_t key_len = sizeof key - 1, metadata_len = sizeof metadata - 1, message_len = sizeof message - 1;
+static const uint8_t key[] = "the key of group 7", metadata[] = "size C", message[] = "12001-12100";
+enum { key_len = sizeof key - 1, metadata_len = sizeof metadata - 1, message_len = sizeof message - 1 };
+
+/* Zeroed memory is the table that no group has opened yet, and a day of zeros is the day before the first. */
+static void zeros(void) {
+    pevghazo_session office[PEVGHAZO_GROUPS];
+    pevghazo_day day, none = pevghazo_no_day();
+    uint8_t out[message_len], tag[PEVGHAZO_TAG_LENGTH] = {0};
+    memset(office, 0, sizeof office);
+    memset(&day, 0, sizeof day);
+    check("the day before the first", (uint32_t)memcmp(&none, &day, sizeof day), 0);
+    for (uint32_t group = 0; group < PEVGHAZO_GROUPS; group++) {
+        check("sealing before a group is opened",
+              pevghazo_wrap_group(office, PEVGHAZO_GROUPS, group, pevghazo_start_day(UINT32_MAX), metadata, metadata_len, message, message_len, out,
+                                  sizeof out, tag, sizeof tag).number,
+              PEVGHAZO_NOT_OPEN);
+        check("opening a message before a group is opened",
+              pevghazo_unwrap_group(office, PEVGHAZO_GROUPS, group, pevghazo_start_day(UINT32_MAX), metadata, metadata_len, message, message_len, tag,
+                                    sizeof tag, out, sizeof out).number,
+              PEVGHAZO_NOT_OPEN);
+    }
+    pevghazo_found full = pevghazo_nearly_full(office, PEVGHAZO_GROUPS, 0);
+    check("the nearly-full question of zeros", full.number, PEVGHAZO_ACCEPTED);
+    check("the group that it finds", full.found, false);
+    for (uint32_t group = 0; group < PEVGHAZO_GROUPS; group++) {
+        check("opening a group before the first day", pevghazo_open_group(office, PEVGHAZO_GROUPS, group, day, key, key_len).number, PEVGHAZO_ALLOWANCE);
+        check("opening a group", pevghazo_open_group(office, PEVGHAZO_GROUPS, group, pevghazo_start_day(1), key, key_len).number, PEVGHAZO_ACCEPTED);
+        check("an opened group", office[group].opened, true);
+    }
+}
+
+/* A refused start closes the record, and a refused opening leaves the group's. */
+static void refused_start(void) {
+    static pevghazo_session table[PEVGHAZO_GROUPS], closed;
+    pevghazo_session before, *session = &table[31];
+    check("starting", pevghazo_start(session, key, key_len).number, PEVGHAZO_ACCEPTED);
+    before = *session;
+    pevghazo_group_answer refused = pevghazo_open_group(table, PEVGHAZO_GROUPS, 31, pevghazo_start_day(9), key, PEVGHAZO_KEY_MIN - 1);
+    check("opening with a short key", refused.number, PEVGHAZO_BAD_KEY);
+    check("the group's record after it", (uint32_t)memcmp(session, &before, sizeof before), 0);
+    pevghazo_answer answer = pevghazo_start(session, key, PEVGHAZO_KEY_MIN - 1);
+    check("starting with a short key", answer.number, PEVGHAZO_BAD_KEY);
+    check("its count", answer.count, 0);
+    check("the record after it", memcmp(session->acc, closed.acc, sizeof closed.acc) != 0 || memcmp(session->mask, closed.mask, sizeof closed.mask) != 0
+          || session->index != 0 || session->toggle || session->opened, false);
+}
+
+/* A message from the office to a group, in an envelope, and an answer. */
+static void both_ways(void) {
+    static pevghazo_session office[PEVGHAZO_GROUPS], group; /* all zero: closed sessions */
 
     /* The office begins a day, opens group 7 and seals a message for it. */
     pevghazo_day day = pevghazo_start_day(1000);
@@ -47,7 +93,6 @@ int main(void) {
 
     /* The group opens it once, and a second time it is refused. */
     uint8_t out[sizeof message];
-    check("a short key", pevghazo_start(&group, key, 15).number, PEVGHAZO_BAD_KEY);
     check("starting", pevghazo_start(&group, key, key_len).number, PEVGHAZO_ACCEPTED);
     const uint32_t expected[2] = {PEVGHAZO_ACCEPTED, PEVGHAZO_WRONG_TAG};
     for (int i = 0; i < 2; i++) {
@@ -68,6 +113,12 @@ int main(void) {
     pevghazo_found full = pevghazo_nearly_full(office, PEVGHAZO_GROUPS, 5);
     check("the nearly-full question", full.number, PEVGHAZO_ACCEPTED);
     check("the group that is nearly full", full.found ? full.group : 99, 7);
-    puts("interface: a message went both ways");
+}
+
+int main(void) {
+    zeros();
+    refused_start();
+    both_ways();
+    puts("interface: zeros are an unopened table before its first day, and a message went both ways");
     return 0;
 }

@@ -1,4 +1,2 @@
--- What the walks share, and what the clauses of the exported functions are.
+-- What the walks of all areas share.
 pub mod Pass
-pub mod Below
-pub mod Contracts

@@ -3,7 +3,7 @@
 
 use std::slice::{from_raw_parts, from_raw_parts_mut};
 
-use pevghazo_reference::sanse::Session;
+use pevghazo_reference::session::Session;
 
 /// `pevghazo_session` of the header.
 #[repr(C)]

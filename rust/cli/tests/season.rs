@@ -3,7 +3,7 @@
 mod common;
 
 use common::Folder;
-use pevghazo_reference::{envelope, sanse};
+use pevghazo_reference::{envelope, sanse, session};
 
 const GROUPS: [u32; 3] = [0, 9, 31];
 
@@ -122,7 +122,7 @@ fn more_bytes_may_follow_an_envelope() {
 #[test]
 fn the_independent_implementation_understands_it() {
     let folder = Folder::pair(17);
-    let mut other = sanse::Session::start(&folder.read("key").unwrap()).unwrap();
+    let mut other = session::Session::start(&folder.read("key").unwrap()).unwrap();
     for (turn, length) in [0, 1, 47, 48, 49, 96, 1_000, 16_384].into_iter().enumerate() {
         let message = text(turn as u32, length);
         folder.write("message", &message);

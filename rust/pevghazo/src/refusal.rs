@@ -78,7 +78,8 @@ impl fmt::Display for Number {
 }
 
 /// A refused call. Sessions, buffers and the day's count are as they were before it, but for [`Number::WrongTag`]: there the
-/// day's count has grown by `count`, and the part of the output buffer that the message would have taken is zero.
+/// day's count has grown by `count`, and the part of the output buffer that the message would have taken is zero. That holds
+/// of this crate's types; [`raw::start`](crate::raw::start) closes the record that it is lent where it is refused.
 ///
 /// ```
 /// use pevghazo::{Number, Session};

@@ -70,6 +70,9 @@ impl Session {
     pub const BYTES: usize = record::BYTES;
 
     /// Starts a session under a key of 16 to 47 bytes, and gives it with the permutations done. Check 4.
+    ///
+    /// The session is one more, in a record of its own, so a refused start costs no session. (In the C interface a start is
+    /// lent a record, and a refused one closes it.)
     pub fn start(key: &[u8]) -> Result<(Session, u32), Refusal> {
         let mut record = Box::new(Record::closed());
         let given = raw::start(&mut record, key);

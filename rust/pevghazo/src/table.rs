@@ -60,6 +60,26 @@ pub struct Group {
     pub toggle: bool,
 }
 
+impl Day {
+    /// The day before the first: count and allowance are 0, so no call for a group is accepted.
+    ///
+    /// ```
+    /// use pevghazo::{Day, Table};
+    ///
+    /// assert_eq!(Day::none(), Day { spent: 0, allowance: 0 });
+    /// assert_eq!(Table::new().day(), Day::none());
+    /// ```
+    pub fn none() -> Day {
+        raw::no_day()
+    }
+}
+
+impl Default for Day {
+    fn default() -> Day {
+        Day::none()
+    }
+}
+
 impl Default for Table {
     fn default() -> Table {
         Table::new()
@@ -70,11 +90,11 @@ impl Table {
     /// The bytes of a stored table.
     pub const BYTES: usize = GROUPS * record::BYTES + 8;
 
-    /// The table before the first day: 32 closed sessions, count and allowance 0.
+    /// The table that no group has opened yet, before the first day: 32 closed sessions, count and allowance 0.
     pub fn new() -> Table {
         let sessions: Box<[Record]> = (0..GROUPS).map(|_| Record::closed()).collect();
         let Ok(sessions) = sessions.try_into() else { unreachable!("there are as many as groups") };
-        Table { sessions, day: Day::default() }
+        Table { sessions, day: Day::none() }
     }
 
     /// Starts a day: a count of 0, and this allowance. Never refused.

@@ -1,6 +1,6 @@
 //! The safe types: stored bytes, refusals, and what is shown.
 
-use pevghazo::{BadBytes, GROUPS, Number, Refusal, Session, Table, envelope, wipe};
+use pevghazo::{BadBytes, Day, GROUPS, Number, Refusal, Session, Table, envelope, raw, wipe};
 
 const KEY: &[u8] = b"a key for the tests here";
 
@@ -97,6 +97,33 @@ fn layout_of_stored_bytes() {
     assert_eq!(group.index, u32::from_le_bytes([96, 97, 98, 99].map(|i: u8| i.wrapping_mul(17))));
     assert_eq!(read.group(32), None);
     assert_eq!(read.groups().count(), GROUPS);
+}
+
+#[test]
+fn a_new_table() {
+    let (mut table, mut tag) = (Table::new(), [0; 32]);
+    assert_eq!(raw::no_day(), Day { spent: 0, allowance: 0 });
+    assert_eq!((Day::none(), Day::default(), table.day()), (raw::no_day(), raw::no_day(), raw::no_day()));
+    assert_eq!(table.to_bytes(), vec![0; Table::BYTES], "zero in all bytes");
+    for allowance in [0, u32::MAX] {
+        table.start_day(allowance);
+        for group in 0..GROUPS as u32 {
+            let closed = Refusal { number: Number::NotOpen, count: 0 };
+            assert_eq!(table.wrap_group(group, b"size C", b"12001", &mut [0; 5], &mut tag), Err(closed));
+            assert_eq!(table.unwrap_group(group, b"size C", b"12001", &tag, &mut [0; 5]), Err(closed));
+        }
+        assert_eq!(table.nearly_full(0), None);
+    }
+    assert!((0..GROUPS as u32).all(|group| table.open_group(group, KEY) == Ok(1)));
+}
+
+#[test]
+fn a_refused_start_closes_the_record() {
+    let mut record = raw::Record::closed();
+    assert_eq!(raw::start(&mut record, KEY), raw::Answer { number: 0, count: 1 });
+    assert!(record.opened);
+    assert_eq!(raw::start(&mut record, &KEY[..15]), raw::Answer { number: 4, count: 0 });
+    assert!(record == raw::Record::closed(), "the old session is lost");
 }
 
 #[test]

@@ -7,8 +7,10 @@ use common::{
     Arrival, Both, answer_of, any_session, cases, is_whole_run, key, maybe_long, other_length, record_of, text,
 };
 use pevghazo::raw;
+use pevghazo_reference::limits::INDEX_MAX;
 use pevghazo_reference::random::Random;
-use pevghazo_reference::sanse::{INDEX_MAX, Session, count, growth};
+use pevghazo_reference::sanse::{count, growth};
+use pevghazo_reference::session::Session;
 
 /// Seals a random message at an end. On the way there may be calls that are refused; which of them are is told by `numbers`.
 fn seal(random: &mut Random, end: &mut Both, numbers: &mut [u64; 12]) -> Arrival {

@@ -7,9 +7,10 @@ use common::{
 };
 use pevghazo::raw::{self, Answer, Day, GroupAnswer, Record};
 use pevghazo_reference::envelope;
-use pevghazo_reference::office::Table;
 use pevghazo_reference::random::Random;
-use pevghazo_reference::sanse::{Session, count};
+use pevghazo_reference::sanse::count;
+use pevghazo_reference::session::Session;
+use pevghazo_reference::table::Table;
 
 /// A table held twice: by the library, and by the reference.
 struct Tables {

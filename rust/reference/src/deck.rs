@@ -5,7 +5,8 @@
 //! block and sums up an *accumulator*; *expanding* makes the stream from the accumulator. The history may be continued
 //! without going through the old strings again, since the accumulator only gains.
 
-use crate::xoodoo::{BLOCK, State, XOOFFF_ROUNDS, from_bytes, permute, roll_input, roll_output, sum, to_bytes};
+use crate::rolling::{roll_input, roll_output};
+use crate::xoodoo::{BLOCK, State, XOOFFF_ROUNDS, from_bytes, permute, sum, to_bytes};
 
 /// Xoodoo with the six rounds that Xoofff takes everywhere.
 pub fn p(state: &State) -> State {

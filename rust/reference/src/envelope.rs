@@ -3,8 +3,8 @@
 //! `S,group,A length,M length,` in decimal, then the metadata, the cryptogram and the tag. More bytes may follow, so several
 //! envelopes can stand one after the other.
 
+use crate::limits::{LENGTH_MAX, TAG, check_lengths};
 use crate::refusal::Number;
-use crate::sanse::{LENGTH_MAX, TAG, check_lengths};
 
 /// The highest number of a group.
 pub const GROUP_MAX: u32 = 31;

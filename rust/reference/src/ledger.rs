@@ -5,10 +5,10 @@
 //! and the steps are written as in the cookbook's algorithm 3, so it says what a record's answers should have been.
 
 use crate::deck::{Deck, Text};
+use crate::limits::{INDEX_MAX, KEY_MAX, KEY_MIN, LENGTH_MAX, TAG};
 use crate::refusal::{Number, Refusal};
-use crate::sanse::{
-    INDEX_MAX, KEY_MAX, KEY_MIN, LENGTH_MAX, Session, TAG, count, message_frame, metadata_frame, tag_frame,
-};
+use crate::sanse::{count, message_frame, metadata_frame, tag_frame};
+use crate::session::Session;
 
 /// A deck function of key, history, offset and length, all in bytes: [`crate::deck::xoofff`] or [`crate::bits::xoofff`].
 pub type DeckFunction = fn(&[u8], &[Text], usize, usize) -> Vec<u8>;

@@ -11,20 +11,23 @@
 //!
 //! | module | what it holds |
 //! |---|---|
-//! | [`xoodoo`] | the permutation on twelve 32-bit lanes, its inverse, and the two rolling functions |
+//! | [`xoodoo`] | the permutation on twelve 32-bit lanes, and its inverse |
+//! | [`rolling`] | the two rolling functions on the same lanes |
 //! | [`deck`] | Xoofff: a keyed function from a *history* (a sequence of strings) to as many bytes as one asks for |
 //! | [`bits`] | permutation, padding, rolling and deck function once more, literally, on strings of bits |
-//! | [`sanse`] | sessions: start, wrap and unwrap on a record that is carried along from call to call |
+//! | [`limits`] | the limits of keys, texts, tags and indexes |
+//! | [`session`] | the record that is carried along from call to call, and its start |
+//! | [`sanse`] | wrap and unwrap of a session by Xoofff-SANSE, their counts and checks |
 //! | [`ledger`] | the same session kept as key and full history, with the deck function worked out afresh at each call |
 //! | [`envelope`] | the bytes in which a sealed message travels |
-//! | [`office`] | the office's table of 32 sessions with one allowance of permutations for the day |
+//! | [`table`] | the office's table of 32 sessions with one allowance of permutations for the day |
 //! | [`refusal`] | the numbers under which a call is refused |
 //! | [`random`] | a small deterministic generator of test data |
 //!
 //! # A message from one end to the other
 //!
 //! ```
-//! use pevghazo_reference::sanse::Session;
+//! use pevghazo_reference::session::Session;
 //!
 //! let key = b"sixteen bytes or more";
 //! let mut office = Session::start(key).unwrap();
@@ -44,8 +47,11 @@ pub mod bits;
 pub mod deck;
 pub mod envelope;
 pub mod ledger;
-pub mod office;
+pub mod limits;
 pub mod random;
 pub mod refusal;
+pub mod rolling;
 pub mod sanse;
+pub mod session;
+pub mod table;
 pub mod xoodoo;

@@ -1,23 +1,14 @@
-//! Sessions of Xoofff-SANSE (Xoodoo cookbook, section 5; limits, counts and refusals of document 01).
+//! Xoofff-SANSE: wrap and unwrap of a session (Xoodoo cookbook, section 5; counts and refusals of document 01).
 //!
-//! A *session* is what two ends hold under one key. *Wrapping* turns *metadata*, which travels in the clear, and a *message*
-//! into a *cryptogram* of the message's length and a *tag* of 32 bytes. *Unwrapping* turns them back, or refuses. Every tag
-//! covers all messages of the session so far, those of both directions.
+//! *Wrapping* turns *metadata*, which travels in the clear, and a *message* into a *cryptogram* of the message's length and a
+//! *tag* of 32 bytes. *Unwrapping* turns them back, or refuses. Every tag covers all messages of the session so far, those of
+//! both directions.
 
 use crate::deck::{Deck, blocks};
+use crate::limits::{INDEX_MAX, TAG, check_lengths};
 use crate::refusal::{Number, Refusal};
-use crate::xoodoo::{BLOCK, State};
-
-/// The fewest bytes of a key.
-pub const KEY_MIN: usize = 16;
-/// The most bytes of a key.
-pub const KEY_MAX: usize = 47;
-/// The bytes of a tag.
-pub const TAG: usize = 32;
-/// The most bytes of metadata, and of a message.
-pub const LENGTH_MAX: usize = 16_384;
-/// The highest index that a session may reach.
-pub const INDEX_MAX: u32 = 1_048_576;
+use crate::session::Session;
+use crate::xoodoo::BLOCK;
 
 /// The frame bits after metadata.
 pub fn metadata_frame(toggle: bool) -> [bool; 2] {
@@ -62,37 +53,7 @@ pub fn growth(metadata: usize, message: usize) -> u32 {
     u32::try_from(growth).expect("lengths within their limits")
 }
 
-/// The record of a session. Its fields are open so that tests can make any record, also one that no calls leave behind.
-#[derive(Clone, Debug, PartialEq, Eq)]
-pub struct Session {
-    /// The accumulator of the history; the lane at x of plane y is element x + 4y.
-    pub accumulator: State,
-    /// The key's mask, rolled `index` times.
-    pub mask: State,
-    /// The input index after the history's last string.
-    pub index: u32,
-    /// The toggle e, which changes with each accepted message.
-    pub toggle: bool,
-    /// Whether the session is open.
-    pub open: bool,
-}
-
 impl Session {
-    /// A closed record: zero in all its numbers.
-    pub const CLOSED: Session = Session { accumulator: [0; 12], mask: [0; 12], index: 0, toggle: false, open: false };
-
-    /// The permutations of an accepted start.
-    pub const START_COUNT: u32 = 1;
-
-    /// Starts a session under a key. Meets 4; a caller that must hold a record after a refusal takes [`Session::CLOSED`].
-    pub fn start(key: &[u8]) -> Result<Session, Number> {
-        if !(KEY_MIN..=KEY_MAX).contains(&key.len()) {
-            return Err(Number::Key);
-        }
-        let Deck { accumulator, mask, .. } = Deck::start(key);
-        Ok(Session { accumulator, mask, index: 0, toggle: false, open: true })
-    }
-
     /// The checks 5 to 9 of a call with these lengths. Gives the call's count where none is met.
     pub fn check(&self, metadata: usize, message: usize, tag: usize, output: usize) -> Result<u32, Number> {
         if !self.open {
@@ -106,19 +67,6 @@ impl Session {
             return Err(Number::Full);
         }
         Ok(count(metadata, message))
-    }
-
-    /// The deck function's state in this record.
-    fn deck(&self) -> Deck {
-        Deck { accumulator: self.accumulator, mask: self.mask, index: u64::from(self.index) }
-    }
-
-    /// Takes in the history of an accepted message.
-    fn accept(&mut self, history: Deck) {
-        self.accumulator = history.accumulator;
-        self.mask = history.mask;
-        self.index = u32::try_from(history.index).expect("the index was checked");
-        self.toggle = !self.toggle;
     }
 
     /// Wraps a message: the cryptogram goes to the start of `cryptogram`, whose other bytes keep their content, and the tag
@@ -183,17 +131,6 @@ impl Session {
         self.accept(history);
         Ok(count)
     }
-}
-
-/// The checks 6 and 7, which sessions and envelopes share.
-pub(crate) fn check_lengths(metadata: usize, message: usize, tag: usize) -> Result<(), Number> {
-    if metadata > LENGTH_MAX || message > LENGTH_MAX {
-        return Err(Number::TooLong);
-    }
-    if tag != TAG {
-        return Err(Number::TagLength);
-    }
-    Ok(())
 }
 
 /// Puts the sum of `input` and the deck function's output at the start of `output`.

@@ -1,4 +1,4 @@
-//! The permutation Xoodoo and the two rolling functions of Xoofff, on lanes (Xoodoo cookbook, sections 2 and 3).
+//! The permutation Xoodoo, on lanes (Xoodoo cookbook, section 2).
 //!
 //! The state has 384 bits: three *planes* y = 0, 1, 2 of four *lanes* x = 0 to 3 of 32 bits each. Bit z of a lane is the bit
 //! of weight 2^z of a `u32`. Everything here adds without carry: "sum" is exclusive or.
@@ -17,10 +17,10 @@ pub const ROUND_CONSTANTS: [u32; 12] =
     [0x058, 0x038, 0x3C0, 0x0D0, 0x120, 0x014, 0x060, 0x02C, 0x380, 0x0F0, 0x1A0, 0x012];
 
 /// Four lanes side by side.
-type Plane = [u32; 4];
+pub(crate) type Plane = [u32; 4];
 
 /// The plane moved cyclically: the bit at (x, z) goes to (x + t, z + v).
-fn shift(plane: Plane, t: usize, v: u32) -> Plane {
+pub(crate) fn shift(plane: Plane, t: usize, v: u32) -> Plane {
     let mut moved = [0; 4];
     for x in 0..4 {
         moved[(x + t) % 4] = plane[x].rotate_left(v);
@@ -39,12 +39,12 @@ fn complement_and(a: Plane, b: Plane) -> Plane {
 }
 
 /// The three planes of a state.
-fn planes(state: &State) -> [Plane; 3] {
+pub(crate) fn planes(state: &State) -> [Plane; 3] {
     std::array::from_fn(|y| std::array::from_fn(|x| state[x + 4 * y]))
 }
 
 /// The state of three planes.
-fn state(planes: &[Plane; 3]) -> State {
+pub(crate) fn state(planes: &[Plane; 3]) -> State {
     std::array::from_fn(|j| planes[j / 4][j % 4])
 }
 
@@ -117,26 +117,6 @@ pub fn inverse(input: &State, rounds: usize) -> State {
         inverse_round(&mut a, *constant);
     }
     state(&a)
-}
-
-/// The planes move down by one, and the old lowest, with its lane at x = 0 replaced by `new`, moves by three lanes and becomes
-/// the top one: the part that both rolling functions share.
-fn roll_planes(a: &State, new: u32) -> State {
-    let [mut lowest, middle, top] = planes(a);
-    lowest[0] = new;
-    state(&[middle, top, shift(lowest, 3, 0)])
-}
-
-/// Input rolling: the mask of the next input block from the mask of this one.
-pub fn roll_input(a: &State) -> State {
-    let (a00, a10) = (a[0], a[4]);
-    roll_planes(a, a00 ^ (a00 << 13) ^ a10.rotate_left(3))
-}
-
-/// Output rolling: the rolling state of the next output block from that of this one.
-pub fn roll_output(a: &State) -> State {
-    let (a00, a10, a20) = (a[0], a[4], a[8]);
-    roll_planes(a, (a10 & a20) ^ a00.rotate_left(5) ^ a10.rotate_left(13) ^ 7)
 }
 
 /// The sum of two states.

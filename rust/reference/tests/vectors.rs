@@ -9,8 +9,9 @@ use pevghazo_reference::bits;
 use pevghazo_reference::deck::{Deck, Text, xoofff};
 use pevghazo_reference::ledger::Ledger;
 use pevghazo_reference::refusal::{Number, Refusal};
-use pevghazo_reference::sanse::Session;
-use pevghazo_reference::xoodoo::{inverse, permute, roll_input, roll_output};
+use pevghazo_reference::rolling::{roll_input, roll_output};
+use pevghazo_reference::session::Session;
+use pevghazo_reference::xoodoo::{inverse, permute};
 
 #[test]
 fn permutation() {

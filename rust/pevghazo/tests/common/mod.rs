@@ -7,7 +7,7 @@
 use pevghazo::raw::{self, Answer, Record};
 use pevghazo_reference::random::Random;
 use pevghazo_reference::refusal::Refusal;
-use pevghazo_reference::sanse::Session;
+use pevghazo_reference::session::Session;
 
 /// The lengths at which something changes.
 pub const EDGES: [usize; 10] = [0, 1, 47, 48, 49, 95, 96, 97, 16_383, 16_384];

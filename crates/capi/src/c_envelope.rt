@@ -1,0 +1,29 @@
+// Envelopes: where the parts of one stand, and the bytes of one.
+ghost use mathlib.Core.Path.{_≡_};
+ghost use Rattle.envelope.specs.Read.{readParts};
+ghost use Rattle.envelope.specs.Write.{writeAnswer, writeBuffer};
+use envelope::Parts;
+use envelope::WriteResult;
+
+// Where the parts of the envelope at the start of some bytes begin, and the place after it. Checks 1 and 2.
+#[no_mangle]
+pub extern "C" fn pevghazo_read_envelope(bytes: &[u8]) -> Parts
+    ensures { λ r. ⌜ r ≡ readParts (now (bytes .entry)) ⌝ }
+{
+    envelope::read_parts(bytes)
+}
+
+// Writes an envelope to the start of `out` and gives how many bytes that are. Checks 3, 6, 7 and 8.
+#[no_mangle]
+pub extern "C" fn pevghazo_write_envelope(
+    group: u32,
+    metadata: &[u8],
+    cryptogram: &[u8],
+    tag: &[u8],
+    out: &mut [u8],
+) -> WriteResult
+    ensures { λ r. ⌜ (r ≡ writeAnswer group (now (metadata .entry)) (now (cryptogram .entry)) (now (tag .entry)) (now (out .entry)))
+        × (now (out .exit) ≡ writeBuffer group (now (metadata .entry)) (now (cryptogram .entry)) (now (tag .entry)) (now (out .entry))) ⌝ }
+{
+    envelope::write_envelope(group, metadata, cryptogram, tag, out)
+}

@@ -1,0 +1,44 @@
+// A lone session: one record, lent to each call.
+ghost use Rattle.sanse.specs.Session.{handed};
+ghost use Rattle.session.specs.Lent.{Started, Wrapped, Unwrapped};
+use sanse::Session;
+use session::Answer;
+
+// Opens a session under a key of 16 to 47 bytes in the place of the record. Check 4; a refused start closes the record,
+// and the session that it held is lost.
+#[no_mangle]
+pub extern "C" fn pevghazo_start(session: &mut Session, key: &[u8]) -> Answer
+    ensures { λ r. ⌜ Started (now (key .entry)) r (now (session .exit)) ⌝ }
+{
+    session::start(session, key)
+}
+
+// Wraps a message: the cryptogram goes to the start of `out`, and the tag fills `tag`. Checks 5 to 9.
+#[no_mangle]
+pub extern "C" fn pevghazo_wrap(
+    session: &mut Session,
+    metadata: &[u8],
+    message: &[u8],
+    out: &mut [u8],
+    tag: &mut [u8],
+) -> Answer
+    ensures { λ r. ⌜ Wrapped (now (session .entry)) (handed (now (metadata .entry)) (now (message .entry)) (now (out .entry)) (now (tag .entry)))
+        r (now (session .exit)) (now (out .exit)) (now (tag .exit)) ⌝ }
+{
+    session::wrap(session, metadata, message, out, tag)
+}
+
+// Unwraps a cryptogram: the message goes to the start of `out`. Checks 5 to 9 and 11.
+#[no_mangle]
+pub extern "C" fn pevghazo_unwrap(
+    session: &mut Session,
+    metadata: &[u8],
+    cryptogram: &[u8],
+    tag: &[u8],
+    out: &mut [u8],
+) -> Answer
+    ensures { λ r. ⌜ Unwrapped (now (session .entry)) (handed (now (metadata .entry)) (now (cryptogram .entry)) (now (out .entry)) (now (tag .entry)))
+        r (now (session .exit)) (now (out .exit)) (now (tag .entry)) ⌝ }
+{
+    session::unwrap(session, metadata, cryptogram, tag, out)
+}

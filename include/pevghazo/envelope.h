@@ -1,0 +1,44 @@
+/* Pevghazo: envelopes, the bytes in which messages travel. What all functions share is said in pevghazo.h. */
+#ifndef PEVGHAZO_ENVELOPE_H
+#define PEVGHAZO_ENVELOPE_H
+
+#include "numbers.h"
+#include <stddef.h>
+#include <stdint.h>
+
+#ifdef __cplusplus
+extern "C" {
+#endif
+
+/* Limit: the most bytes of a header. */
+enum { PEVGHAZO_HEADER_MAX = 17 };
+
+/* An envelope as it was read: its number, the group, the places where metadata, cryptogram and tag begin, and the place after it. The
+ * metadata reach up to the cryptogram, the cryptogram up to the tag, the tag up to `place`. All but the number are 0 on a refusal. */
+typedef struct pevghazo_parts {
+    uint32_t number;
+    uint32_t group;
+    size_t metadata;
+    size_t cryptogram;
+    size_t tag;
+    size_t place;
+} pevghazo_parts;
+
+/* An envelope as it was written: the number, and how many bytes it has, or 0. */
+typedef struct pevghazo_written {
+    uint32_t number;
+    size_t len;
+} pevghazo_written;
+
+/* Checks 1 and 2. More bytes may follow the envelope. */
+pevghazo_parts pevghazo_read_envelope(const uint8_t *bytes, size_t bytes_len);
+
+/* Checks 3, 6, 7, 8. */
+pevghazo_written pevghazo_write_envelope(uint32_t group, const uint8_t *metadata, size_t metadata_len, const uint8_t *cryptogram,
+                                         size_t cryptogram_len, const uint8_t *tag, size_t tag_len, uint8_t *out, size_t out_len);
+
+#ifdef __cplusplus
+}
+#endif
+
+#endif

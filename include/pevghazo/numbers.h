@@ -1,0 +1,28 @@
+/* Pevghazo: the numbers of refusals, and the limits that several areas share. */
+#ifndef PEVGHAZO_NUMBERS_H
+#define PEVGHAZO_NUMBERS_H
+
+/* Numbers, in the order in which they are checked. */
+enum {
+    PEVGHAZO_ACCEPTED = 0,
+    PEVGHAZO_BAD_HEADER = 1,     /* the envelope's header does not follow the layout */
+    PEVGHAZO_TOO_FEW_BYTES = 2,  /* fewer bytes follow the header than its lengths and the tag's 32 together */
+    PEVGHAZO_BAD_GROUP = 3,      /* the table does not hold 32 sessions, or the group is above 31 */
+    PEVGHAZO_BAD_KEY = 4,        /* the key does not have 16 to 47 bytes */
+    PEVGHAZO_NOT_OPEN = 5,       /* the session is not open */
+    PEVGHAZO_TOO_LONG = 6,       /* metadata or message has more than 16,384 bytes */
+    PEVGHAZO_BAD_TAG_LENGTH = 7, /* the tag, or the tag buffer, does not have 32 bytes */
+    PEVGHAZO_NO_ROOM = 8,        /* the output buffer is too short */
+    PEVGHAZO_INDEX_FULL = 9,     /* the index after the call would exceed 1,048,576 */
+    PEVGHAZO_ALLOWANCE = 10,     /* the allowance is smaller than the day's count plus this call's count */
+    PEVGHAZO_WRONG_TAG = 11      /* the tag differs */
+};
+
+/* Limits: the groups of a table, the bytes of a tag, and the most bytes of metadata and of a message. */
+enum {
+    PEVGHAZO_GROUPS = 32,
+    PEVGHAZO_TAG_LENGTH = 32,
+    PEVGHAZO_TEXT_MAX = 16384
+};
+
+#endif

@@ -1,0 +1,52 @@
+/* Pevghazo: a lone session, one record that is lent to each call and altered by it. What all functions share is said in pevghazo.h. */
+#ifndef PEVGHAZO_SESSION_H
+#define PEVGHAZO_SESSION_H
+
+#include "numbers.h"
+#include <stdbool.h>
+#include <stddef.h>
+#include <stdint.h>
+
+#ifdef __cplusplus
+extern "C" {
+#endif
+
+/* Limits: the bytes of a key, and the highest index. */
+enum {
+    PEVGHAZO_KEY_MIN = 16,
+    PEVGHAZO_KEY_MAX = 47,
+    PEVGHAZO_INDEX_MAX = 1048576
+};
+
+/* A session. It is secret: it holds what the key gave. A closed one has zero in all its numbers, so zeroed memory is a closed session. It
+ * must not be copied and used twice. */
+typedef struct pevghazo_session {
+    uint32_t acc[12];
+    uint32_t mask[12];
+    uint32_t index;
+    bool toggle;
+    bool opened;
+} pevghazo_session;
+
+/* What a call on a lone session gives: its number, and the permutations done. */
+typedef struct pevghazo_answer {
+    uint32_t number;
+    uint32_t count;
+} pevghazo_answer;
+
+/* Check 4. A fresh session takes the record's place. A refused start closes the record: a session that was open in it is lost. */
+pevghazo_answer pevghazo_start(pevghazo_session *session, const uint8_t *key, size_t key_len);
+
+/* Checks 5 to 9. The cryptogram goes to the start of `out`, the tag fills `tag`. */
+pevghazo_answer pevghazo_wrap(pevghazo_session *session, const uint8_t *metadata, size_t metadata_len, const uint8_t *message,
+                              size_t message_len, uint8_t *out, size_t out_len, uint8_t *tag, size_t tag_len);
+
+/* Checks 5 to 9 and 11. The message goes to the start of `out`. */
+pevghazo_answer pevghazo_unwrap(pevghazo_session *session, const uint8_t *metadata, size_t metadata_len, const uint8_t *cryptogram,
+                                size_t cryptogram_len, const uint8_t *tag, size_t tag_len, uint8_t *out, size_t out_len);
+
+#ifdef __cplusplus
+}
+#endif
+
+#endif

@@ -1,0 +1,27 @@
+//! The calls of `include/pevghazo.h`, one to one, on slices. All of the crate's `unsafe` is in this folder, whose files are
+//! those of the header.
+//!
+//! Programs use [`Session`](crate::Session) and [`Table`](crate::Table). What is here answers with the library's own numbers
+//! and takes tags and tables of any length, which the tests need.
+//!
+//! Each call hands over the pointers and lengths of slices and references, so they are not null and hold what the types say;
+//! an altered one is borrowed alone, so it overlaps no other. That is all that the header asks for.
+
+use std::sync::atomic::{Ordering, compiler_fence};
+
+mod envelope;
+mod session;
+mod table;
+
+pub use envelope::{Parts, Written, read_envelope, write_envelope};
+pub use session::{Answer, Record, start, unwrap, wrap};
+pub use table::{Day, Found, GroupAnswer, nearly_full, no_day, open_group, start_day, unwrap_group, wrap_group};
+
+/// Sets bytes to zero, also where nobody reads them afterwards.
+pub fn wipe(bytes: &mut [u8]) {
+    for byte in bytes {
+        // SAFETY: a reference may be written to.
+        unsafe { (byte as *mut u8).write_volatile(0) };
+    }
+    compiler_fence(Ordering::SeqCst);
+}

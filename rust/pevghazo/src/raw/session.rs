@@ -1,0 +1,137 @@
+//! A lone session: `pevghazo/session.h`.
+
+use std::mem::{offset_of, size_of};
+use std::sync::atomic::{Ordering, compiler_fence};
+
+/// A session's record. It is secret, and its memory is set to zero when it is dropped.
+#[repr(C)]
+#[derive(PartialEq, Eq)]
+pub struct Record {
+    /// The accumulator of the history.
+    pub acc: [u32; 12],
+    /// The key's mask, rolled `index` times.
+    pub mask: [u32; 12],
+    /// The input index.
+    pub index: u32,
+    /// The toggle, which changes with each accepted message.
+    pub toggle: bool,
+    /// Whether the session is open.
+    pub opened: bool,
+}
+
+/// What a call on a lone session gives: its number, and the permutations done.
+#[repr(C)]
+#[derive(Clone, Copy, Debug, PartialEq, Eq)]
+pub struct Answer {
+    /// 0, or the refusal's number.
+    pub number: u32,
+    /// The permutations.
+    pub count: u32,
+}
+
+// The layouts of the header on x86-64.
+const _: () = assert!(size_of::<Record>() == 104 && offset_of!(Record, mask) == 48 && offset_of!(Record, index) == 96);
+const _: () = assert!(offset_of!(Record, toggle) == 100 && offset_of!(Record, opened) == 101);
+const _: () = assert!(size_of::<Answer>() == 8);
+
+unsafe extern "C" {
+    fn pevghazo_start(session: *mut Record, key: *const u8, key_len: usize) -> Answer;
+    fn pevghazo_wrap(
+        session: *mut Record,
+        metadata: *const u8,
+        metadata_len: usize,
+        message: *const u8,
+        message_len: usize,
+        out: *mut u8,
+        out_len: usize,
+        tag: *mut u8,
+        tag_len: usize,
+    ) -> Answer;
+    fn pevghazo_unwrap(
+        session: *mut Record,
+        metadata: *const u8,
+        metadata_len: usize,
+        cryptogram: *const u8,
+        cryptogram_len: usize,
+        tag: *const u8,
+        tag_len: usize,
+        out: *mut u8,
+        out_len: usize,
+    ) -> Answer;
+}
+
+/// Starts a session in this record. Check 4; a refused start closes the record, and the session that it held is lost.
+pub fn start(session: &mut Record, key: &[u8]) -> Answer {
+    // SAFETY: see the module's head.
+    unsafe { pevghazo_start(session, key.as_ptr(), key.len()) }
+}
+
+/// Wraps. Checks 5 to 9.
+pub fn wrap(session: &mut Record, metadata: &[u8], message: &[u8], out: &mut [u8], tag: &mut [u8]) -> Answer {
+    // SAFETY: see the module's head.
+    unsafe {
+        pevghazo_wrap(
+            session,
+            metadata.as_ptr(),
+            metadata.len(),
+            message.as_ptr(),
+            message.len(),
+            out.as_mut_ptr(),
+            out.len(),
+            tag.as_mut_ptr(),
+            tag.len(),
+        )
+    }
+}
+
+/// Unwraps. Checks 5 to 9 and 11.
+pub fn unwrap(session: &mut Record, metadata: &[u8], cryptogram: &[u8], tag: &[u8], out: &mut [u8]) -> Answer {
+    // SAFETY: see the module's head.
+    unsafe {
+        pevghazo_unwrap(
+            session,
+            metadata.as_ptr(),
+            metadata.len(),
+            cryptogram.as_ptr(),
+            cryptogram.len(),
+            tag.as_ptr(),
+            tag.len(),
+            out.as_mut_ptr(),
+            out.len(),
+        )
+    }
+}
+
+impl Record {
+    /// A closed record: zero in all its numbers.
+    pub const fn closed() -> Record {
+        Record { acc: [0; 12], mask: [0; 12], index: 0, toggle: false, opened: false }
+    }
+}
+
+impl Drop for Record {
+    fn drop(&mut self) {
+        let record: *mut Record = self;
+        // SAFETY: the record is borrowed alone, and zero in all bytes is a record. The write is volatile, so that it is not
+        // left out as one that nobody reads; what it overwrites has no drop of its own.
+        unsafe { record.write_volatile(Record::closed()) };
+        compiler_fence(Ordering::SeqCst);
+    }
+}
+
+#[cfg(test)]
+mod tests {
+    use super::*;
+    use std::mem::MaybeUninit;
+
+    #[test]
+    fn a_dropped_record_is_zero() {
+        let mut place = MaybeUninit::new(Record { acc: [1; 12], mask: [2; 12], index: 3, toggle: true, opened: true });
+        // SAFETY: it is dropped once. The memory is the test's own, and dropping leaves a record there.
+        let record = unsafe {
+            place.assume_init_drop();
+            place.assume_init_ref()
+        };
+        assert!(*record == Record::closed());
+    }
+}
