@@ -5,7 +5,7 @@ ghost use Prim.Native.Nat.{_<_};
 ghost use Rattle.sanse.specs.Session.{handed};
 ghost use Rattle.session.specs.Lent.{Started, Wrapped, Unwrapped};
 ghost use Rattle.groups.specs.Groups.{newDay};
-ghost use Rattle.office.specs.Table.{sessionsOf, tableResult, openingResult, wrapGroupAt, unwrapGroupAt, openGroupAt, NearlyFullIs};
+ghost use Rattle.office.specs.Table.{tableOf, tableResult, openingResult, wrapGroupAt, unwrapGroupAt, openGroupAt, NearlyFullIs};
 ghost use Rattle.envelope.specs.Read.{readParts};
 ghost use Rattle.envelope.specs.Write.{writeAnswer, writeBuffer};
 ghost use Rattle.capi.specs.Found.{narrowed, widened};
@@ -83,7 +83,7 @@ pub extern "C" fn pevghazo_open_group(
     day: Day,
     key: &[u8],
 ) -> GroupAnswer
-    ensures { λ r. ⌜ openingResult r (now (sessions .exit)) ≡ openGroupAt day (sessionsOf (now (sessions .entry))) group (now (key .entry)) ⌝ }
+    ensures { λ r. ⌜ openingResult r (now (sessions .exit)) ≡ openGroupAt day (tableOf (now (sessions .entry))) group (now (key .entry)) ⌝ }
 {
     office::open_group(sessions, group as usize, day, key)
 }
@@ -100,7 +100,7 @@ pub extern "C" fn pevghazo_wrap_group(
     tag: &mut [u8],
 ) -> GroupAnswer
     ensures { λ r. ⌜ tableResult r (now (sessions .exit)) (now (out .exit)) (now (tag .exit))
-        ≡ wrapGroupAt day (sessionsOf (now (sessions .entry))) group
+        ≡ wrapGroupAt day (tableOf (now (sessions .entry))) group
         (handed (now (metadata .entry)) (now (message .entry)) (now (out .entry)) (now (tag .entry))) ⌝ }
 {
     office::wrap_group(sessions, group as usize, day, metadata, message, out, tag)
@@ -118,7 +118,7 @@ pub extern "C" fn pevghazo_unwrap_group(
     out: &mut [u8],
 ) -> GroupAnswer
     ensures { λ r. ⌜ tableResult r (now (sessions .exit)) (now (out .exit)) (now (tag .entry))
-        ≡ unwrapGroupAt day (sessionsOf (now (sessions .entry))) group
+        ≡ unwrapGroupAt day (tableOf (now (sessions .entry))) group
         (handed (now (metadata .entry)) (now (cryptogram .entry)) (now (out .entry)) (now (tag .entry))) ⌝ }
 {
     office::unwrap_group(
@@ -147,7 +147,7 @@ fn narrow(r: NearlyFull) -> Found
 // The nearly-full question: names a group that is open with an index above the mark, or says that there is none. Check 3.
 #[no_mangle]
 pub extern "C" fn pevghazo_nearly_full(sessions: &[Session], mark: u32) -> Found
-    ensures { λ f. ⌜ NearlyFullIs (sessionsOf (now (sessions .entry))) mark (widened f) ⌝ }
+    ensures { λ f. ⌜ NearlyFullIs (tableOf (now (sessions .entry))) mark (widened f) ⌝ }
 {
     let r = office::nearly_full(sessions, mark);
     narrow(r)

@@ -14,8 +14,8 @@ use Rattle.modes.specs.Call.{CallInput}
 use Rattle.modes.specs.Mode.{sanse, incremental}
 use Rattle.modes.specs.Rules.{SessionState, Outcome, Opening, longest, highestIndex, growth, metadataString, firstCheck, checkNumber, countOf, ifNoCheck, sameBytes, accepted, wrongTag, compareTag, wrapSteps, unwrapSteps, wrapAt, unwrapAt, keyFits, startAt, newSession, closed}
 use Rattle.groups.specs.declared.Day.{Day}
-use Rattle.groups.specs.Groups.{addCount, aboveAllowance, then10, groupCheck, charged, groupWrapAt, groupUnwrapAt, openedUnless, groupOpenAt}
-use Rattle.office.specs.Table.{Sessions, noGroup, sessionAt, TableOutcome, TableOpening, refused3, writtenBack, wrapGroupAt, unwrapGroupAt, openGroupAt}
+use Rattle.groups.specs.Groups.{addCount, aboveAllowance, then10, groupCheck, charged, wrapOnDay, unwrapOnDay, openedUnless, openOnDay}
+use Rattle.office.specs.Table.{Table, noGroup, sessionAt, TableOutcome, TableOpening, refused3, writtenBack, wrapGroupAt, unwrapGroupAt, openGroupAt}
 use Rattle.office.specs.Exactly.{Check3, Check10, CallExactly, OpenExactly}
 
 -- ---- the tests as statements
@@ -25,7 +25,7 @@ data Told (P : Type 0) (Q : Type 0) : Bool → Type 0 where
   holds : P → Told P Q true
   fails : Q → Told P Q false
 
-told3 : (t : Sessions) (g : ℕ) → Told (Check3 t g) ((length t ≡ 32) × (g ≤ 31)) (noGroup t g)
+told3 : (t : Table) (g : ℕ) → Told (Check3 t g) ((length t ≡ 32) × (g ≤ 31)) (noGroup t g)
 told3 t g = go (eqb (length t) 32) (ltb 31 g) refl refl
   where
     go : (u v : Bool) → eqb (length t) 32 ≡ u → ltb 31 g ≡ v → Told (Check3 t g) ((length t ≡ 32) × (g ≤ 31)) (not u || v)
@@ -34,7 +34,7 @@ told3 t g = go (eqb (length t) 32) (ltb 31 g) refl refl
     go true false e f = fails (eqb-true (length t) 32 e, ltb-false 31 g f)
 
 -- check 3 is not met where both hold
-apart : (t : Sessions) (g : ℕ) → (length t ≡ 32) × (g ≤ 31) → Check3 t g → ⊥
+apart : (t : Table) (g : ℕ) → (length t ≡ 32) × (g ≤ 31) → Check3 t g → ⊥
 apart t g w (inl n) = n (w .0)
 apart t g w (inr l) = omega (arith, w .1, l)
 
@@ -78,7 +78,7 @@ no-count day = ap (λ (k : ℕ). record { spent = k; allowance = day .allowance 
 
 -- ---- a wrap or an unwrap for a group, by the first check
 
-module _ (day : Day) (t : Sessions) (g : ℕ) (i : CallInput) where
+module _ (day : Day) (t : Table) (g : ℕ) (i : CallInput) where
   -- nothing altered
   abbrev stopped : ℕ → TableOutcome
   stopped n = record { number = n; count = 0; day = day; table = t; out = i .out; tag = i .tag }
@@ -87,12 +87,13 @@ module _ (day : Day) (t : Sessions) (g : ℕ) (i : CallInput) where
   abbrev Ends : Outcome DeckState → Type 0
   Ends o = (o .number ≡ 0) ⊎ ((o .number ≡ 11) × (o .count ≡ countOf sanse incremental i) × (o .session ≡ sessionAt t g))
 
-  by3 : Check3 t g → CallExactly day t g i (stopped 3)
-  by3 c =
+  by3 : (lone : Outcome DeckState) → Check3 t g → CallExactly day t g i lone (stopped 3)
+  by3 lone c =
       record {
         three = (λ _. c, λ _. refl);
         five-to-nine = λ n _. absurd (n c);
         ten = (λ e. absurd (omega (arith, e)), λ h. absurd (h .0 c));
+        worked = λ n _ _. absurd (n c);
         added = sym (no-count day);
         unaltered = λ _ _. refl;
         eleven = λ e. absurd (omega (arith, e));
@@ -101,12 +102,13 @@ module _ (day : Day) (t : Sessions) (g : ℕ) (i : CallInput) where
       }
 
   module _ (in3 : (length t ≡ 32) × (g ≤ 31)) where
-    by-check : (n : ℕ) → checkNumber sanse incremental (sessionAt t g) i ≡ n → 5 ≤ n → n ≤ 9 → CallExactly day t g i (stopped n)
-    by-check n e low high =
+    by-check : (lone : Outcome DeckState) (n : ℕ) → checkNumber sanse incremental (sessionAt t g) i ≡ n → 5 ≤ n → n ≤ 9 → CallExactly day t g i lone (stopped n)
+    by-check lone n e low high =
         record {
           three = (λ z. absurd (omega (arith, z)), λ c. absurd (apart t g in3 c));
           five-to-nine = λ _ _. sym e;
           ten = (λ z. absurd (omega (arith, z)), λ h. absurd (omega (arith, h .1, e)));
+          worked = λ _ z _. absurd (omega (arith, z, e));
           added = sym (no-count day);
           unaltered = λ _ _. refl;
           eleven = λ z. absurd (omega (arith, z));
@@ -114,12 +116,13 @@ module _ (day : Day) (t : Sessions) (g : ℕ) (i : CallInput) where
           size = refl;
         }
 
-    by10 : checkNumber sanse incremental (sessionAt t g) i ≡ 0 → Check10 day (countOf sanse incremental i) → CallExactly day t g i (stopped 10)
-    by10 e above =
+    by10 : (lone : Outcome DeckState) → checkNumber sanse incremental (sessionAt t g) i ≡ 0 → Check10 day (countOf sanse incremental i) → CallExactly day t g i lone (stopped 10)
+    by10 lone e above =
         record {
           three = (λ z. absurd (omega (arith, z)), λ c. absurd (apart t g in3 c));
           five-to-nine = λ _ n. absurd (n e);
           ten = (λ _. (λ c. apart t g in3 c, e, above), λ _. refl);
+          worked = λ _ _ n. absurd (n above);
           added = sym (no-count day);
           unaltered = λ _ _. refl;
           eleven = λ z. absurd (omega (arith, z));
@@ -129,12 +132,13 @@ module _ (day : Day) (t : Sessions) (g : ℕ) (i : CallInput) where
 
     -- the work was done: number 0 or 11
     done : checkNumber sanse incremental (sessionAt t g) i ≡ 0 → day .spent + countOf sanse incremental i ≤ day .allowance
-        → (o : Outcome DeckState) → Ends o → CallExactly day t g i (writtenBack t g (charged day o))
+        → (o : Outcome DeckState) → Ends o → CallExactly day t g i o (writtenBack t g (charged day o))
     done e within o r =
         record {
           three = (λ z. absurd (neither r z (omega arith) (omega arith)), λ c. absurd (apart t g in3 c));
           five-to-nine = λ _ n. absurd (n e);
           ten = (λ z. absurd (neither r z (omega arith) (omega arith)), λ h. absurd (omega (arith, h .2, within)));
+          worked = λ _ _ _. refl;
           added = refl;
           unaltered = λ n m. absurd (only r n m);
           eleven = λ z. (of-11 r z .0, ap (set t g) (of-11 r z .1) ∙ set-getD t g closed);
@@ -156,38 +160,38 @@ module _ (day : Day) (t : Sessions) (g : ℕ) (i : CallInput) where
 
     -- a check that stops the call writes the group's session back as it was
     stays : (n : ℕ) → writtenBack t g (charged day (record { number = n; count = 0; session = sessionAt t g; out = i .out; tag = i .tag })) ≡ stopped n
-    stays n = ap₂ (λ (d : Day) (u : Sessions). record { number = n; count = 0; day = d; table = u; out = i .out; tag = i .tag }) (no-count day) (set-getD t g closed)
+    stays n = ap₂ (λ (d : Day) (u : Table). record { number = n; count = 0; day = d; table = u; out = i .out; tag = i .tag }) (no-count day) (set-getD t g closed)
 
     -- by the first of 5 to 9, then by 10
     after3 : (o : Outcome DeckState) → (checkNumber sanse incremental (sessionAt t g) i ≡ 0 → Ends o)
-        → CallExactly day t g i (writtenBack t g (charged day (ifNoCheck (groupCheck day (sessionAt t g) i) (sessionAt t g) i o)))
+        → CallExactly day t g i o (writtenBack t g (charged day (ifNoCheck (groupCheck day (sessionAt t g) i) (sessionAt t g) i o)))
     unfolding groupCheck
     after3 o r = go (checkNumber sanse incremental (sessionAt t g) i) refl (check-range (sessionAt t g) i)
       where
         at10 : (u : Bool) → checkNumber sanse incremental (sessionAt t g) i ≡ 0
             → Told (Check10 day (countOf sanse incremental i)) (day .spent + countOf sanse incremental i ≤ day .allowance) u
-            → CallExactly day t g i (writtenBack t g (charged day (ifNoCheck (cond u 10 0) (sessionAt t g) i o)))
-        at10 true e (holds above) = subst (CallExactly day t g i) (sym (stays 10)) (by10 e above)
+            → CallExactly day t g i o (writtenBack t g (charged day (ifNoCheck (cond u 10 0) (sessionAt t g) i o)))
+        at10 true e (holds above) = subst (CallExactly day t g i o) (sym (stays 10)) (by10 o e above)
         at10 false e (fails within) = done e within o (r e)
 
         go : (n : ℕ) → checkNumber sanse incremental (sessionAt t g) i ≡ n
             → (checkNumber sanse incremental (sessionAt t g) i ≡ 0)
             ⊎ ((5 ≤ checkNumber sanse incremental (sessionAt t g) i) × (checkNumber sanse incremental (sessionAt t g) i ≤ 9))
-            → CallExactly day t g i (writtenBack t g (charged day (ifNoCheck (then10 n day (countOf sanse incremental i)) (sessionAt t g) i o)))
+            → CallExactly day t g i o (writtenBack t g (charged day (ifNoCheck (then10 n day (countOf sanse incremental i)) (sessionAt t g) i o)))
         go zero e z = at10 (aboveAllowance day (countOf sanse incremental i)) e (told10 day (countOf sanse incremental i))
         go (suc n) e (inl z) = absurd (omega (arith, e, z))
-        go (suc n) e (inr z) = subst (CallExactly day t g i) (sym (stays (suc n))) (by-check (suc n) e (omega (arith, e, z .0)) (omega (arith, e, z .1)))
+        go (suc n) e (inr z) = subst (CallExactly day t g i o) (sym (stays (suc n))) (by-check o (suc n) e (omega (arith, e, z .0)) (omega (arith, e, z .1)))
 
   -- by check 3
   exactly : (o : Outcome DeckState) → (checkNumber sanse incremental (sessionAt t g) i ≡ 0 → Ends o)
-      → CallExactly day t g i
+      → CallExactly day t g i o
       (cond (noGroup t g) (refused3 day t (i .out) (i .tag)) (writtenBack t g (charged day (ifNoCheck (groupCheck day (sessionAt t g) i) (sessionAt t g) i o))))
   exactly o r = go (noGroup t g) (told3 t g)
     where
       go : (u : Bool) → Told (Check3 t g) ((length t ≡ 32) × (g ≤ 31)) u
-          → CallExactly day t g i
+          → CallExactly day t g i o
           (cond u (refused3 day t (i .out) (i .tag)) (writtenBack t g (charged day (ifNoCheck (groupCheck day (sessionAt t g) i) (sessionAt t g) i o))))
-      go true (holds c) = by3 c
+      go true (holds c) = by3 o c
       go false (fails w) = after3 w o r
 
   wrap-ends : checkNumber sanse incremental (sessionAt t g) i ≡ 0 → Ends (wrapAt sanse incremental (sessionAt t g) i)
@@ -207,22 +211,22 @@ module _ (day : Day) (t : Sessions) (g : ℕ) (i : CallInput) where
       go true = inl refl
       go false = inr (refl, refl, refl)
 
-  pub wrap-exactly : CallExactly day t g i (wrapGroupAt day t g i)
-  unfolding wrapGroupAt groupWrapAt
+  pub wrap-exactly : CallExactly day t g i (wrapAt sanse incremental (sessionAt t g) i) (wrapGroupAt day t g i)
+  unfolding wrapGroupAt wrapOnDay
   wrap-exactly = exactly (wrapAt sanse incremental (sessionAt t g) i) wrap-ends
 
-  pub unwrap-exactly : CallExactly day t g i (unwrapGroupAt day t g i)
-  unfolding unwrapGroupAt groupUnwrapAt
+  pub unwrap-exactly : CallExactly day t g i (unwrapAt sanse incremental (sessionAt t g) i) (unwrapGroupAt day t g i)
+  unfolding unwrapGroupAt unwrapOnDay
   unwrap-exactly = exactly (unwrapAt sanse incremental (sessionAt t g) i) unwrap-ends
 
 -- ---- opening a group
 
-module _ (day : Day) (t : Sessions) (g : ℕ) (key : List ℕ) where
+module _ (day : Day) (t : Table) (g : ℕ) (key : List ℕ) where
   abbrev unopened : ℕ → TableOpening
   unopened n = record { number = n; count = 0; day = day; table = t }
 
   open-stays : (n : ℕ) → _≡_ {A = TableOpening} (record { number = n; count = 0; day = addCount day 0; table = set t g (sessionAt t g) }) (unopened n)
-  open-stays n = ap₂ (λ (d : Day) (u : Sessions). record { number = n; count = 0; day = d; table = u }) (no-count day) (set-getD t g closed)
+  open-stays n = ap₂ (λ (d : Day) (u : Table). record { number = n; count = 0; day = d; table = u }) (no-count day) (set-getD t g closed)
 
   open-3 : Check3 t g → OpenExactly day t g key (unopened 3)
   open-3 c =
@@ -276,7 +280,7 @@ module _ (day : Day) (t : Sessions) (g : ℕ) (key : List ℕ) where
   back o = record { number = o .number; count = o .count; day = addCount day (o .count); table = set t g (o .session) }
 
   pub open-exactly : OpenExactly day t g key (openGroupAt day t g key)
-  unfolding openGroupAt groupOpenAt startAt
+  unfolding openGroupAt openOnDay startAt
   open-exactly = go3 (noGroup t g) (told3 t g)
     where
       go10 : (w : Bool) → Told (Check10 day 1) (day .spent + 1 ≤ day .allowance) w → (length t ≡ 32) × (g ≤ 31) → (16 ≤ length key) × (length key ≤ 47)

@@ -13,8 +13,8 @@ use Rattle.sanse.specs.declared.Session.{Session}
 use Rattle.sanse.specs.Session.{stateOf, handed}
 use Rattle.groups.specs.declared.Day.{Day}
 use Rattle.groups.specs.declared.GroupResult.{GroupResult}
-use Rattle.groups.specs.Groups.{GroupOutcome, GroupOpening, groupWrapAt, groupUnwrapAt, groupOpenAt, groupResult, openingResult as group-openingResult}
-use Rattle.office.specs.Table.{Sessions, noGroup, sessionAt, sessionsOf, TableOpening, refused3, writtenBack, wrapGroupAt, unwrapGroupAt, openGroupAt, tableResult, openingResult}
+use Rattle.groups.specs.Groups.{GroupOutcome, GroupOpening, wrapOnDay, unwrapOnDay, openOnDay, groupResult, groupOpeningResult}
+use Rattle.office.specs.Table.{Table, noGroup, sessionAt, tableOf, TableOpening, refused3, writtenBack, wrapGroupAt, unwrapGroupAt, openGroupAt, tableResult, openingResult}
 
 -- ---- how the tests come out
 
@@ -60,81 +60,81 @@ has-record n g e z = ap₂ (λ (t u : Bool). not t || u) (is-true (eqb n 32) e) 
 abbrev pub blank : Session
 blank = record { acc = zeros; mask = zeros; index = 0; toggle = false; opened = false }
 
-pub session-at : (l : List Session) (g : ℕ) → stateOf (getD l g blank) ≡ sessionAt (sessionsOf l) g
+pub session-at : (l : List Session) (g : ℕ) → stateOf (getD l g blank) ≡ sessionAt (tableOf l) g
 session-at l g = sym (List·getD-map stateOf l g blank)
 
-set-sessions : (l : List Session) (g : ℕ) (s : Session) → sessionsOf (set l g s) ≡ set (sessionsOf l) g (stateOf s)
-set-sessions [] g s = refl
-set-sessions (x ∷ l) zero s = refl
-set-sessions (x ∷ l) (suc g) s = ap (λ (t : Sessions). stateOf x ∷ t) (set-sessions l g s)
+set-table : (l : List Session) (g : ℕ) (s : Session) → tableOf (set l g s) ≡ set (tableOf l) g (stateOf s)
+set-table [] g s = refl
+set-table (x ∷ l) zero s = refl
+set-table (x ∷ l) (suc g) s = ap (λ (t : Table). stateOf x ∷ t) (set-table l g s)
 
-test-is : (l : List Session) (g : ℕ) (t : Bool) → test3 (length l) g ≡ t → noGroup (sessionsOf l) g ≡ t
+test-is : (l : List Session) (g : ℕ) (t : Bool) → test3 (length l) g ≡ t → noGroup (tableOf l) g ≡ t
 test-is l g t e = ap (λ (n : ℕ). test3 n g) (length-map l stateOf) ∙ e
 
 -- ---- wrap and unwrap for a group
 
 -- what a group's call gave, with its record written back, is what the rules say of the whole table
 stored : (l : List Session) (g : ℕ) (r : GroupResult) (out tag : List ℕ) (o : GroupOutcome) → groupResult r out tag ≡ o
-    → tableResult (r .answer) (set l g (r .session)) out tag ≡ writtenBack (sessionsOf l) g o
+    → tableResult (r .answer) (set l g (r .session)) out tag ≡ writtenBack (tableOf l) g o
 stored l g r out tag o e =
-    ap (λ (t : Sessions). record { number = r .answer .number; count = r .answer .count; day = r .answer .day; table = t; out = out; tag = tag })
-    (set-sessions l g (r .session))
-    ∙ ap (writtenBack (sessionsOf l) g) e
+    ap (λ (t : Table). record { number = r .answer .number; count = r .answer .count; day = r .answer .day; table = t; out = out; tag = tag })
+    (set-table l g (r .session))
+    ∙ ap (writtenBack (tableOf l) g) e
 
 module _ (day : Day) (a x out tag : List ℕ) (l : List Session) (g : ℕ) where
   pub wrap-none : test3 (length l) g ≡ true
-      → tableResult (record { number = 3; count = 0; day = day }) l out tag ≡ wrapGroupAt day (sessionsOf l) g (handed a x out tag)
+      → tableResult (record { number = 3; count = 0; day = day }) l out tag ≡ wrapGroupAt day (tableOf l) g (handed a x out tag)
   unfolding wrapGroupAt
   wrap-none e =
-      ap (λ (t : Bool). cond t (refused3 day (sessionsOf l) out tag) (writtenBack (sessionsOf l) g (groupWrapAt day (sessionAt (sessionsOf l) g) (handed a x out tag))))
+      ap (λ (t : Bool). cond t (refused3 day (tableOf l) out tag) (writtenBack (tableOf l) g (wrapOnDay day (sessionAt (tableOf l) g) (handed a x out tag))))
       (sym (test-is l g true e))
 
   pub unwrap-none : test3 (length l) g ≡ true
-      → tableResult (record { number = 3; count = 0; day = day }) l out tag ≡ unwrapGroupAt day (sessionsOf l) g (handed a x out tag)
+      → tableResult (record { number = 3; count = 0; day = day }) l out tag ≡ unwrapGroupAt day (tableOf l) g (handed a x out tag)
   unfolding unwrapGroupAt
   unwrap-none e =
-      ap (λ (t : Bool). cond t (refused3 day (sessionsOf l) out tag) (writtenBack (sessionsOf l) g (groupUnwrapAt day (sessionAt (sessionsOf l) g) (handed a x out tag))))
+      ap (λ (t : Bool). cond t (refused3 day (tableOf l) out tag) (writtenBack (tableOf l) g (unwrapOnDay day (sessionAt (tableOf l) g) (handed a x out tag))))
       (sym (test-is l g true e))
 
   pub wrap-stored : test3 (length l) g ≡ false → (r : GroupResult) {out′ tag′ : List ℕ}
-      → groupResult r out′ tag′ ≡ groupWrapAt day (stateOf (getD l g blank)) (handed a x out tag)
-      → tableResult (r .answer) (set l g (r .session)) out′ tag′ ≡ wrapGroupAt day (sessionsOf l) g (handed a x out tag)
+      → groupResult r out′ tag′ ≡ wrapOnDay day (stateOf (getD l g blank)) (handed a x out tag)
+      → tableResult (r .answer) (set l g (r .session)) out′ tag′ ≡ wrapGroupAt day (tableOf l) g (handed a x out tag)
   unfolding wrapGroupAt
   wrap-stored e r {out′} {tag′} met =
-      stored l g r out′ tag′ _ (met ∙ ap (λ (s : SessionState DeckState). groupWrapAt day s (handed a x out tag)) (session-at l g))
-      ∙ ap (λ (t : Bool). cond t (refused3 day (sessionsOf l) out tag) (writtenBack (sessionsOf l) g (groupWrapAt day (sessionAt (sessionsOf l) g) (handed a x out tag))))
+      stored l g r out′ tag′ _ (met ∙ ap (λ (s : SessionState DeckState). wrapOnDay day s (handed a x out tag)) (session-at l g))
+      ∙ ap (λ (t : Bool). cond t (refused3 day (tableOf l) out tag) (writtenBack (tableOf l) g (wrapOnDay day (sessionAt (tableOf l) g) (handed a x out tag))))
       (sym (test-is l g false e))
 
   pub unwrap-stored : test3 (length l) g ≡ false → (r : GroupResult) {out′ tag′ : List ℕ}
-      → groupResult r out′ tag′ ≡ groupUnwrapAt day (stateOf (getD l g blank)) (handed a x out tag)
-      → tableResult (r .answer) (set l g (r .session)) out′ tag′ ≡ unwrapGroupAt day (sessionsOf l) g (handed a x out tag)
+      → groupResult r out′ tag′ ≡ unwrapOnDay day (stateOf (getD l g blank)) (handed a x out tag)
+      → tableResult (r .answer) (set l g (r .session)) out′ tag′ ≡ unwrapGroupAt day (tableOf l) g (handed a x out tag)
   unfolding unwrapGroupAt
   unwrap-stored e r {out′} {tag′} met =
-      stored l g r out′ tag′ _ (met ∙ ap (λ (s : SessionState DeckState). groupUnwrapAt day s (handed a x out tag)) (session-at l g))
-      ∙ ap (λ (t : Bool). cond t (refused3 day (sessionsOf l) out tag) (writtenBack (sessionsOf l) g (groupUnwrapAt day (sessionAt (sessionsOf l) g) (handed a x out tag))))
+      stored l g r out′ tag′ _ (met ∙ ap (λ (s : SessionState DeckState). unwrapOnDay day s (handed a x out tag)) (session-at l g))
+      ∙ ap (λ (t : Bool). cond t (refused3 day (tableOf l) out tag) (writtenBack (tableOf l) g (unwrapOnDay day (sessionAt (tableOf l) g) (handed a x out tag))))
       (sym (test-is l g false e))
 
 -- ---- opening a group
 
 -- a group's opening, written back
-abbrev openedBack : Sessions → ℕ → GroupOpening → TableOpening
+abbrev openedBack : Table → ℕ → GroupOpening → TableOpening
 openedBack t g o = record { number = o .opening .number; count = o .opening .count; day = o .day; table = set t g (o .opening .session) }
 
 module _ (day : Day) (key : List ℕ) (l : List Session) (g : ℕ) where
   open-by : (t : Bool) → test3 (length l) g ≡ t
-      → cond t (record { number = 3; count = 0; day = day; table = sessionsOf l }) (openedBack (sessionsOf l) g (groupOpenAt day (sessionAt (sessionsOf l) g) key))
-      ≡ openGroupAt day (sessionsOf l) g key
+      → cond t (record { number = 3; count = 0; day = day; table = tableOf l }) (openedBack (tableOf l) g (openOnDay day (sessionAt (tableOf l) g) key))
+      ≡ openGroupAt day (tableOf l) g key
   unfolding openGroupAt
   open-by t e =
-      ap (λ (u : Bool). cond u (record { number = 3; count = 0; day = day; table = sessionsOf l }) (openedBack (sessionsOf l) g (groupOpenAt day (sessionAt (sessionsOf l) g) key)))
+      ap (λ (u : Bool). cond u (record { number = 3; count = 0; day = day; table = tableOf l }) (openedBack (tableOf l) g (openOnDay day (sessionAt (tableOf l) g) key)))
       (sym (test-is l g t e))
 
-  pub open-none : test3 (length l) g ≡ true → openingResult (record { number = 3; count = 0; day = day }) l ≡ openGroupAt day (sessionsOf l) g key
+  pub open-none : test3 (length l) g ≡ true → openingResult (record { number = 3; count = 0; day = day }) l ≡ openGroupAt day (tableOf l) g key
   open-none e = open-by true e
 
-  pub open-stored : test3 (length l) g ≡ false → (r : GroupResult) → group-openingResult r ≡ groupOpenAt day (stateOf (getD l g blank)) key
-      → openingResult (r .answer) (set l g (r .session)) ≡ openGroupAt day (sessionsOf l) g key
+  pub open-stored : test3 (length l) g ≡ false → (r : GroupResult) → groupOpeningResult r ≡ openOnDay day (stateOf (getD l g blank)) key
+      → openingResult (r .answer) (set l g (r .session)) ≡ openGroupAt day (tableOf l) g key
   open-stored e r met =
-      ap (λ (t : Sessions). record { number = r .answer .number; count = r .answer .count; day = r .answer .day; table = t }) (set-sessions l g (r .session))
-      ∙ ap (openedBack (sessionsOf l) g) (met ∙ ap (λ (s : SessionState DeckState). groupOpenAt day s key) (session-at l g))
+      ap (λ (t : Table). record { number = r .answer .number; count = r .answer .count; day = r .answer .day; table = t }) (set-table l g (r .session))
+      ∙ ap (openedBack (tableOf l) g) (met ∙ ap (λ (s : SessionState DeckState). openOnDay day s key) (session-at l g))
       ∙ open-by false e

@@ -1,6 +1,7 @@
 -- The search of the nearly-full question: what is known in a turn, where it stops, and what its answer then says. Assumes nothing.
 use mathlib.Core.Path.{_≡_, refl, sym, ap, _∙_, subst}
 use mathlib.Core.Bool.{Bool, true, false, not, _&&_}
+use mathlib.Core.Logic.{_↔_}
 use mathlib.Core.List.{List}
 use Prim.Native.Nat.{ℕ, _+_, _-_, _*_, _^_, _<_, _≤_}
 use native.Mathlib.Omega.{arith}
@@ -11,7 +12,8 @@ use Rattle.xoofff.specs.declared.DeckState.{DeckState}
 use Rattle.modes.specs.Rules.{SessionState}
 use Rattle.sanse.specs.declared.Session.{Session}
 use Rattle.sanse.specs.Session.{stateOf}
-use Rattle.office.specs.Table.{sessionAt, sessionsOf, aboveMark, NearlyFullIs}
+use Rattle.office.specs.declared.NearlyFull.{NearlyFull}
+use Rattle.office.specs.Table.{Table, sessionAt, tableOf, aboveMark, NearlyFullIs}
 use Rattle.office.proofs.Laws.{blank, session-at}
 
 -- ---- the test
@@ -67,14 +69,14 @@ never : {A : Type 0} → true ≡ false → A
 never e = absurd (subst Holds e tt)
 
 module _ (l : List Session) (mark : ℕ) where
-  size : length (sessionsOf l) ≡ length l
+  size : length (tableOf l) ≡ length l
   size = length-map l stateOf
 
   -- by the table's own sessions
-  over-is : (g : ℕ) → aboveMark (sessionAt (sessionsOf l) g) mark ≡ over l mark g
+  over-is : (g : ℕ) → aboveMark (sessionAt (tableOf l) g) mark ≡ over l mark g
   over-is g = ap (λ (s : SessionState DeckState). aboveMark s mark) (sym (session-at l g))
 
-  pub says-refused : (length l ≡ 32 → ⊥) → NearlyFullIs (sessionsOf l) mark (record { number = 3; found = false; group = 0 })
+  pub says-refused : (length l ≡ 32 → ⊥) → NearlyFullIs (tableOf l) mark (record { number = 3; found = false; group = 0 })
   says-refused other =
       record {
         refused = λ _. refl;
@@ -84,7 +86,7 @@ module _ (l : List Session) (mark : ℕ) where
       }
 
   module _ (g : ℕ) (is32 : length l ≡ 32) (stop : Stopped l mark g) where
-    pub says-named : g < length l → NearlyFullIs (sessionsOf l) mark (record { number = 0; found = true; group = g })
+    pub says-named : g < length l → NearlyFullIs (tableOf l) mark (record { number = 0; found = true; group = g })
     says-named less =
         record {
           refused = λ n. absurd (n (size ∙ is32));
@@ -93,7 +95,7 @@ module _ (l : List Session) (mark : ℕ) where
           none = λ _ f. never f;
         }
 
-    pub says-none : length l ≤ g → NearlyFullIs (sessionsOf l) mark (record { number = 0; found = false; group = 0 })
+    pub says-none : length l ≤ g → NearlyFullIs (tableOf l) mark (record { number = 0; found = false; group = 0 })
     says-none past =
         record {
           refused = λ n. absurd (n (size ∙ is32));
@@ -101,3 +103,12 @@ module _ (l : List Session) (mark : ℕ) where
           named = λ _ f. never (sym f);
           none = λ _ _. (refl, λ k less. over-is k ∙ stop .before k (omega arith));
         }
+
+-- ---- what the claim decides: a group is found exactly where one of the 32 is open with an index above the mark
+pub found-exactly : (t : Table) (mark : ℕ) (r : NearlyFull) → length t ≡ 32 → NearlyFullIs t mark r
+    → (r .found ≡ true) ↔ ((k : ℕ) × (k < 32) × (aboveMark (sessionAt t k) mark ≡ true))
+found-exactly t mark r l c = ((λ f. (r .group, c .named l f .0, c .named l f .1)), go (r .found) refl)
+  where
+    go : (b : Bool) → r .found ≡ b → ((k : ℕ) × (k < 32) × (aboveMark (sessionAt t k) mark ≡ true)) → r .found ≡ true
+    go true e h = e
+    go false e h = never (sym (h .2) ∙ c .none l e .1 (h .0) (h .1))

@@ -3,7 +3,7 @@
 ghost use mathlib.Core.Path.{_≡_};
 ghost use Rattle.sanse.specs.Session.{stateOf, handed};
 ghost use Rattle.groups.specs.Groups.{newDay};
-ghost use Rattle.office.specs.Table.{aboveMark, sessionsOf, tableResult, openingResult, wrapGroupAt, unwrapGroupAt, openGroupAt, NearlyFullIs};
+ghost use Rattle.office.specs.Table.{aboveMark, tableOf, tableResult, openingResult, wrapGroupAt, unwrapGroupAt, openGroupAt, NearlyFullIs};
 use groups::Day;
 use groups::GroupAnswer;
 use sanse::Session;
@@ -29,7 +29,7 @@ pub fn start_day(allowance: u32) -> Day
 
 // Opens a group: a fresh session in the place of its record, which stays as it was where the call is refused. Checks 3, 4 and 10.
 pub fn open_group(table: &mut [Session], group: usize, day: Day, key: &[u8]) -> GroupAnswer
-    ensures { λ r. ⌜ openingResult r (now (table .exit)) ≡ openGroupAt day (sessionsOf (now (table .entry))) group (now (key .entry)) ⌝ }
+    ensures { λ r. ⌜ openingResult r (now (table .exit)) ≡ openGroupAt day (tableOf (now (table .entry))) group (now (key .entry)) ⌝ }
 {
     if table.len() != GROUPS {
         return GroupAnswer {
@@ -45,7 +45,7 @@ pub fn open_group(table: &mut [Session], group: usize, day: Day, key: &[u8]) -> 
             day,
         };
     }
-    let r = groups::group_open(table[group], day, key);
+    let r = groups::open(table[group], day, key);
     table[group] = r.session;
     r.answer
 }
@@ -61,7 +61,7 @@ pub fn wrap_group(
     tag: &mut [u8],
 ) -> GroupAnswer
     ensures { λ r. ⌜ tableResult r (now (table .exit)) (now (out .exit)) (now (tag .exit))
-        ≡ wrapGroupAt day (sessionsOf (now (table .entry))) group
+        ≡ wrapGroupAt day (tableOf (now (table .entry))) group
         (handed (now (metadata .entry)) (now (message .entry)) (now (out .entry)) (now (tag .entry))) ⌝ }
 {
     if table.len() != GROUPS {
@@ -78,7 +78,7 @@ pub fn wrap_group(
             day,
         };
     }
-    let r = groups::group_wrap(table[group], day, metadata, message, out, tag);
+    let r = groups::wrap(table[group], day, metadata, message, out, tag);
     table[group] = r.session;
     r.answer
 }
@@ -94,7 +94,7 @@ pub fn unwrap_group(
     out: &mut [u8],
 ) -> GroupAnswer
     ensures { λ r. ⌜ tableResult r (now (table .exit)) (now (out .exit)) (now (tag .entry))
-        ≡ unwrapGroupAt day (sessionsOf (now (table .entry))) group
+        ≡ unwrapGroupAt day (tableOf (now (table .entry))) group
         (handed (now (metadata .entry)) (now (cryptogram .entry)) (now (out .entry)) (now (tag .entry))) ⌝ }
 {
     if table.len() != GROUPS {
@@ -111,7 +111,7 @@ pub fn unwrap_group(
             day,
         };
     }
-    let r = groups::group_unwrap(table[group], day, metadata, cryptogram, tag, out);
+    let r = groups::unwrap(table[group], day, metadata, cryptogram, tag, out);
     table[group] = r.session;
     r.answer
 }
@@ -128,7 +128,7 @@ fn above_mark(s: Session, mark: u32) -> bool
 
 // The nearly-full question: names a group that is open with an index above the mark, or says that there is none. Check 3.
 pub fn nearly_full(table: &[Session], mark: u32) -> NearlyFull
-    ensures { λ r. ⌜ NearlyFullIs (sessionsOf (now (table .entry))) mark r ⌝ }
+    ensures { λ r. ⌜ NearlyFullIs (tableOf (now (table .entry))) mark r ⌝ }
 {
     if table.len() != GROUPS {
         return NearlyFull {

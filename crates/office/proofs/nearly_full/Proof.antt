@@ -55,7 +55,7 @@ use Rattle.sanse.proofs.Session as T
 use Rattle.sanse.proofs.Session.Laws as T′
 use Rattle.session.proofs.Env.{envAt}
 use Rattle.office.specs.declared.NearlyFull.{NearlyFull}
-use Rattle.office.specs.Table.{sessionsOf, aboveMark, NearlyFullIs}
+use Rattle.office.specs.Table.{tableOf, aboveMark, NearlyFullIs}
 use Rattle.office.proofs.NearlyFull as R
 use Rattle.office.proofs.NearlyFull.Laws as R′
 use Rattle.office.proofs.Laws.{blank, not-not, is-true, is-false}
@@ -140,7 +140,7 @@ module _ {M : Type 1} (𝓤 : URA M) (H : Heap 𝓤) (A : Atoms 𝓤) (W : Given
   abbrev Post : Val → SProp 𝓤
   Post = walkOf 𝓤 H A f.ended stayed (f.clauses 𝓤 H A at-mem run) .post (((κ, tt), (q, tt), tt, a, at), tt)
 
-  exits : (v : NearlyFull) → Is R.the-row v (mach-r v ∷ []) → NearlyFullIs (sessionsOf ys) n v → ent 𝓤 (⋆ 𝓤 H A (‵ (flft κ q) ∷ [])) (Post (mach-r v))
+  exits : (v : NearlyFull) → Is R.the-row v (mach-r v ∷ []) → NearlyFullIs (tableOf ys) n v → ent 𝓤 (⋆ 𝓤 H A (‵ (flft κ q) ∷ [])) (Post (mach-r v))
   exits v ok e =
       qed W (‵ (flft κ q) ∷ []) ∵ suffices ! _ (ends-at 𝓤 H A f.ended stayed (f.clauses 𝓤 H A at-mem run) W (((κ, tt), (q, tt), tt, a, at), tt) (mach-r v) v (tt, (tt, tt)) (tt, (tt, tt))) $ says ! e $
       nothing ! $ move ! (1 ∷ 0 ∷ []) $ join ! $ frame ! $ nothing ! $ nothing ! $ fjoin ! $ nothing ! $ fjoin ! $ owned ! R.the-row (Is R.the-row) (LL.makes R.the-type R′.the-plain 𝓤 H A) v _ ok $ move ! (1 ∷ 0 ∷ []) $ done !
@@ -201,7 +201,7 @@ module _ {M : Type 1} (𝓤 : URA M) (H : Heap 𝓤) (A : Atoms 𝓤) (W : Given
       Turned t = anyQ (afterTurn 𝓤 H (Below 𝓤 H A _<_ I t) Left)
 
       -- the end: the answer in `_11` is returned, and the borrow is shut
-      ends : (g : ℕ) (v : NearlyFull) → Is R.the-row v (mach-r v ∷ []) → NearlyFullIs (sessionsOf ys) n v → Sq W (Number g ∷ Opened (‵ (fat fullShare R′.mir l₁₁ 0 (mach-r v)) ∷ Tail)) (runs C Λ E′ m.t-9 (atRet E′ Post))
+      ends : (g : ℕ) (v : NearlyFull) → Is R.the-row v (mach-r v ∷ []) → NearlyFullIs (tableOf ys) n v → Sq W (Number g ∷ Opened (‵ (fat fullShare R′.mir l₁₁ 0 (mach-r v)) ∷ Tail)) (runs C Λ E′ m.t-9 (atRet E′ Post))
       ends g v ok e =
           assigns ! (of-opd ! (load ! (from ! (stop !)) (look ! 3 refl))) (from ! (stop !)) (init ! 24 refl (LL.lawful R.the-type R′.the-laws 𝓤 H A W .typed v _ ok .0)) $
           move ! (1 ∷ 2 ∷ []) $ shuts-slice ! tt T.the-row q′ ys b o $

@@ -1,6 +1,6 @@
 -- `office::open_group` meets its contract: a walk of its MIR in the program logic. Branches refuse, with the borrows as they came in.
--- Else the table is opened, and one record is taken out and copied whole; `groups::group_open` is called on the copy, the record that it
--- gave is stored whole, and the borrow is closed. All that the proof knows of `groups::group_open` is that it meets its contract. Assumes
+-- Else the table is opened, and one record is taken out and copied whole; `groups::open` is called on the copy, the record that it
+-- gave is stored whole, and the borrow is closed. All that the proof knows of `groups::open` is that it meets its contract. Assumes
 -- nothing.
 use mathlib.Core.Path.{_≡_, refl, sym, ap, subst}
 use Prim.Native.Nat.{ℕ, _<_, _^_}
@@ -43,8 +43,8 @@ use denote.Triple.Table.{entered, cited}
 use denote.Triple.Walked.{says, Stays, stay-slice, stay-dropped, walkOf, AllGo, goes-slice, goes-dropped, Walks, ends-at, walked, walk-meets}
 use denote.Exit.{yes}
 use Rattle.sanse.specs.Session.{stateOf}
-use Rattle.groups.specs.Groups.{openingResult as group-openingResult, groupOpenAt}
-use Rattle.office.specs.Table.{sessionsOf, openingResult, openGroupAt}
+use Rattle.groups.specs.Groups.{groupOpeningResult, openOnDay}
+use Rattle.office.specs.Table.{tableOf, openingResult, openGroupAt}
 use Rattle.office.proofs.Laws.{blank, not-not, inside, start-fits, other-length, no-record, has-record, open-none, open-stored}
 use Rattle.sanse.specs.declared.Session.{Session}
 use Rattle.groups.specs.declared.GroupResult.{GroupResult}
@@ -72,10 +72,10 @@ use Rattle.office.proofs.open_group.Code.Mir as m
 -- what the core ensures, and what this function ensures: the clauses of the two contracts
 
 abbrev Gives : (h : Session) (key : List ℕ) (day : Day) (r : GroupResult) → Type 0
-Gives h key day r = group-openingResult r ≡ groupOpenAt day (stateOf h) key
+Gives h key day r = groupOpeningResult r ≡ openOnDay day (stateOf h) key
 
 abbrev Says : (table : List Session) (key : List ℕ) (g : ℕ) (day : Day) (res : GroupAnswer) (table′ : List Session) → Type 0
-Says table key g day res table′ = openingResult res table′ ≡ openGroupAt day (sessionsOf table) g key
+Says table key g day res table′ = openingResult res table′ ≡ openGroupAt day (tableOf table) g key
 
 -- the machine value of the struct day
 abbrev mach-day : Day → Val

@@ -1,6 +1,6 @@
 -- `office::unwrap_group` meets its contract: a walk of its MIR in the program logic. Branches refuse, with the borrows as they came in.
--- Else the table is opened, and one record is taken out and copied whole; `groups::group_unwrap` is called on the copy, the record that it
--- gave is stored whole, and the borrow is closed. All that the proof knows of `groups::group_unwrap` is that it meets its contract. Assumes
+-- Else the table is opened, and one record is taken out and copied whole; `groups::unwrap` is called on the copy, the record that it
+-- gave is stored whole, and the borrow is closed. All that the proof knows of `groups::unwrap` is that it meets its contract. Assumes
 -- nothing.
 use mathlib.Core.Path.{_≡_, refl, sym, ap, subst}
 use Prim.Native.Nat.{ℕ, _<_, _^_}
@@ -43,8 +43,8 @@ use denote.Triple.Table.{entered, cited}
 use denote.Triple.Walked.{says, Stays, stay-slice, gave-slice, stay-dropped, walkOf, AllGo, goes-slice, goes-gave-slice, goes-dropped, Walks, ends-at, walked, walk-meets}
 use denote.Exit.{yes}
 use Rattle.sanse.specs.Session.{stateOf, handed}
-use Rattle.groups.specs.Groups.{groupResult, groupUnwrapAt}
-use Rattle.office.specs.Table.{sessionsOf, tableResult, unwrapGroupAt}
+use Rattle.groups.specs.Groups.{groupResult, unwrapOnDay}
+use Rattle.office.specs.Table.{tableOf, tableResult, unwrapGroupAt}
 use Rattle.office.proofs.Laws.{blank, not-not, inside, start-fits, other-length, no-record, has-record, unwrap-none, unwrap-stored}
 use Rattle.sanse.specs.declared.Session.{Session}
 use Rattle.groups.specs.declared.GroupResult.{GroupResult}
@@ -72,10 +72,10 @@ use Rattle.office.proofs.unwrap_group.Code.Mir as m
 -- what the core ensures, and what this function ensures: the clauses of the two contracts
 
 abbrev Gives : (h : Session) (metadata : List ℕ) (cryptogram : List ℕ) (tag : List ℕ) (out : List ℕ) (day : Day) (r : GroupResult) (out′ : List ℕ) → Type 0
-Gives h metadata cryptogram tag out day r out′ = groupResult r out′ tag ≡ groupUnwrapAt day (stateOf h) (handed metadata cryptogram out tag)
+Gives h metadata cryptogram tag out day r out′ = groupResult r out′ tag ≡ unwrapOnDay day (stateOf h) (handed metadata cryptogram out tag)
 
 abbrev Says : (table : List Session) (metadata : List ℕ) (cryptogram : List ℕ) (tag : List ℕ) (out : List ℕ) (g : ℕ) (day : Day) (res : GroupAnswer) (table′ : List Session) (out′ : List ℕ) → Type 0
-Says table metadata cryptogram tag out g day res table′ out′ = tableResult res table′ out′ tag ≡ unwrapGroupAt day (sessionsOf table) g (handed metadata cryptogram out tag)
+Says table metadata cryptogram tag out g day res table′ out′ = tableResult res table′ out′ tag ≡ unwrapGroupAt day (tableOf table) g (handed metadata cryptogram out tag)
 
 -- the machine value of the struct day
 abbrev mach-day : Day → Val
