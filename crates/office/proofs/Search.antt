@@ -1,20 +1,21 @@
 -- The search of the nearly-full question: what is known in a turn, where it stops, and what its answer then says. Assumes nothing.
-use mathlib.Core.Path.{_≡_, refl, sym, ap, _∙_, subst}
+use mathlib.Core.Path.{_≡_, refl, sym, ap, ap₂, _∙_, subst}
 use mathlib.Core.Bool.{Bool, true, false, not, _&&_}
-use mathlib.Core.Logic.{_↔_}
 use mathlib.Core.List.{List}
 use Prim.Native.Nat.{ℕ, _+_, _-_, _*_, _^_, _<_, _≤_}
 use native.Mathlib.Omega.{arith}
-use lib.Dec.{T as Holds}
+use lib.Dec.{T as Holds, ltb, eqb}
 use lib.ListN.{length, getD, length-map}
+use borrow.Author.Tests.{ltb-true, lt-ltb, eqb-true, eqb-false}
 use borrow.Author.Count.{below-more}
 use Rattle.xoofff.specs.declared.DeckState.{DeckState}
 use Rattle.modes.specs.Rules.{SessionState}
 use Rattle.sanse.specs.declared.Session.{Session}
 use Rattle.sanse.specs.Session.{stateOf}
 use Rattle.office.specs.declared.NearlyFull.{NearlyFull}
-use Rattle.office.specs.Table.{Table, sessionAt, tableOf, aboveMark, NearlyFullIs}
-use Rattle.office.proofs.Laws.{blank, session-at}
+use Rattle.office.specs.Table.{Table, sessionAt, aboveMark, NearlyFullIs, zeroRecord, tableOf}
+use Rattle.office.specs.Exactly.{OpenAbove, FoundExactly}
+use Rattle.office.proofs.Laws.{session-at}
 
 -- ---- the test
 
@@ -28,7 +29,7 @@ mark-open false u e = absurd (subst Holds e tt)
 
 -- record g is open with an index above the mark
 abbrev pub over : List Session → (mark g : ℕ) → Bool
-over l mark g = aboveMark (stateOf (getD l g blank)) mark
+over l mark g = aboveMark (stateOf (getD l g zeroRecord)) mark
 
 -- ---- a turn: t records are left from g on, and none before g is over the mark
 
@@ -104,11 +105,55 @@ module _ (l : List Session) (mark : ℕ) where
           none = λ _ _. (refl, λ k less. over-is k ∙ stop .before k (omega arith));
         }
 
--- ---- what the claim decides: a group is found exactly where one of the 32 is open with an index above the mark
-pub found-exactly : (t : Table) (mark : ℕ) (r : NearlyFull) → length t ≡ 32 → NearlyFullIs t mark r
-    → (r .found ≡ true) ↔ ((k : ℕ) × (k < 32) × (aboveMark (sessionAt t k) mark ≡ true))
-found-exactly t mark r l c = ((λ f. (r .group, c .named l f .0, c .named l f .1)), go (r .found) refl)
+-- ---- what the claim decides
+
+-- the test as a statement
+above-is : (t : Table) (mark g : ℕ) → g < 32 → aboveMark (sessionAt t g) mark ≡ true → OpenAbove t mark g
+above-is t mark g less = go (sessionAt t g .opened) (ltb mark (sessionAt t g .history .index)) refl refl
   where
-    go : (b : Bool) → r .found ≡ b → ((k : ℕ) × (k < 32) × (aboveMark (sessionAt t k) mark ≡ true)) → r .found ≡ true
-    go true e h = e
-    go false e h = never (sym (h .2) ∙ c .none l e .1 (h .0) (h .1))
+    go : (u v : Bool) → sessionAt t g .opened ≡ u → ltb mark (sessionAt t g .history .index) ≡ v → (u && v) ≡ true → OpenAbove t mark g
+    go true true e f _ = record { in-table = less; opened = e; above = ltb-true mark (sessionAt t g .history .index) f }
+    go true false e f z = never (sym z)
+    go false v e f z = never (sym z)
+
+is-above : (t : Table) (mark g : ℕ) → OpenAbove t mark g → aboveMark (sessionAt t g) mark ≡ true
+is-above t mark g o = ap₂ _&&_ (o .opened) (lt-ltb mark (sessionAt t g .history .index) (o .above))
+
+module _ (t : Table) (mark : ℕ) (r : NearlyFull) (is : NearlyFullIs t mark r) where
+  of-32 : length t ≡ 32 → FoundExactly t mark r
+  of-32 l =
+      record {
+        three = (λ e. absurd (omega (arith, e, is .number l)), λ n. absurd (n l));
+        answered = (λ _. l, λ _. is .number l);
+        found = (λ f. (l, (r .group, it f)), λ w. there (r .found) refl (w .1));
+        named = it;
+        none = λ f. is .none l f .0;
+      }
+    where
+      it : r .found ≡ true → OpenAbove t mark (r .group)
+      it f = above-is t mark (r .group) (is .named l f .0) (is .named l f .1)
+
+      there : (b : Bool) → r .found ≡ b → ((g : ℕ) × OpenAbove t mark g) → r .found ≡ true
+      there true e w = e
+      there false e w = never (sym (is-above t mark (w .0) (w .1)) ∙ is .none l e .1 (w .0) (w .1 .in-table))
+
+  not-32 : (length t ≡ 32 → ⊥) → FoundExactly t mark r
+  not-32 n =
+      record {
+        three = (λ _. n, λ _. ap (λ (r : NearlyFull). r .number) (is .refused n));
+        answered = (λ e. absurd (omega (arith, e, ap (λ (r : NearlyFull). r .number) (is .refused n))), λ l. absurd (n l));
+        found = (λ f. never (sym f ∙ unfound), λ w. absurd (n (w .0)));
+        named = λ f. never (sym f ∙ unfound);
+        none = λ _. ap (λ (r : NearlyFull). r .group) (is .refused n);
+      }
+    where
+      unfound : r .found ≡ false
+      unfound = ap (λ (r : NearlyFull). r .found) (is .refused n)
+
+  -- a group is found if and only if one of the 32 is open with an index above the mark
+  pub found-exactly : FoundExactly t mark r
+  found-exactly = go (eqb (length t) 32) refl
+    where
+      go : (b : Bool) → eqb (length t) 32 ≡ b → FoundExactly t mark r
+      go true e = of-32 (eqb-true (length t) 32 e)
+      go false e = not-32 (eqb-false (length t) 32 e)

@@ -5,15 +5,16 @@ use mathlib.Core.List.{List, map}
 use mathlib.Core.Path.{_≡_}
 use Prim.Native.Nat.{ℕ, _<_}
 use lib.Dec.{ltb, eqb}
-use lib.ListN.{length, getD, set}
+use lib.ListN.{length, getD, set, replicate}
 use Rattle.xoofff.specs.declared.DeckState.{DeckState}
 use Rattle.modes.specs.Call.{CallInput}
-use Rattle.modes.specs.Rules.{SessionState, closed}
+use Rattle.modes.specs.Mode.{sanse, incremental}
+use Rattle.modes.specs.Rules.{SessionState, Outcome, closed, wrapAt, unwrapAt}
 use Rattle.sanse.specs.declared.Session.{Session}
 use Rattle.sanse.specs.Session.{stateOf}
 use Rattle.groups.specs.declared.Day.{Day}
 use Rattle.groups.specs.declared.GroupAnswer.{GroupAnswer}
-use Rattle.groups.specs.Groups.{GroupOutcome, GroupOpening, wrapOnDay, unwrapOnDay, openOnDay}
+use Rattle.groups.specs.Groups.{GroupOutcome, GroupOpening, onDay, openOnDay}
 use Rattle.office.specs.declared.NearlyFull.{NearlyFull}
 
 -- ---- the table
@@ -22,15 +23,21 @@ use Rattle.office.specs.declared.NearlyFull.{NearlyFull}
 abbrev pub Table : Type 0
 Table = List (SessionState DeckState)
 
--- check 3: the table does not hold 32 records, or the group is above 31
-abbrev pub noGroup : Table → (group : ℕ) → Bool
-noGroup t group = not (eqb (length t) 32) || ltb 31 group
+-- a table begins with 32 closed sessions
+abbrev pub newTable : Table
+newTable = replicate 32 closed
+
+-- check 3, by the number of records: the table does not hold 32, or the group is above 31
+abbrev pub noGroup : (records group : ℕ) → Bool
+noGroup records group = not (eqb records 32) || ltb 31 group
 
 -- the session of a group
 abbrev pub sessionAt : Table → (group : ℕ) → SessionState DeckState
 sessionAt t group = getD t group closed
 
--- what a call of the table gives: its number (0: accepted), its count, the day, the whole table, and the output buffer and the tag after it
+-- ---- wrap and unwrap for a group
+
+-- what such a call gives: its number (0: accepted), its count, the day, the whole table, and the output buffer and the tag after it
 pub record TableOutcome : Type 0 where
   pub number : ℕ
   pub count : ℕ
@@ -39,11 +46,9 @@ pub record TableOutcome : Type 0 where
   pub out : List ℕ
   pub tag : List ℕ
 
--- refused by 3: nothing altered
-abbrev pub refused3 : Day → Table → (out tag : List ℕ) → TableOutcome
-refused3 day t out tag = record { number = 3; count = 0; day = day; table = t; out = out; tag = tag }
-
--- ---- wrap and unwrap for a group
+-- refused with nothing altered
+abbrev pub refusedBy : (number : ℕ) → Day → Table → CallInput → TableOutcome
+refusedBy number day t i = record { number = number; count = 0; day = day; table = t; out = i .out; tag = i .tag }
 
 -- a group's call: its session is written back, and the others stay as they were
 abbrev pub writtenBack : Table → (group : ℕ) → GroupOutcome → TableOutcome
@@ -57,11 +62,15 @@ writtenBack t group o =
       tag = o .outcome .tag;
     }
 
-unfoldable pub wrapGroupAt : Day → Table → (group : ℕ) → CallInput → TableOutcome
-wrapGroupAt day t group i = cond (noGroup t group) (refused3 day t (i .out) (i .tag)) (writtenBack t group (wrapOnDay day (sessionAt t group) i))
+-- a call for a group, where `lone` is what the lone call of the group's session gives
+unfoldable pub callGroupAt : Day → Table → (group : ℕ) → CallInput → (lone : Outcome DeckState) → TableOutcome
+callGroupAt day t group i lone = cond (noGroup (length t) group) (refusedBy 3 day t i) (writtenBack t group (onDay day (sessionAt t group) i lone))
 
-unfoldable pub unwrapGroupAt : Day → Table → (group : ℕ) → CallInput → TableOutcome
-unwrapGroupAt day t group i = cond (noGroup t group) (refused3 day t (i .out) (i .tag)) (writtenBack t group (unwrapOnDay day (sessionAt t group) i))
+abbrev pub wrapGroupAt : Day → Table → (group : ℕ) → CallInput → TableOutcome
+wrapGroupAt day t group i = callGroupAt day t group i (wrapAt sanse incremental (sessionAt t group) i)
+
+abbrev pub unwrapGroupAt : Day → Table → (group : ℕ) → CallInput → TableOutcome
+unwrapGroupAt day t group i = callGroupAt day t group i (unwrapAt sanse incremental (sessionAt t group) i)
 
 -- ---- opening a group
 
@@ -72,11 +81,13 @@ pub record TableOpening : Type 0 where
   pub day : Day
   pub table : Table
 
+-- a group's opening: its session is written back
+abbrev pub openedBack : Table → (group : ℕ) → GroupOpening → TableOpening
+openedBack t group o = record { number = o .opening .number; count = o .opening .count; day = o .day; table = set t group (o .opening .session) }
+
 unfoldable pub openGroupAt : Day → Table → (group : ℕ) → (key : List ℕ) → TableOpening
 openGroupAt day t group key =
-    let o : GroupOpening = openOnDay day (sessionAt t group) key in
-    cond (noGroup t group) (record { number = 3; count = 0; day = day; table = t })
-    (record { number = o .opening .number; count = o .opening .count; day = o .day; table = set t group (o .opening .session) })
+    cond (noGroup (length t) group) (record { number = 3; count = 0; day = day; table = t }) (openedBack t group (openOnDay day (sessionAt t group) key))
 
 -- ---- the nearly-full question
 
@@ -92,7 +103,15 @@ pub record NearlyFullIs (t : Table) (mark : ℕ) (r : NearlyFull) : Type 0 where
   pub named : length t ≡ 32 → r .found ≡ true → (r .group < 32) × (aboveMark (sessionAt t (r .group)) mark ≡ true)
   pub none : length t ≡ 32 → r .found ≡ false → (r .group ≡ 0) × ((k : ℕ) → k < 32 → aboveMark (sessionAt t k) mark ≡ false)
 
--- ---- what the program's calls gave, in these words
+-- ---- the program's records, and what its calls gave, in these words
+
+-- the record that zeroed memory holds
+abbrev pub zeroRecord : Session
+zeroRecord = record { acc = replicate 12 0; mask = replicate 12 0; index = 0; toggle = false; opened = false }
+
+-- what a call answers that check 3 refuses
+abbrev pub refused3 : Day → GroupAnswer
+refused3 day = record { number = 3; count = 0; day = day }
 
 -- the sessions that the records of a table hold
 abbrev pub tableOf : List Session → Table
