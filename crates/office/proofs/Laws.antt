@@ -16,7 +16,7 @@ use Rattle.sanse.specs.Session.{stateOf}
 use Rattle.groups.specs.declared.Day.{Day}
 use Rattle.groups.specs.declared.GroupAnswer.{GroupAnswer}
 use Rattle.groups.specs.declared.GroupResult.{GroupResult}
-use Rattle.groups.specs.Groups.{GroupOutcome, GroupOpening, onDay, openOnDay, groupResult, groupOpeningResult}
+use Rattle.groups.specs.Groups.{onDay, openOnDay, groupResult, groupOpeningResult}
 use Rattle.office.specs.Table.{Table, noGroup, sessionAt, refusedBy, writtenBack, callGroupAt, openedBack, openGroupAt, zeroRecord, refused3, tableOf, tableResult, openingResult}
 
 -- ---- how a test comes out
@@ -39,12 +39,12 @@ unmet {t} e z = sym e ∙ is-false t z
 -- ---- check 3
 
 -- by the number of records
-pub other-size : (n g : ℕ) → n ≢ 32 → true ≡ noGroup n g
-other-size n g z = sym (ap (λ (t : Bool). not t || ltb 31 g) (ne-eqb n 32 z))
+pub size-refused : (n g : ℕ) → n ≢ 32 → true ≡ noGroup n g
+size-refused n g z = sym (ap (λ (t : Bool). not t || ltb 31 g) (ne-eqb n 32 z))
 
 -- by the group
-pub of-32 : (n g : ℕ) → n ≡ 32 → ltb 31 g ≡ noGroup n g
-of-32 n g e = sym (ap (λ (t : Bool). not t || ltb 31 g) (eq-eqb n 32 e))
+pub size-passed : (n g : ℕ) → n ≡ 32 → ltb 31 g ≡ noGroup n g
+size-passed n g e = sym (ap (λ (t : Bool). not t || ltb 31 g) (eq-eqb n 32 e))
 
 -- it is not met
 pub in-table : (n g : ℕ) → noGroup n g ≡ false → (n ≡ 32) × (g ≤ 31)
