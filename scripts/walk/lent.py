@@ -515,7 +515,7 @@ class Walk:
                 helper = self.helper(statement)
                 self.call_helper(statement, helper) if helper else self.call_core(statement)
             else:
-                # a record is opened before its first statement, a table before the first copy of the record
+                # a lent record is opened before the first assignment, a table before the record is first copied
                 copies = statement[2][0] == 'rvOpd' and statement[2][1][0] == 'copy' and '*' in mir.place(statement[2][1][1])[1]
                 if not opened and (copies or not self.table):
                     self.opens()
