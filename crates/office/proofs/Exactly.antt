@@ -92,12 +92,14 @@ module _ (day : Day) (t : Table) (g : ℕ) (i : CallInput) where
   module _ (lone : Outcome DeckState) where
     -- refused by n, where n is neither 0 nor 11: nothing is altered
     stops : (n : ℕ) → n ≢ 0 → n ≢ 11 → (n ≡ 3) ↔ Check3 t g → ((Check3 t g → ⊥) → first ≢ 0 → n ≡ first)
+        → (5 ≤ n → n ≤ 9 → (Check3 t g → ⊥) × (first ≡ n))
         → (n ≡ 10) ↔ ((Check3 t g → ⊥) × (first ≡ 0) × Check10 day (countOf sanse incremental i)) → (NoneBefore11 day t g i → ⊥)
         → CallExactly day t g i lone (refusedBy n day t i)
-    stops n n0 n11 three five-to-nine ten some =
+    stops n n0 n11 three five-to-nine only ten some =
         record {
           three = three;
           five-to-nine = five-to-nine;
+          only-five-to-nine = only;
           ten = ten;
           unaltered = λ _ _. refl;
           none = (λ z. absurd (neither z), λ z. absurd (some z));
@@ -115,18 +117,18 @@ module _ (day : Day) (t : Table) (g : ℕ) (i : CallInput) where
 
     by3 : Check3 t g → CallExactly day t g i lone (refusedBy 3 day t i)
     by3 c =
-        stops 3 (λ e. omega (arith, e)) (λ e. omega (arith, e)) (λ _. c, λ _. refl) (λ n _. absurd (n c))
+        stops 3 (λ e. omega (arith, e)) (λ e. omega (arith, e)) (λ _. c, λ _. refl) (λ n _. absurd (n c)) (λ low _. absurd (omega (arith, low)))
         (λ e. absurd (omega (arith, e)), λ h. absurd (h .0 c)) (λ z. z .three c)
 
     module _ (in3 : (length t ≡ 32) × (g ≤ 31)) where
       by-check : (n : ℕ) → first ≡ n → 5 ≤ n → n ≤ 9 → CallExactly day t g i lone (refusedBy n day t i)
       by-check n e low high =
-          stops n (λ z. omega (arith, z)) (λ z. omega (arith, z)) (λ z. absurd (omega (arith, z)), λ c. absurd (apart t g in3 c)) (λ _ _. sym e)
+          stops n (λ z. omega (arith, z)) (λ z. omega (arith, z)) (λ z. absurd (omega (arith, z)), λ c. absurd (apart t g in3 c)) (λ _ _. sym e) (λ _ _. (apart t g in3, e))
           (λ z. absurd (omega (arith, z)), λ h. absurd (omega (arith, h .1, e))) (λ z. omega (arith, z .five-to-nine, e))
 
       by10 : first ≡ 0 → Check10 day (countOf sanse incremental i) → CallExactly day t g i lone (refusedBy 10 day t i)
       by10 e above =
-          stops 10 (λ z. omega (arith, z)) (λ z. omega (arith, z)) (λ z. absurd (omega (arith, z)), λ c. absurd (apart t g in3 c)) (λ _ n. absurd (n e))
+          stops 10 (λ z. omega (arith, z)) (λ z. omega (arith, z)) (λ z. absurd (omega (arith, z)), λ c. absurd (apart t g in3 c)) (λ _ n. absurd (n e)) (λ _ high. absurd (omega (arith, high)))
           (λ _. (λ c. apart t g in3 c, e, above), λ _. refl) (λ z. z .ten above)
 
       -- the work was done: number 0 or 11
@@ -135,6 +137,7 @@ module _ (day : Day) (t : Table) (g : ℕ) (i : CallInput) where
           record {
             three = (λ z. absurd (other z (omega arith) (omega arith)), λ c. absurd (clear .three c));
             five-to-nine = λ _ n. absurd (n (clear .five-to-nine));
+            only-five-to-nine = λ low high. absurd (other refl (λ z. omega (arith, z, low)) (λ z. omega (arith, z, high)));
             ten = (λ z. absurd (other z (omega arith) (omega arith)), λ h. absurd (clear .ten (h .2)));
             unaltered = λ n m. absurd (other refl n m);
             none = (λ _. clear, λ _. either (r .number));

@@ -120,8 +120,8 @@ is-above : (t : Table) (mark g : ℕ) → OpenAbove t mark g → aboveMark (sess
 is-above t mark g o = ap₂ _&&_ (o .opened) (lt-ltb mark (sessionAt t g .history .index) (o .above))
 
 module _ (t : Table) (mark : ℕ) (r : NearlyFull) (is : NearlyFullIs t mark r) where
-  of-32 : length t ≡ 32 → FoundExactly t mark r
-  of-32 l =
+  found-of-32 : length t ≡ 32 → FoundExactly t mark r
+  found-of-32 l =
       record {
         three = (λ e. absurd (omega (arith, e, is .number l)), λ n. absurd (n l));
         answered = (λ _. l, λ _. is .number l);
@@ -137,8 +137,8 @@ module _ (t : Table) (mark : ℕ) (r : NearlyFull) (is : NearlyFullIs t mark r) 
       there true e w = e
       there false e w = never (sym (is-above t mark (w .0) (w .1)) ∙ is .none l e .1 (w .0) (w .1 .in-table))
 
-  not-32 : (length t ≡ 32 → ⊥) → FoundExactly t mark r
-  not-32 n =
+  found-of-others : (length t ≡ 32 → ⊥) → FoundExactly t mark r
+  found-of-others n =
       record {
         three = (λ _. n, λ _. ap (λ (r : NearlyFull). r .number) (is .refused n));
         answered = (λ e. absurd (omega (arith, e, ap (λ (r : NearlyFull). r .number) (is .refused n))), λ l. absurd (n l));
@@ -155,5 +155,5 @@ module _ (t : Table) (mark : ℕ) (r : NearlyFull) (is : NearlyFullIs t mark r) 
   found-exactly = go (eqb (length t) 32) refl
     where
       go : (b : Bool) → eqb (length t) 32 ≡ b → FoundExactly t mark r
-      go true e = of-32 (eqb-true (length t) 32 e)
-      go false e = not-32 (eqb-false (length t) 32 e)
+      go true e = found-of-32 (eqb-true (length t) 32 e)
+      go false e = found-of-others (eqb-false (length t) 32 e)

@@ -38,6 +38,7 @@ pub record CallExactly (day : Day) (t : Table) (group : ℕ) (i : CallInput) (lo
   pub three : (o .number ≡ 3) ↔ Check3 t group
   pub five-to-nine : (Check3 t group → ⊥) → checkNumber sanse incremental (sessionAt t group) i ≢ 0
       → o .number ≡ checkNumber sanse incremental (sessionAt t group) i
+  pub only-five-to-nine : 5 ≤ o .number → o .number ≤ 9 → (Check3 t group → ⊥) × (checkNumber sanse incremental (sessionAt t group) i ≡ o .number)
   pub ten : (o .number ≡ 10)
       ↔ ((Check3 t group → ⊥) × (checkNumber sanse incremental (sessionAt t group) i ≡ 0) × Check10 day (countOf sanse incremental i))
   -- a refusal by another number than 11 has count 0 and alters nothing

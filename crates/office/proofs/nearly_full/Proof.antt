@@ -167,7 +167,7 @@ module _ {M : Type 1} (𝓤 : URA M) (H : Heap 𝓤) (A : Atoms 𝓤) (W : Given
       abbrev E′ : Env 𝓤 H
       E′ = E l₀ l₁ l₂ l₃ l₄ l₅ l₆ l₇ l₈ l₉ l₁₀ l₁₁
 
-      -- between two turns: a share of the row, the open borrow of it, and the locals but for g: a turn's own are rooms
+      -- between two turns: a share of the table's records, the open borrow of them, and the locals but for g: a turn's own are rooms
       abbrev Tail : List (Item 𝓤)
       Tail = ‵ (fdies R′.mir l₁₁) ∷ ‵ (froom tyBool l₅ 0) ∷ ‵ (fdies tyBool l₅) ∷ ‵ (froom word l₄ 0) ∷ ‵ (fdies word l₄)
           ∷ ‵ (froom T′.mir l₁₀ 0) ∷ ‵ (fdies T′.mir l₁₀) ∷ ‵ (froom tyPtr l₉ 0) ∷ ‵ (fdies tyPtr l₉) ∷ ‵ (froom tyBool l₈ 0) ∷ ‵ (fdies tyBool l₈) ∷ ‵ (froom tyBool l₇ 0) ∷ ‵ (fdies tyBool l₇)
@@ -225,7 +225,7 @@ module _ {M : Type 1} (𝓤 : URA M) (H : Heap 𝓤) (A : Atoms 𝓤) (W : Given
       unfolding afterTurn
       turn t =
           pick ! (λ g. learn ! (λ inv.
-          -- [_3; the row; the open borrow; _8; …; _7; …; _6; …; _5; …; _4; …; … of _3; _2; …; _1; …; room for _0; …]
+          -- [_3; the records; the open borrow; _8; …; _7; …; _6; …; _5; …; _4; …; … of _3; _2; …; _1; …; room for _0; …]
           assigns ! (of-opd ! (load ! (from ! (fld ! refl (stop !))) (look-in ! 22 (sub ! 1 refl (whole !))))) (from ! (stop !)) (init ! 17 refl (tt, record { fits = room .0 })) $
           assigns ! (bin ! (load ! (from ! (stop !)) (look ! 0 refl)) (load ! (from ! (stop !)) (look ! 17 refl)) tt) (from ! (stop !)) (init ! 15 refl (tt, tt)) $
           first ! $ branches ! (load ! (from ! (stop !)) (look ! 15 refl))
@@ -245,7 +245,7 @@ module _ {M : Type 1} (𝓤 : URA M) (H : Heap 𝓤) (A : Atoms 𝓤) (W : Given
           split ! $ move ! (1 ∷ []) $ use1 W (raw (fact 𝓤 (r ≡ aboveMark (stateOf (h g)) n))) (said-of 𝓤 H A at-mem run (h g) n r) $ heard ! (r ≡ aboveMark (stateOf (h g)) n) (λ e. split ! $ drop ! $
           peeks ! Boolean (Is Boolean) (shows 𝓤 H A Boolean) r (v ∷ []) (λ is.
           land ! (from ! (stop !)) (init ! 14 refl (bool-lawful 𝓤 H A W .typed r _ is .0)) $ rewrite ! 14 (λ (u : Val). ‵ (fat fullShare tyBool l₈ 0 u)) (ap only is) refl $ drop ! $
-          -- [the row; _3; the open borrow; _8; …]: as it was, but that the turn's own locals are written
+          -- [the records; _3; the open borrow; _8; …]: as it was, but that the turn's own locals are written
           move ! (1 ∷ []) $ first ! $ branches ! (load ! (from ! (stop !)) (look ! 13 refl))
           (λ yes′. jumps ! $ forget ! 9 refl $ forget ! 11 refl $ forget ! 13 refl $ forget ! 15 refl $ forget ! 17 refl $ exec ! C Λ E′ m.t-6 (atRet E′ Post) $
           leaves g (at-most-fits (length ys) t g (room .0) (inv .0)) (hit ys n t g inv (sym e ∙ is-true r yes′)))
