@@ -1,5 +1,5 @@
 """The functions whose walks are written by these scripts."""
-from lent import Helper, Lent, Table
+from lent import Lent, Small, Table
 
 # ---- over a lent record: session
 
@@ -57,7 +57,7 @@ def office(function, core, params, gives, says, law, uses):
         uses=uses + f'''
 use Rattle.office.proofs.Laws.{{met, unmet, inside, start-fits, {name}-refused, {name}-stored}}''',
         environment='Rattle.session.proofs.Env',
-        helpers=[Helper('office::no_group', 'bool', '{r} ≡ noGroup {0} {1}'), Helper('office::refused3', 'groups::GroupAnswer', '{r} ≡ refused3 {0}')],
+        small=[Small('office::no_group', 'bool', '{r} ≡ noGroup {0} {1}'), Small('office::refused3', 'groups::GroupAnswer', '{r} ≡ refused3 {0}')],
         table=Table(
             index='g', record_size=104, past_end='zeroRecord',
             inside=f'inside (length ys) g {IN_TABLE}', fits=f'start-fits (length ys) g {IN_TABLE}',
