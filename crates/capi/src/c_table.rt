@@ -3,7 +3,7 @@ ghost use mathlib.Core.Path.{_≡_};
 ghost use Prim.Native.Nat.{_<_};
 ghost use Rattle.sanse.specs.Session.{handed};
 ghost use Rattle.groups.specs.Groups.{noDay, newDay};
-ghost use Rattle.office.specs.Table.{sessionsOf, tableResult, openingResult, wrapGroupAt, unwrapGroupAt, openGroupAt, NearlyFullIs};
+ghost use Rattle.office.specs.Table.{tableOf, tableResult, openingResult, wrapGroupAt, unwrapGroupAt, openGroupAt, NearlyFullIs};
 ghost use Rattle.capi.specs.Found.{narrowed, widened};
 use groups::Day;
 use groups::GroupAnswer;
@@ -23,7 +23,7 @@ pub struct Found {
 pub extern "C" fn pevghazo_no_day() -> Day
     ensures { λ r. ⌜ r ≡ noDay ⌝ }
 {
-    groups::no_day()
+    office::no_day()
 }
 
 // A day begins: any allowance, and a count of 0. It is never refused.
@@ -37,20 +37,20 @@ pub extern "C" fn pevghazo_start_day(allowance: u32) -> Day
 // Opens a group: a fresh session in the place of its record, which stays as it was where the call is refused. Checks 3, 4 and 10.
 #[no_mangle]
 pub extern "C" fn pevghazo_open_group(
-    sessions: &mut [Session],
+    table: &mut [Session],
     group: u32,
     day: Day,
     key: &[u8],
 ) -> GroupAnswer
-    ensures { λ r. ⌜ openingResult r (now (sessions .exit)) ≡ openGroupAt day (sessionsOf (now (sessions .entry))) group (now (key .entry)) ⌝ }
+    ensures { λ r. ⌜ openingResult r (now (table .exit)) ≡ openGroupAt day (tableOf (now (table .entry))) group (now (key .entry)) ⌝ }
 {
-    office::open_group(sessions, group as usize, day, key)
+    office::open_group(table, group as usize, day, key)
 }
 
 // Wraps a message for a group: the cryptogram goes to the start of `out`, and the tag fills `tag`. Checks 3 and 5 to 10.
 #[no_mangle]
 pub extern "C" fn pevghazo_wrap_group(
-    sessions: &mut [Session],
+    table: &mut [Session],
     group: u32,
     day: Day,
     metadata: &[u8],
@@ -58,17 +58,17 @@ pub extern "C" fn pevghazo_wrap_group(
     out: &mut [u8],
     tag: &mut [u8],
 ) -> GroupAnswer
-    ensures { λ r. ⌜ tableResult r (now (sessions .exit)) (now (out .exit)) (now (tag .exit))
-        ≡ wrapGroupAt day (sessionsOf (now (sessions .entry))) group
+    ensures { λ r. ⌜ tableResult r (now (table .exit)) (now (out .exit)) (now (tag .exit))
+        ≡ wrapGroupAt day (tableOf (now (table .entry))) group
         (handed (now (metadata .entry)) (now (message .entry)) (now (out .entry)) (now (tag .entry))) ⌝ }
 {
-    office::wrap_group(sessions, group as usize, day, metadata, message, out, tag)
+    office::wrap_group(table, group as usize, day, metadata, message, out, tag)
 }
 
 // Unwraps a cryptogram for a group: the message goes to the start of `out`. Checks 3, 5 to 10 and 11.
 #[no_mangle]
 pub extern "C" fn pevghazo_unwrap_group(
-    sessions: &mut [Session],
+    table: &mut [Session],
     group: u32,
     day: Day,
     metadata: &[u8],
@@ -76,12 +76,12 @@ pub extern "C" fn pevghazo_unwrap_group(
     tag: &[u8],
     out: &mut [u8],
 ) -> GroupAnswer
-    ensures { λ r. ⌜ tableResult r (now (sessions .exit)) (now (out .exit)) (now (tag .entry))
-        ≡ unwrapGroupAt day (sessionsOf (now (sessions .entry))) group
+    ensures { λ r. ⌜ tableResult r (now (table .exit)) (now (out .exit)) (now (tag .entry))
+        ≡ unwrapGroupAt day (tableOf (now (table .entry))) group
         (handed (now (metadata .entry)) (now (cryptogram .entry)) (now (out .entry)) (now (tag .entry))) ⌝ }
 {
     office::unwrap_group(
-        sessions,
+        table,
         group as usize,
         day,
         metadata,
@@ -105,9 +105,9 @@ fn narrow(r: NearlyFull) -> Found
 
 // The nearly-full question: names a group that is open with an index above the mark, or says that there is none. Check 3.
 #[no_mangle]
-pub extern "C" fn pevghazo_nearly_full(sessions: &[Session], mark: u32) -> Found
-    ensures { λ f. ⌜ NearlyFullIs (sessionsOf (now (sessions .entry))) mark (widened f) ⌝ }
+pub extern "C" fn pevghazo_nearly_full(table: &[Session], mark: u32) -> Found
+    ensures { λ f. ⌜ NearlyFullIs (tableOf (now (table .entry))) mark (widened f) ⌝ }
 {
-    let r = office::nearly_full(sessions, mark);
+    let r = office::nearly_full(table, mark);
     narrow(r)
 }

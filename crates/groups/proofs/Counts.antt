@@ -1,5 +1,5 @@
--- The counts of the lone calls: none, or the call's own. Assumes nothing.
-use mathlib.Core.Path.{_≡_, refl}
+-- The counts of the lone calls that meet none of 4 to 9. Assumes nothing.
+use mathlib.Core.Path.{_≡_, refl, _∙_}
 use mathlib.Core.Bool.{Bool, true, false, cond}
 use mathlib.Core.List.{List}
 use Prim.Native.Nat.{ℕ, zero, suc, _≤_}
@@ -7,34 +7,29 @@ use native.Mathlib.Omega.{arith}
 use Rattle.xoofff.specs.declared.DeckState.{DeckState}
 use Rattle.modes.specs.Call.{CallInput}
 use Rattle.modes.specs.Mode.{sanse, incremental}
-use Rattle.modes.specs.Rules.{SessionState, Outcome, Opening, checkNumber, countOf, ifNoCheck, sameBytes, accepted, wrongTag, compareTag, wrapSteps, unwrapSteps, wrapAt, unwrapAt, keyFits, startAt, newSession, closed}
+use Rattle.modes.specs.Rules.{SessionState, Outcome, Opening, checkNumber, countOf, ifNoCheck, sameBytes, accepted, wrongTag, unwrapSteps, wrapAt, unwrapAt, keyFits, startAt, newSession, closed}
 
--- a call that is refused by a check of 5 to 9 has none
-count-if : (n : ℕ) (s : SessionState DeckState) (i : CallInput) (o : Outcome DeckState) (c : ℕ) → o .count ≡ c → ifNoCheck n s i o .count ≤ c
-count-if zero s i o c e = omega (arith, e)
-count-if (suc n) s i o c e = omega arith
+-- a lone call that meets none of 5 to 9 counts what its work `o` counts
+count-of : (n : ℕ) (s : SessionState DeckState) (i : CallInput) (o : Outcome DeckState) → n ≡ 0 → ifNoCheck n s i o .count ≡ o .count
+count-of zero s i o z = refl
+count-of (suc n) s i o z = absurd (omega arith)
 
-pub wrap-count : (s : SessionState DeckState) (i : CallInput) → wrapAt sanse incremental s i .count ≤ countOf sanse incremental i
+-- the count before the work is the count after it
+pub wrap-count : (s : SessionState DeckState) (i : CallInput) → checkNumber sanse incremental s i ≡ 0
+    → wrapAt sanse incremental s i .count ≡ countOf sanse incremental i
 unfolding wrapAt
-wrap-count s i =
-    count-if (checkNumber sanse incremental s i) s i
-    (accepted sanse incremental s i (wrapSteps sanse incremental s i) (wrapSteps sanse incremental s i .tag)) (countOf sanse incremental i) refl
+wrap-count s i = count-of (checkNumber sanse incremental s i) s i _
 
 -- a wrong tag costs the same
-compared-count : (s : SessionState DeckState) (i : CallInput)
-    → compareTag sanse incremental s i (unwrapSteps sanse incremental s i) .count ≡ countOf sanse incremental i
-compared-count s i = go (sameBytes (i .tag) (unwrapSteps sanse incremental s i .tag))
-  where
-    go : (t : Bool) → cond {A = Outcome DeckState} t (accepted sanse incremental s i (unwrapSteps sanse incremental s i) (i .tag))
-        (wrongTag sanse incremental s i) .count ≡ countOf sanse incremental i
-    go true = refl
-    go false = refl
-
-pub unwrap-count : (s : SessionState DeckState) (i : CallInput) → unwrapAt sanse incremental s i .count ≤ countOf sanse incremental i
+pub unwrap-count : (s : SessionState DeckState) (i : CallInput) → checkNumber sanse incremental s i ≡ 0
+    → unwrapAt sanse incremental s i .count ≡ countOf sanse incremental i
 unfolding unwrapAt
-unwrap-count s i =
-    count-if (checkNumber sanse incremental s i) s i (compareTag sanse incremental s i (unwrapSteps sanse incremental s i))
-    (countOf sanse incremental i) (compared-count s i)
+unwrap-count s i z = count-of (checkNumber sanse incremental s i) s i _ z ∙ compared (sameBytes (i .tag) (unwrapSteps sanse incremental s i .tag))
+  where
+    compared : (t : Bool) → cond {A = Outcome DeckState} t (accepted sanse incremental s i (unwrapSteps sanse incremental s i) (i .tag))
+        (wrongTag sanse incremental s i) .count ≡ countOf sanse incremental i
+    compared true = refl
+    compared false = refl
 
 pub start-count : (key : List ℕ) → startAt key .count ≤ 1
 unfolding startAt

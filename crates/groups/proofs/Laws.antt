@@ -1,25 +1,24 @@
 -- Laws of the count's formula, of check 10 and of a group's calls, over plain values. Assumes nothing.
 use mathlib.Core.Path.{_≡_, refl, sym, ap, ap₂, _∙_}
 use mathlib.Core.Logic.{_≢_}
-use mathlib.Core.Bool.{Bool, true, false, not, _&&_, cond}
+use mathlib.Core.Bool.{Bool, true, false, cond}
 use mathlib.Core.List.{List}
 use Prim.Native.Nat.{ℕ, zero, suc, _+_, _/_, _≤_, _<_}
 use native.Mathlib.Omega.{arith}
-use lib.Dec.{leb}
 use lib.ListN.{length}
 use borrow.Author.Tests.{ltb-false, le-leb, lt-leb}
 use Rattle.xoofff.specs.declared.DeckState.{DeckState}
 use Rattle.modes.specs.Call.{CallInput}
 use Rattle.modes.specs.Mode.{sanse, incremental, sanseCount}
-use Rattle.modes.specs.Rules.{SessionState, Outcome, Opening, growth, firstCheck, checkNumber, countOf, metadataString, ifNoCheck, wrapAt, unwrapAt, startAt}
+use Rattle.modes.specs.Rules.{SessionState, Outcome, Opening, growth, firstCheck, checkNumber, countOf, metadataString, ifNoCheck, startAt}
 use Rattle.steps.proofs.History.{passed}
 use Rattle.sanse.specs.declared.Session.{Session}
 use Rattle.sanse.specs.declared.CallResult.{CallResult}
 use Rattle.sanse.specs.Session.{stateOf, startResult, callResult, handed}
-use Rattle.groups.proofs.Counts.{wrap-count, unwrap-count, start-count}
+use Rattle.groups.proofs.Counts.{start-count}
 use Rattle.groups.specs.declared.Day.{Day}
 use Rattle.groups.specs.declared.GroupResult.{GroupResult}
-use Rattle.groups.specs.Groups.{addCount, aboveAllowance, then10, groupCheck, charged, groupWrapAt, groupUnwrapAt, openCheck, openedUnless, groupOpenAt, openingResult, groupResult}
+use Rattle.groups.specs.Groups.{addCount, aboveAllowance, then10, groupCheck, charged, onDay, openCheck, openedUnless, openOnDay, groupOpeningResult, groupResult}
 
 -- ---- the count's formula
 
@@ -53,9 +52,9 @@ then-10 zero day c t z e = ap (λ (u : Bool). cond u 10 0) e
 then-10 (suc n) day c t z e = absurd (omega arith)
 
 -- a call that meets none of them is within the allowance
-within-allowance : (n : ℕ) (day : Day) (c : ℕ) → then10 n day c ≡ 0 → day .spent + c ≤ day .allowance
-within-allowance (suc n) day c e = absurd (omega arith)
-within-allowance zero day c e = go (aboveAllowance day c) refl e
+none-of-10 : (n : ℕ) (day : Day) (c : ℕ) → then10 n day c ≡ 0 → (n ≡ 0) × (day .spent + c ≤ day .allowance)
+none-of-10 (suc n) day c e = absurd (omega arith)
+none-of-10 zero day c e = (refl, go (aboveAllowance day c) refl e)
   where
     go : (t : Bool) → aboveAllowance day c ≡ t → _≡_ {A = ℕ} (cond t 10 0) 0 → day .spent + c ≤ day .allowance
     go true g z = absurd (omega arith)
@@ -78,96 +77,61 @@ module _ (o : Bool) (i a m t b k n : ℕ) (after : k ≡ i + growth a m) (first 
   check-10 z c e u v g h =
       ap (λ (x : Bool). cond x 10 0) (sym h) ∙ then-10 n day c u z g ∙ ap₂ (λ (x y : ℕ). then10 x day y) first-number e
 
--- ---- wrap and unwrap for a group
+-- ---- wrap and unwrap for a group: `lone` is what the lone call gives
 
 -- what a refused call gives, with the buffers as they were
-refused-is : (n : ℕ) (day : Day) (s : Session) (a x out tag : List ℕ) (o : Outcome DeckState) → n ≢ 0
-    → groupResult (record { session = s; answer = record { number = n; count = 0; day = day } }) out tag
-    ≡ charged day (ifNoCheck n (stateOf s) (handed a x out tag) o)
-refused-is zero day s a x out tag o h = absurd (h refl)
-refused-is (suc n) day s a x out tag o h =
+refused-is : (n : ℕ) (day : Day) (s : Session) (i : CallInput) (lone : Outcome DeckState) → n ≢ 0
+    → groupResult (record { session = s; answer = record { number = n; count = 0; day = day } }) (i .out) (i .tag)
+    ≡ charged day (ifNoCheck n (stateOf s) i lone)
+refused-is zero day s i lone h = absurd (h refl)
+refused-is (suc n) day s i lone h =
     ap (λ (k : ℕ). record {
-      outcome = record { number = suc n; count = 0; session = stateOf s; out = out; tag = tag };
+      outcome = record { number = suc n; count = 0; session = stateOf s; out = i .out; tag = i .tag };
       day = record { spent = k; allowance = day .allowance };
-    }) (let e : day .spent ≡ charged day (ifNoCheck (suc n) (stateOf s) (handed a x out tag) o) .day .spent = omega arith in e)
+    }) (let e : day .spent ≡ day .spent + 0 = omega arith in e)
 
 -- what a call gives that meets none of the checks 5 to 10
-charged-is : (n : ℕ) (day : Day) (r : CallResult) (s : SessionState DeckState) (i : CallInput) (out tag : List ℕ) (o : Outcome DeckState) → n ≡ 0
-    → callResult r out tag ≡ o
+charged-is : (n : ℕ) (day : Day) (r : CallResult) (s : SessionState DeckState) (i : CallInput) (out tag : List ℕ) (lone : Outcome DeckState) → n ≡ 0
+    → callResult r out tag ≡ lone
     → groupResult (record { session = r .session; answer = record { number = r .number; count = r .count; day = addCount day (r .count) } }) out tag
-    ≡ charged day (ifNoCheck n s i o)
-charged-is zero day r s i out tag o z e = ap (charged day) e
-charged-is (suc n) day r s i out tag o z e = absurd (omega arith)
+    ≡ charged day (ifNoCheck n s i lone)
+charged-is zero day r s i out tag lone z e = ap (charged day) e
+charged-is (suc n) day r s i out tag lone z e = absurd (omega arith)
 
-module _ (day : Day) (s : Session) (a x out tag : List ℕ) where
-  -- the first check as the program has it
-  abbrev pub number : ℕ
-  number = then10 (firstCheck (s .opened) (s .index + growth (length a) (length x)) 32 (length a) (length x) (length tag) (length out)) day (sanseCount (length a) (length x))
+-- n is the first check as the program has it
+module _ (day : Day) (s : Session) (a x out tag : List ℕ) (n : ℕ)
+    (checked : n ≡ then10 (firstCheck (s .opened) (s .index + growth (length a) (length x)) 32 (length a) (length x) (length tag) (length out)) day (sanseCount (length a) (length x))) where
+  abbrev input : CallInput
+  input = handed a x out tag
 
-  check-is : number ≡ groupCheck day (stateOf s) (handed a x out tag)
+  first-is : n ≡ groupCheck day (stateOf s) input
   unfolding groupCheck checkNumber metadataString
-  check-is = refl
+  first-is = checked
 
-  module _ (n : ℕ) (checked : n ≡ number) where
-    first-is : n ≡ groupCheck day (stateOf s) (handed a x out tag)
-    first-is = checked ∙ check-is
+  pub call-refused : (lone : Outcome DeckState) (g : GroupResult) → n ≢ 0 → g ≡ record { session = s; answer = record { number = n; count = 0; day = day } }
+      → groupResult g out tag ≡ onDay day (stateOf s) input lone
+  unfolding onDay
+  call-refused lone g h e =
+      ap (λ (g : GroupResult). groupResult g out tag) e ∙ refused-is n day s input lone h
+      ∙ ap (λ (k : ℕ). charged day (ifNoCheck k (stateOf s) input lone)) first-is
 
-    -- a call's count, added to the day's, is at most the allowance
-    pub wrap-fits : (r : CallResult) (out′ tag′ : List ℕ) → n ≡ 0 → callResult r out′ tag′ ≡ wrapAt sanse incremental (stateOf s) (handed a x out tag)
-        → day .spent + r .count ≤ day .allowance
-    unfolding groupCheck
-    wrap-fits r out′ tag′ z e =
-        let i = handed a x out tag in
-        let w = within-allowance (checkNumber sanse incremental (stateOf s) i) day (countOf sanse incremental i) (sym first-is ∙ z) in
-        let k : r .count ≡ wrapAt sanse incremental (stateOf s) i .count = ap (λ (o : Outcome DeckState). o .count) e in
-        omega (arith, wrap-count (stateOf s) i)
+  -- the call's count, added to the day's, is at most the allowance
+  pub call-fits : (lone : Outcome DeckState) (r : CallResult) (out′ tag′ : List ℕ)
+      → (checkNumber sanse incremental (stateOf s) input ≡ 0 → lone .count ≡ countOf sanse incremental input) → n ≡ 0 → callResult r out′ tag′ ≡ lone
+      → day .spent + r .count ≤ day .allowance
+  unfolding groupCheck
+  call-fits lone r out′ tag′ counts z e =
+      let w = none-of-10 (checkNumber sanse incremental (stateOf s) input) day (countOf sanse incremental input) (sym first-is ∙ z) in
+      let k : r .count ≡ lone .count = ap (λ (o : Outcome DeckState). o .count) e in
+      omega (arith, counts (w .0), w .1)
 
-    pub unwrap-fits : (r : CallResult) (out′ tag′ : List ℕ) → n ≡ 0 → callResult r out′ tag′ ≡ unwrapAt sanse incremental (stateOf s) (handed a x out tag)
-        → day .spent + r .count ≤ day .allowance
-    unfolding groupCheck
-    unwrap-fits r out′ tag′ z e =
-        let i = handed a x out tag in
-        let w = within-allowance (checkNumber sanse incremental (stateOf s) i) day (countOf sanse incremental i) (sym first-is ∙ z) in
-        let k : r .count ≡ unwrapAt sanse incremental (stateOf s) i .count = ap (λ (o : Outcome DeckState). o .count) e in
-        omega (arith, unwrap-count (stateOf s) i)
-
-    pub wrap-refused : (g : GroupResult) → n ≢ 0 → g ≡ record { session = s; answer = record { number = n; count = 0; day = day } }
-        → groupResult g out tag ≡ groupWrapAt day (stateOf s) (handed a x out tag)
-    unfolding groupWrapAt
-    wrap-refused g h e =
-        let i = handed a x out tag in
-        let o = wrapAt sanse incremental (stateOf s) i in
-        ap (λ (g : GroupResult). groupResult g out tag) e ∙ refused-is n day s a x out tag o h ∙ ap (λ (k : ℕ). charged day (ifNoCheck k (stateOf s) i o)) first-is
-
-    pub unwrap-refused : (g : GroupResult) → n ≢ 0 → g ≡ record { session = s; answer = record { number = n; count = 0; day = day } }
-        → groupResult g out tag ≡ groupUnwrapAt day (stateOf s) (handed a x out tag)
-    unfolding groupUnwrapAt
-    unwrap-refused g h e =
-        let i = handed a x out tag in
-        let o = unwrapAt sanse incremental (stateOf s) i in
-        ap (λ (g : GroupResult). groupResult g out tag) e ∙ refused-is n day s a x out tag o h ∙ ap (λ (k : ℕ). charged day (ifNoCheck k (stateOf s) i o)) first-is
-
-    pub wrap-charged : (r : CallResult) (g : GroupResult) (out′ tag′ : List ℕ) → n ≡ 0
-        → callResult r out′ tag′ ≡ wrapAt sanse incremental (stateOf s) (handed a x out tag)
-        → g ≡ record { session = r .session; answer = record { number = r .number; count = r .count; day = addCount day (r .count) } }
-        → groupResult g out′ tag′ ≡ groupWrapAt day (stateOf s) (handed a x out tag)
-    unfolding groupWrapAt
-    wrap-charged r g out′ tag′ z e k =
-        let i = handed a x out tag in
-        let o = wrapAt sanse incremental (stateOf s) i in
-        ap (λ (g : GroupResult). groupResult g out′ tag′) k ∙ charged-is n day r (stateOf s) i out′ tag′ o z e
-        ∙ ap (λ (k : ℕ). charged day (ifNoCheck k (stateOf s) i o)) first-is
-
-    pub unwrap-charged : (r : CallResult) (g : GroupResult) (out′ tag′ : List ℕ) → n ≡ 0
-        → callResult r out′ tag′ ≡ unwrapAt sanse incremental (stateOf s) (handed a x out tag)
-        → g ≡ record { session = r .session; answer = record { number = r .number; count = r .count; day = addCount day (r .count) } }
-        → groupResult g out′ tag′ ≡ groupUnwrapAt day (stateOf s) (handed a x out tag)
-    unfolding groupUnwrapAt
-    unwrap-charged r g out′ tag′ z e k =
-        let i = handed a x out tag in
-        let o = unwrapAt sanse incremental (stateOf s) i in
-        ap (λ (g : GroupResult). groupResult g out′ tag′) k ∙ charged-is n day r (stateOf s) i out′ tag′ o z e
-        ∙ ap (λ (k : ℕ). charged day (ifNoCheck k (stateOf s) i o)) first-is
+  pub call-charged : (lone : Outcome DeckState) (r : CallResult) (g : GroupResult) (out′ tag′ : List ℕ) → n ≡ 0 → callResult r out′ tag′ ≡ lone
+      → g ≡ record { session = r .session; answer = record { number = r .number; count = r .count; day = addCount day (r .count) } }
+      → groupResult g out′ tag′ ≡ onDay day (stateOf s) input lone
+  unfolding onDay
+  call-charged lone r g out′ tag′ z e k =
+      ap (λ (g : GroupResult). groupResult g out′ tag′) k ∙ charged-is n day r (stateOf s) input out′ tag′ lone z e
+      ∙ ap (λ (k : ℕ). charged day (ifNoCheck k (stateOf s) input lone)) first-is
 
 -- ---- opening a group
 
@@ -175,11 +139,11 @@ module _ (day : Day) (s : Session) (key : List ℕ) where
   -- refused by n, where n is the first check
   open-refused-by : (n : ℕ) → n ≢ 0 → openCheck day key ≡ n → (g : GroupResult)
       → g ≡ record { session = s; answer = record { number = n; count = 0; day = day } }
-      → openingResult g ≡ groupOpenAt day (stateOf s) key
-  unfolding groupOpenAt
+      → groupOpeningResult g ≡ openOnDay day (stateOf s) key
+  unfolding openOnDay
   open-refused-by zero h c g e = absurd (h refl)
   open-refused-by (suc n) h c g e =
-      ap openingResult e
+      ap groupOpeningResult e
       ∙ ap (λ (k : ℕ). record {
         opening = record { number = suc n; count = 0; session = stateOf s };
         day = record { spent = k; allowance = day .allowance };
@@ -187,13 +151,13 @@ module _ (day : Day) (s : Session) (key : List ℕ) where
       ∙ ap (λ (k : ℕ). let o : Opening = openedUnless k (stateOf s) (startAt key) in record { opening = o; day = addCount day (o .count) }) (sym c)
 
   pub open-short : (g : GroupResult) → length key < 16 → g ≡ record { session = s; answer = record { number = 4; count = 0; day = day } }
-      → openingResult g ≡ groupOpenAt day (stateOf s) key
+      → groupOpeningResult g ≡ openOnDay day (stateOf s) key
   open-short g h e =
       open-refused-by 4 (λ z. omega (arith, z))
       (rw (lt-leb 16 (length key) h)) g e
 
   pub open-long : (g : GroupResult) → 16 ≤ length key → 47 < length key → g ≡ record { session = s; answer = record { number = 4; count = 0; day = day } }
-      → openingResult g ≡ groupOpenAt day (stateOf s) key
+      → groupOpeningResult g ≡ openOnDay day (stateOf s) key
   open-long g l h e =
       open-refused-by 4 (λ z. omega (arith, z))
       (rw (le-leb 16 (length key) l, lt-leb (length key) 47 h)) g e
@@ -203,7 +167,7 @@ module _ (day : Day) (s : Session) (key : List ℕ) where
     open-check = rw (le-leb 16 (length key) l, le-leb (length key) 47 h, above)
 
     pub open-above : (g : GroupResult) → t ≡ true → g ≡ record { session = s; answer = record { number = 10; count = 0; day = day } }
-        → openingResult g ≡ groupOpenAt day (stateOf s) key
+        → groupOpeningResult g ≡ openOnDay day (stateOf s) key
     open-above g y e = open-refused-by 10 (λ z. omega (arith, z)) (open-check ∙ ap (λ (t : Bool). cond t 10 0) y) g e
 
     pub open-fits : (r : CallResult) → t ≡ false → startResult r ≡ startAt key → day .spent + r .count ≤ day .allowance
@@ -214,9 +178,9 @@ module _ (day : Day) (s : Session) (key : List ℕ) where
 
     pub open-charged : (r : CallResult) (g : GroupResult) → t ≡ false → startResult r ≡ startAt key
         → g ≡ record { session = r .session; answer = record { number = r .number; count = r .count; day = addCount day (r .count) } }
-        → openingResult g ≡ groupOpenAt day (stateOf s) key
-    unfolding groupOpenAt
+        → groupOpeningResult g ≡ openOnDay day (stateOf s) key
+    unfolding openOnDay
     open-charged r g y e k =
-        ap openingResult k ∙ ap (λ (o : Opening). record { opening = o; day = addCount day (o .count) }) e
+        ap groupOpeningResult k ∙ ap (λ (o : Opening). record { opening = o; day = addCount day (o .count) }) e
         ∙ ap (λ (k : ℕ). let o : Opening = openedUnless k (stateOf s) (startAt key) in record { opening = o; day = addCount day (o .count) })
         (sym (open-check ∙ ap (λ (t : Bool). cond t 10 0) y))

@@ -50,12 +50,15 @@ groupCheck day s i = then10 (checkNumber sanse incremental s i) day (countOf san
 abbrev pub charged : Day → Outcome DeckState → GroupOutcome
 charged day o = record { outcome = o; day = addCount day (o .count) }
 
--- refused by a check of 5 to 10 with nothing altered, or what the lone call gives
-unfoldable pub groupWrapAt : Day → SessionState DeckState → CallInput → GroupOutcome
-groupWrapAt day s i = charged day (ifNoCheck (groupCheck day s i) s i (wrapAt sanse incremental s i))
+-- a call for a group, where `lone` is what the lone call gives: refused by a check of 5 to 10 with nothing altered, or that
+unfoldable pub onDay : Day → SessionState DeckState → CallInput → (lone : Outcome DeckState) → GroupOutcome
+onDay day s i lone = charged day (ifNoCheck (groupCheck day s i) s i lone)
 
-unfoldable pub groupUnwrapAt : Day → SessionState DeckState → CallInput → GroupOutcome
-groupUnwrapAt day s i = charged day (ifNoCheck (groupCheck day s i) s i (unwrapAt sanse incremental s i))
+abbrev pub wrapOnDay : Day → SessionState DeckState → CallInput → GroupOutcome
+wrapOnDay day s i = onDay day s i (wrapAt sanse incremental s i)
+
+abbrev pub unwrapOnDay : Day → SessionState DeckState → CallInput → GroupOutcome
+unwrapOnDay day s i = onDay day s i (unwrapAt sanse incremental s i)
 
 -- ---- opening a group
 
@@ -73,15 +76,15 @@ abbrev pub openedUnless : ℕ → SessionState DeckState → Opening → Opening
 openedUnless zero s o = o
 openedUnless (suc n) s o = record { number = suc n; count = 0; session = s }
 
-unfoldable pub groupOpenAt : Day → SessionState DeckState → (key : List ℕ) → GroupOpening
-groupOpenAt day s key =
+unfoldable pub openOnDay : Day → SessionState DeckState → (key : List ℕ) → GroupOpening
+openOnDay day s key =
     let o : Opening = openedUnless (openCheck day key) s (startAt key) in
     record { opening = o; day = addCount day (o .count) }
 
 -- ---- what the program's calls gave, in these words
 
-abbrev pub openingResult : GroupResult → GroupOpening
-openingResult r =
+abbrev pub groupOpeningResult : GroupResult → GroupOpening
+groupOpeningResult r =
     record {
       opening = record { number = r .answer .number; count = r .answer .count; session = stateOf (r .session) };
       day = r .answer .day;

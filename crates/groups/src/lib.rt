@@ -4,7 +4,7 @@ ghost use Prim.Native.Nat.{_+_, _≤_};
 ghost use Rattle.modes.specs.Mode.{sanseCount};
 ghost use Rattle.modes.specs.Rules.{growth, firstCheck};
 ghost use Rattle.sanse.specs.Session.{stateOf, handed};
-ghost use Rattle.groups.specs.Groups.{noDay, newDay, addCount, aboveAllowance, then10, groupWrapAt, groupUnwrapAt, groupOpenAt, openingResult, groupResult};
+ghost use Rattle.groups.specs.Groups.{noDay, newDay, addCount, aboveAllowance, then10, wrapOnDay, unwrapOnDay, openOnDay, groupOpeningResult, groupResult};
 use sanse::CallResult;
 use sanse::Session;
 
@@ -128,8 +128,8 @@ fn charged(r: CallResult, day: Day) -> GroupResult
 // ---- the calls
 
 // Opens a group: a fresh session in the place of `s`, which stays as it was where 4 or 10 refuses.
-pub fn group_open(s: Session, day: Day, key: &[u8]) -> GroupResult
-    ensures { λ r. ⌜ openingResult r ≡ groupOpenAt day (stateOf s) (now (key .entry)) ⌝ }
+pub fn open(s: Session, day: Day, key: &[u8]) -> GroupResult
+    ensures { λ r. ⌜ groupOpeningResult r ≡ openOnDay day (stateOf s) (now (key .entry)) ⌝ }
 {
     if key.len() < 16 {
         return refused(4, s, day);
@@ -145,7 +145,7 @@ pub fn group_open(s: Session, day: Day, key: &[u8]) -> GroupResult
 }
 
 // Wraps a message for a group. Checks 5 to 10.
-pub fn group_wrap(
+pub fn wrap(
     s: Session,
     day: Day,
     metadata: &[u8],
@@ -154,7 +154,7 @@ pub fn group_wrap(
     tag: &mut [u8],
 ) -> GroupResult
     ensures { λ r. ⌜ groupResult r (now (out .exit)) (now (tag .exit))
-        ≡ groupWrapAt day (stateOf s) (handed (now (metadata .entry)) (now (message .entry)) (now (out .entry)) (now (tag .entry))) ⌝ }
+        ≡ wrapOnDay day (stateOf s) (handed (now (metadata .entry)) (now (message .entry)) (now (out .entry)) (now (tag .entry))) ⌝ }
 {
     let number = check(
         s.opened,
@@ -173,7 +173,7 @@ pub fn group_wrap(
 }
 
 // Unwraps a cryptogram for a group. Checks 5 to 10, and 11, whose count is added to the day's.
-pub fn group_unwrap(
+pub fn unwrap(
     s: Session,
     day: Day,
     metadata: &[u8],
@@ -182,7 +182,7 @@ pub fn group_unwrap(
     out: &mut [u8],
 ) -> GroupResult
     ensures { λ r. ⌜ groupResult r (now (out .exit)) (now (tag .entry))
-        ≡ groupUnwrapAt day (stateOf s) (handed (now (metadata .entry)) (now (cryptogram .entry)) (now (out .entry)) (now (tag .entry))) ⌝ }
+        ≡ unwrapOnDay day (stateOf s) (handed (now (metadata .entry)) (now (cryptogram .entry)) (now (out .entry)) (now (tag .entry))) ⌝ }
 {
     let number = check(
         s.opened,

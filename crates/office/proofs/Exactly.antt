@@ -1,6 +1,6 @@
 -- The claims of `specs/Exactly.antt` hold of every call of the table by the rules, and so of the program's calls. Assumes nothing.
 use mathlib.Core.Path.{_≡_, refl, sym, ap, ap₂, _∙_, subst}
-use mathlib.Core.Logic.{_≢_, _⊎_, inl, inr}
+use mathlib.Core.Logic.{_↔_, _≢_, _⊎_, inl, inr}
 use mathlib.Core.Bool.{Bool, true, false, not, _||_, _&&_, cond}
 use mathlib.Core.List.{List}
 use Prim.Native.Nat.{ℕ, zero, suc, _+_, _<_, _≤_}
@@ -12,11 +12,12 @@ use borrow.Author.Tests.{ltb-true, ltb-false, leb-true, leb-false, eqb-true, eqb
 use Rattle.xoofff.specs.declared.DeckState.{DeckState}
 use Rattle.modes.specs.Call.{CallInput}
 use Rattle.modes.specs.Mode.{sanse, incremental}
-use Rattle.modes.specs.Rules.{SessionState, Outcome, Opening, longest, highestIndex, growth, metadataString, firstCheck, checkNumber, countOf, ifNoCheck, sameBytes, accepted, wrongTag, compareTag, wrapSteps, unwrapSteps, wrapAt, unwrapAt, keyFits, startAt, newSession, closed}
+use Rattle.modes.specs.Rules.{SessionState, Outcome, Opening, longest, highestIndex, growth, metadataString, firstCheck, checkNumber, countOf, refused, ifNoCheck, sameBytes, accepted, wrongTag, compareTag, wrapSteps, unwrapSteps, wrapAt, unwrapAt, keyFits, startAt, newSession, closed}
 use Rattle.groups.specs.declared.Day.{Day}
-use Rattle.groups.specs.Groups.{addCount, aboveAllowance, then10, groupCheck, charged, groupWrapAt, groupUnwrapAt, openedUnless, groupOpenAt}
-use Rattle.office.specs.Table.{Sessions, noGroup, sessionAt, TableOutcome, TableOpening, refused3, writtenBack, wrapGroupAt, unwrapGroupAt, openGroupAt}
-use Rattle.office.specs.Exactly.{Check3, Check10, CallExactly, OpenExactly}
+use Rattle.groups.specs.Groups.{addCount, aboveAllowance, then10, groupCheck, charged, onDay, openedUnless, openOnDay}
+use Rattle.groups.proofs.Counts.{wrap-count, unwrap-count}
+use Rattle.office.specs.Table.{Table, noGroup, sessionAt, TableOutcome, TableOpening, refusedBy, writtenBack, callGroupAt, wrapGroupAt, openGroupAt}
+use Rattle.office.specs.Exactly.{Check3, Check10, NoneBefore11, CallExactly, WrapExactly, UnwrapExactly, OpenExactly}
 
 -- ---- the tests as statements
 
@@ -25,7 +26,7 @@ data Told (P : Type 0) (Q : Type 0) : Bool → Type 0 where
   holds : P → Told P Q true
   fails : Q → Told P Q false
 
-told3 : (t : Sessions) (g : ℕ) → Told (Check3 t g) ((length t ≡ 32) × (g ≤ 31)) (noGroup t g)
+told3 : (t : Table) (g : ℕ) → Told (Check3 t g) ((length t ≡ 32) × (g ≤ 31)) (noGroup (length t) g)
 told3 t g = go (eqb (length t) 32) (ltb 31 g) refl refl
   where
     go : (u v : Bool) → eqb (length t) 32 ≡ u → ltb 31 g ≡ v → Told (Check3 t g) ((length t ≡ 32) × (g ≤ 31)) (not u || v)
@@ -34,7 +35,7 @@ told3 t g = go (eqb (length t) 32) (ltb 31 g) refl refl
     go true false e f = fails (eqb-true (length t) 32 e, ltb-false 31 g f)
 
 -- check 3 is not met where both hold
-apart : (t : Sessions) (g : ℕ) → (length t ≡ 32) × (g ≤ 31) → Check3 t g → ⊥
+apart : (t : Table) (g : ℕ) → (length t ≡ 32) × (g ≤ 31) → Check3 t g → ⊥
 apart t g w (inl n) = n (w .0)
 apart t g w (inr l) = omega (arith, w .1, l)
 
@@ -78,151 +79,169 @@ no-count day = ap (λ (k : ℕ). record { spent = k; allowance = day .allowance 
 
 -- ---- a wrap or an unwrap for a group, by the first check
 
-module _ (day : Day) (t : Sessions) (g : ℕ) (i : CallInput) where
-  -- nothing altered
-  abbrev stopped : ℕ → TableOutcome
-  stopped n = record { number = n; count = 0; day = day; table = t; out = i .out; tag = i .tag }
+module _ (day : Day) (t : Table) (g : ℕ) (i : CallInput) where
+  -- the first of 5 to 9, by the rules
+  abbrev first : ℕ
+  first = checkNumber sanse incremental (sessionAt t g) i
 
-  -- what a lone call gives that meets none of 5 to 9
-  abbrev Ends : Outcome DeckState → Type 0
-  Ends o = (o .number ≡ 0) ⊎ ((o .number ≡ 11) × (o .count ≡ countOf sanse incremental i) × (o .session ≡ sessionAt t g))
+  -- what is asked of the outcome `lone` of a lone call that meets none of 5 to 9
+  pub record Ends (lone : Outcome DeckState) : Type 0 where
+    pub number : (lone .number ≡ 0) ⊎ ((lone .number ≡ 11) × (lone .session ≡ sessionAt t g))
+    pub count : lone .count ≡ countOf sanse incremental i
 
-  by3 : Check3 t g → CallExactly day t g i (stopped 3)
-  by3 c =
+  module _ (lone : Outcome DeckState) where
+    -- refused by n, where n is neither 0 nor 11: nothing is altered
+    stops : (n : ℕ) → n ≢ 0 → n ≢ 11 → (n ≡ 3) ↔ Check3 t g → ((Check3 t g → ⊥) → first ≢ 0 → n ≡ first)
+        → (5 ≤ n → n ≤ 9 → (Check3 t g → ⊥) × (first ≡ n))
+        → (n ≡ 10) ↔ ((Check3 t g → ⊥) × (first ≡ 0) × Check10 day (countOf sanse incremental i)) → (NoneBefore11 day t g i → ⊥)
+        → CallExactly day t g i lone (refusedBy n day t i)
+    stops n n0 n11 three five-to-nine only ten some =
+        record {
+          three = three;
+          five-to-nine = five-to-nine;
+          only-five-to-nine = only;
+          ten = ten;
+          unaltered = λ _ _. refl;
+          none = (λ z. absurd (neither z), λ z. absurd (some z));
+          worked = λ z. absurd (some z);
+          counted = λ z. absurd (some z);
+          eleven = λ e. absurd (n11 e);
+          added = sym (no-count day);
+          others = λ k _. refl;
+          size = refl;
+        }
+      where
+        neither : (n ≡ 0) ⊎ (n ≡ 11) → ⊥
+        neither (inl z) = n0 z
+        neither (inr z) = n11 z
+
+    by3 : Check3 t g → CallExactly day t g i lone (refusedBy 3 day t i)
+    by3 c =
+        stops 3 (λ e. omega (arith, e)) (λ e. omega (arith, e)) (λ _. c, λ _. refl) (λ n _. absurd (n c)) (λ low _. absurd (omega (arith, low)))
+        (λ e. absurd (omega (arith, e)), λ h. absurd (h .0 c)) (λ z. z .three c)
+
+    module _ (in3 : (length t ≡ 32) × (g ≤ 31)) where
+      by-check : (n : ℕ) → first ≡ n → 5 ≤ n → n ≤ 9 → CallExactly day t g i lone (refusedBy n day t i)
+      by-check n e low high =
+          stops n (λ z. omega (arith, z)) (λ z. omega (arith, z)) (λ z. absurd (omega (arith, z)), λ c. absurd (apart t g in3 c)) (λ _ _. sym e) (λ _ _. (apart t g in3, e))
+          (λ z. absurd (omega (arith, z)), λ h. absurd (omega (arith, h .1, e))) (λ z. omega (arith, z .five-to-nine, e))
+
+      by10 : first ≡ 0 → Check10 day (countOf sanse incremental i) → CallExactly day t g i lone (refusedBy 10 day t i)
+      by10 e above =
+          stops 10 (λ z. omega (arith, z)) (λ z. omega (arith, z)) (λ z. absurd (omega (arith, z)), λ c. absurd (apart t g in3 c)) (λ _ n. absurd (n e)) (λ _ high. absurd (omega (arith, high)))
+          (λ _. (λ c. apart t g in3 c, e, above), λ _. refl) (λ z. z .ten above)
+
+      -- the work was done: number 0 or 11
+      done : NoneBefore11 day t g i → Ends lone → CallExactly day t g i lone (writtenBack t g (charged day lone))
+      done clear r =
+          record {
+            three = (λ z. absurd (other z (omega arith) (omega arith)), λ c. absurd (clear .three c));
+            five-to-nine = λ _ n. absurd (n (clear .five-to-nine));
+            only-five-to-nine = λ low high. absurd (other refl (λ z. omega (arith, z, low)) (λ z. omega (arith, z, high)));
+            ten = (λ z. absurd (other z (omega arith) (omega arith)), λ h. absurd (clear .ten (h .2)));
+            unaltered = λ n m. absurd (other refl n m);
+            none = (λ _. clear, λ _. either (r .number));
+            worked = λ _. refl;
+            counted = λ _. r .count;
+            eleven = λ z. (r .count, ap (set t g) (kept (r .number) z) ∙ set-getD t g closed);
+            added = refl;
+            others = λ k n. getD-set-other t g k (lone .session) closed n;
+            size = length-set t g (lone .session);
+          }
+        where
+          either : (lone .number ≡ 0) ⊎ ((lone .number ≡ 11) × (lone .session ≡ sessionAt t g)) → (lone .number ≡ 0) ⊎ (lone .number ≡ 11)
+          either (inl z) = inl z
+          either (inr z) = inr (z .0)
+
+          other : {n : ℕ} → lone .number ≡ n → n ≢ 0 → n ≢ 11 → ⊥
+          other {n} p a b = go (either (r .number))
+            where
+              go : (lone .number ≡ 0) ⊎ (lone .number ≡ 11) → ⊥
+              go (inl z) = a (sym p ∙ z)
+              go (inr z) = b (sym p ∙ z)
+
+          kept : (lone .number ≡ 0) ⊎ ((lone .number ≡ 11) × (lone .session ≡ sessionAt t g)) → lone .number ≡ 11 → lone .session ≡ sessionAt t g
+          kept (inl z) p = absurd (omega (arith, z, p))
+          kept (inr z) p = z .1
+
+      -- a check that stops the call writes the group's session back as it was
+      stays : (n : ℕ) → writtenBack t g (charged day (refused n (sessionAt t g) i)) ≡ refusedBy n day t i
+      stays n = ap₂ (λ (d : Day) (u : Table). record { number = n; count = 0; day = d; table = u; out = i .out; tag = i .tag }) (no-count day) (set-getD t g closed)
+
+      -- by the first of 5 to 9, then by 10
+      after3 : (first ≡ 0 → Ends lone) → CallExactly day t g i lone (writtenBack t g (onDay day (sessionAt t g) i lone))
+      unfolding onDay groupCheck
+      after3 ends = go first refl (check-range (sessionAt t g) i)
+        where
+          at10 : (u : Bool) → first ≡ 0 → Told (Check10 day (countOf sanse incremental i)) (day .spent + countOf sanse incremental i ≤ day .allowance) u
+              → CallExactly day t g i lone (writtenBack t g (charged day (ifNoCheck (cond u 10 0) (sessionAt t g) i lone)))
+          at10 true e (holds above) = subst (CallExactly day t g i lone) (sym (stays 10)) (by10 e above)
+          at10 false e (fails within) =
+              done (record { three = λ c. apart t g in3 c; five-to-nine = e; ten = λ above. omega (arith, above, within) }) (ends e)
+
+          go : (n : ℕ) → first ≡ n → (first ≡ 0) ⊎ ((5 ≤ first) × (first ≤ 9))
+              → CallExactly day t g i lone (writtenBack t g (charged day (ifNoCheck (then10 n day (countOf sanse incremental i)) (sessionAt t g) i lone)))
+          go zero e z = at10 (aboveAllowance day (countOf sanse incremental i)) e (told10 day (countOf sanse incremental i))
+          go (suc n) e (inl z) = absurd (omega (arith, e, z))
+          go (suc n) e (inr z) = subst (CallExactly day t g i lone) (sym (stays (suc n))) (by-check (suc n) e (omega (arith, e, z .0)) (omega (arith, e, z .1)))
+
+    -- by check 3
+    exactly : (first ≡ 0 → Ends lone) → CallExactly day t g i lone (callGroupAt day t g i lone)
+    unfolding callGroupAt
+    exactly ends = go (noGroup (length t) g) (told3 t g)
+      where
+        go : (u : Bool) → Told (Check3 t g) ((length t ≡ 32) × (g ≤ 31)) u
+            → CallExactly day t g i lone (cond u (refusedBy 3 day t i) (writtenBack t g (onDay day (sessionAt t g) i lone)))
+        go true (holds c) = by3 c
+        go false (fails in3) = after3 in3 ends
+
+  -- a lone wrap that meets none of 5 to 9 is accepted
+  wrap-number : first ≡ 0 → wrapAt sanse incremental (sessionAt t g) i .number ≡ 0
+  unfolding wrapAt
+  wrap-number e =
+      let s = sessionAt t g in
+      ap (λ (n : ℕ). ifNoCheck n s i (accepted sanse incremental s i (wrapSteps sanse incremental s i) (wrapSteps sanse incremental s i .tag)) .number) e
+
+  wrap-call : CallExactly day t g i (wrapAt sanse incremental (sessionAt t g) i) (wrapGroupAt day t g i)
+  wrap-call = exactly (wrapAt sanse incremental (sessionAt t g) i) (λ e. record { number = inl (wrap-number e); count = wrap-count (sessionAt t g) i e })
+
+  pub wrap-exactly : WrapExactly day t g i
+  wrap-exactly =
       record {
-        three = (λ _. c, λ _. refl);
-        five-to-nine = λ n _. absurd (n c);
-        ten = (λ e. absurd (omega (arith, e)), λ h. absurd (h .0 c));
-        added = sym (no-count day);
-        unaltered = λ _ _. refl;
-        eleven = λ e. absurd (omega (arith, e));
-        others = λ k _. refl;
-        size = refl;
+        call = wrap-call;
+        never-11 = λ e.
+            let z = wrap-call .none .0 (inr e) in
+            omega (arith, e, ap (λ (o : TableOutcome). o .number) (wrap-call .worked z), wrap-number (z .five-to-nine));
       }
 
-  module _ (in3 : (length t ≡ 32) × (g ≤ 31)) where
-    by-check : (n : ℕ) → checkNumber sanse incremental (sessionAt t g) i ≡ n → 5 ≤ n → n ≤ 9 → CallExactly day t g i (stopped n)
-    by-check n e low high =
-        record {
-          three = (λ z. absurd (omega (arith, z)), λ c. absurd (apart t g in3 c));
-          five-to-nine = λ _ _. sym e;
-          ten = (λ z. absurd (omega (arith, z)), λ h. absurd (omega (arith, h .1, e)));
-          added = sym (no-count day);
-          unaltered = λ _ _. refl;
-          eleven = λ z. absurd (omega (arith, z));
-          others = λ k _. refl;
-          size = refl;
-        }
-
-    by10 : checkNumber sanse incremental (sessionAt t g) i ≡ 0 → Check10 day (countOf sanse incremental i) → CallExactly day t g i (stopped 10)
-    by10 e above =
-        record {
-          three = (λ z. absurd (omega (arith, z)), λ c. absurd (apart t g in3 c));
-          five-to-nine = λ _ n. absurd (n e);
-          ten = (λ _. (λ c. apart t g in3 c, e, above), λ _. refl);
-          added = sym (no-count day);
-          unaltered = λ _ _. refl;
-          eleven = λ z. absurd (omega (arith, z));
-          others = λ k _. refl;
-          size = refl;
-        }
-
-    -- the work was done: number 0 or 11
-    done : checkNumber sanse incremental (sessionAt t g) i ≡ 0 → day .spent + countOf sanse incremental i ≤ day .allowance
-        → (o : Outcome DeckState) → Ends o → CallExactly day t g i (writtenBack t g (charged day o))
-    done e within o r =
-        record {
-          three = (λ z. absurd (neither r z (omega arith) (omega arith)), λ c. absurd (apart t g in3 c));
-          five-to-nine = λ _ n. absurd (n e);
-          ten = (λ z. absurd (neither r z (omega arith) (omega arith)), λ h. absurd (omega (arith, h .2, within)));
-          added = refl;
-          unaltered = λ n m. absurd (only r n m);
-          eleven = λ z. (of-11 r z .0, ap (set t g) (of-11 r z .1) ∙ set-getD t g closed);
-          others = λ k n. getD-set-other t g k (o .session) closed n;
-          size = length-set t g (o .session);
-        }
-      where
-        neither : Ends o → {n : ℕ} → o .number ≡ n → n ≢ 0 → n ≢ 11 → ⊥
-        neither (inl z) p a b = a (sym p ∙ z)
-        neither (inr z) p a b = b (sym p ∙ z .0)
-
-        only : Ends o → o .number ≢ 0 → o .number ≢ 11 → ⊥
-        only (inl z) n m = n z
-        only (inr z) n m = m (z .0)
-
-        of-11 : Ends o → o .number ≡ 11 → (o .count ≡ countOf sanse incremental i) × (o .session ≡ sessionAt t g)
-        of-11 (inl z) p = absurd (omega (arith, z, p))
-        of-11 (inr z) p = (z .1, z .2)
-
-    -- a check that stops the call writes the group's session back as it was
-    stays : (n : ℕ) → writtenBack t g (charged day (record { number = n; count = 0; session = sessionAt t g; out = i .out; tag = i .tag })) ≡ stopped n
-    stays n = ap₂ (λ (d : Day) (u : Sessions). record { number = n; count = 0; day = d; table = u; out = i .out; tag = i .tag }) (no-count day) (set-getD t g closed)
-
-    -- by the first of 5 to 9, then by 10
-    after3 : (o : Outcome DeckState) → (checkNumber sanse incremental (sessionAt t g) i ≡ 0 → Ends o)
-        → CallExactly day t g i (writtenBack t g (charged day (ifNoCheck (groupCheck day (sessionAt t g) i) (sessionAt t g) i o)))
-    unfolding groupCheck
-    after3 o r = go (checkNumber sanse incremental (sessionAt t g) i) refl (check-range (sessionAt t g) i)
-      where
-        at10 : (u : Bool) → checkNumber sanse incremental (sessionAt t g) i ≡ 0
-            → Told (Check10 day (countOf sanse incremental i)) (day .spent + countOf sanse incremental i ≤ day .allowance) u
-            → CallExactly day t g i (writtenBack t g (charged day (ifNoCheck (cond u 10 0) (sessionAt t g) i o)))
-        at10 true e (holds above) = subst (CallExactly day t g i) (sym (stays 10)) (by10 e above)
-        at10 false e (fails within) = done e within o (r e)
-
-        go : (n : ℕ) → checkNumber sanse incremental (sessionAt t g) i ≡ n
-            → (checkNumber sanse incremental (sessionAt t g) i ≡ 0)
-            ⊎ ((5 ≤ checkNumber sanse incremental (sessionAt t g) i) × (checkNumber sanse incremental (sessionAt t g) i ≤ 9))
-            → CallExactly day t g i (writtenBack t g (charged day (ifNoCheck (then10 n day (countOf sanse incremental i)) (sessionAt t g) i o)))
-        go zero e z = at10 (aboveAllowance day (countOf sanse incremental i)) e (told10 day (countOf sanse incremental i))
-        go (suc n) e (inl z) = absurd (omega (arith, e, z))
-        go (suc n) e (inr z) = subst (CallExactly day t g i) (sym (stays (suc n))) (by-check (suc n) e (omega (arith, e, z .0)) (omega (arith, e, z .1)))
-
-  -- by check 3
-  exactly : (o : Outcome DeckState) → (checkNumber sanse incremental (sessionAt t g) i ≡ 0 → Ends o)
-      → CallExactly day t g i
-      (cond (noGroup t g) (refused3 day t (i .out) (i .tag)) (writtenBack t g (charged day (ifNoCheck (groupCheck day (sessionAt t g) i) (sessionAt t g) i o))))
-  exactly o r = go (noGroup t g) (told3 t g)
-    where
-      go : (u : Bool) → Told (Check3 t g) ((length t ≡ 32) × (g ≤ 31)) u
-          → CallExactly day t g i
-          (cond u (refused3 day t (i .out) (i .tag)) (writtenBack t g (charged day (ifNoCheck (groupCheck day (sessionAt t g) i) (sessionAt t g) i o))))
-      go true (holds c) = by3 c
-      go false (fails w) = after3 w o r
-
-  wrap-ends : checkNumber sanse incremental (sessionAt t g) i ≡ 0 → Ends (wrapAt sanse incremental (sessionAt t g) i)
-  unfolding wrapAt
-  wrap-ends e =
-      let s = sessionAt t g in
-      inl (ap (λ (n : ℕ). ifNoCheck n s i (accepted sanse incremental s i (wrapSteps sanse incremental s i) (wrapSteps sanse incremental s i .tag)) .number) e)
-
-  unwrap-ends : checkNumber sanse incremental (sessionAt t g) i ≡ 0 → Ends (unwrapAt sanse incremental (sessionAt t g) i)
+  -- a lone unwrap is accepted, or its tag differs
+  unwrap-number : first ≡ 0 → (unwrapAt sanse incremental (sessionAt t g) i .number ≡ 0)
+      ⊎ ((unwrapAt sanse incremental (sessionAt t g) i .number ≡ 11) × (unwrapAt sanse incremental (sessionAt t g) i .session ≡ sessionAt t g))
   unfolding unwrapAt
-  unwrap-ends e =
-      subst (λ (n : ℕ). Ends (ifNoCheck n (sessionAt t g) i (compareTag sanse incremental (sessionAt t g) i (unwrapSteps sanse incremental (sessionAt t g) i)))) (sym e)
+  unwrap-number e =
+      subst (λ (n : ℕ). Either (ifNoCheck n (sessionAt t g) i (compareTag sanse incremental (sessionAt t g) i (unwrapSteps sanse incremental (sessionAt t g) i)))) (sym e)
       (go (sameBytes (i .tag) (unwrapSteps sanse incremental (sessionAt t g) i .tag)))
     where
-      go : (u : Bool) → Ends (cond u (accepted sanse incremental (sessionAt t g) i (unwrapSteps sanse incremental (sessionAt t g) i) (i .tag))
+      Either : Outcome DeckState → Type 0
+      Either o = (o .number ≡ 0) ⊎ ((o .number ≡ 11) × (o .session ≡ sessionAt t g))
+
+      go : (u : Bool) → Either (cond u (accepted sanse incremental (sessionAt t g) i (unwrapSteps sanse incremental (sessionAt t g) i) (i .tag))
           (wrongTag sanse incremental (sessionAt t g) i))
       go true = inl refl
-      go false = inr (refl, refl, refl)
+      go false = inr (refl, refl)
 
-  pub wrap-exactly : CallExactly day t g i (wrapGroupAt day t g i)
-  unfolding wrapGroupAt groupWrapAt
-  wrap-exactly = exactly (wrapAt sanse incremental (sessionAt t g) i) wrap-ends
-
-  pub unwrap-exactly : CallExactly day t g i (unwrapGroupAt day t g i)
-  unfolding unwrapGroupAt groupUnwrapAt
-  unwrap-exactly = exactly (unwrapAt sanse incremental (sessionAt t g) i) unwrap-ends
+  pub unwrap-exactly : UnwrapExactly day t g i
+  unwrap-exactly =
+      exactly (unwrapAt sanse incremental (sessionAt t g) i) (λ e. record { number = unwrap-number e; count = unwrap-count (sessionAt t g) i e })
 
 -- ---- opening a group
 
-module _ (day : Day) (t : Sessions) (g : ℕ) (key : List ℕ) where
+module _ (day : Day) (t : Table) (g : ℕ) (key : List ℕ) where
   abbrev unopened : ℕ → TableOpening
   unopened n = record { number = n; count = 0; day = day; table = t }
 
   open-stays : (n : ℕ) → _≡_ {A = TableOpening} (record { number = n; count = 0; day = addCount day 0; table = set t g (sessionAt t g) }) (unopened n)
-  open-stays n = ap₂ (λ (d : Day) (u : Sessions). record { number = n; count = 0; day = d; table = u }) (no-count day) (set-getD t g closed)
+  open-stays n = ap₂ (λ (d : Day) (u : Table). record { number = n; count = 0; day = d; table = u }) (no-count day) (set-getD t g closed)
 
   open-3 : Check3 t g → OpenExactly day t g key (unopened 3)
   open-3 c =
@@ -276,8 +295,8 @@ module _ (day : Day) (t : Sessions) (g : ℕ) (key : List ℕ) where
   back o = record { number = o .number; count = o .count; day = addCount day (o .count); table = set t g (o .session) }
 
   pub open-exactly : OpenExactly day t g key (openGroupAt day t g key)
-  unfolding openGroupAt groupOpenAt startAt
-  open-exactly = go3 (noGroup t g) (told3 t g)
+  unfolding openGroupAt openOnDay startAt
+  open-exactly = go3 (noGroup (length t) g) (told3 t g)
     where
       go10 : (w : Bool) → Told (Check10 day 1) (day .spent + 1 ≤ day .allowance) w → (length t ≡ 32) × (g ≤ 31) → (16 ≤ length key) × (length key ≤ 47)
           → OpenExactly day t g key (back (openedUnless (cond w 10 0) (sessionAt t g) (record { number = 0; count = 1; session = newSession key })))

@@ -4,3 +4,4 @@ pub mod Search
 pub mod Walk
 pub mod Contracts
 pub mod Exactly
+pub mod NewTable

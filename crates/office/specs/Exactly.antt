@@ -1,46 +1,75 @@
 -- The table's own numbers, 3, 4 and 10, each given if and only if its condition holds and no earlier one does, with the conditions as plain
--- statements; and what a call leaves of day and table (document 01, "What stops a call" and "The row"). Assumes nothing.
+-- statements; what a call gives that meets none of them, and what it leaves of day and table; the nearly-full question's answer; and the
+-- table at first (document 01, "What stops a call" and "The row"). Assumes nothing.
+use mathlib.Core.Bool.{true, false}
 use mathlib.Core.List.{List}
 use mathlib.Core.Logic.{_↔_, _≢_, _⊎_}
 use mathlib.Core.Path.{_≡_}
 use Prim.Native.Nat.{ℕ, _+_, _<_, _≤_}
-use lib.ListN.{length, getD, set}
+use lib.ListN.{length, getD, set, replicate}
+use Rattle.xoofff.specs.declared.DeckState.{DeckState}
 use Rattle.modes.specs.Call.{CallInput}
 use Rattle.modes.specs.Mode.{sanse, incremental}
-use Rattle.modes.specs.Rules.{checkNumber, countOf, closed, newSession}
+use Rattle.modes.specs.Rules.{Outcome, checkNumber, countOf, closed, newSession, wrapAt, unwrapAt}
+use Rattle.sanse.specs.Session.{stateOf}
 use Rattle.groups.specs.declared.Day.{Day}
-use Rattle.groups.specs.Groups.{addCount}
-use Rattle.office.specs.Table.{Sessions, sessionAt, TableOutcome, TableOpening}
+use Rattle.groups.specs.Groups.{addCount, charged}
+use Rattle.office.specs.declared.NearlyFull.{NearlyFull}
+use Rattle.office.specs.Table.{Table, newTable, sessionAt, TableOutcome, TableOpening, refusedBy, writtenBack, wrapGroupAt, unwrapGroupAt, openGroupAt, NearlyFullIs, tableOf, zeroRecord}
 
 -- 3: the table does not hold 32 records, or the group is above 31
-abbrev pub Check3 : Sessions → (group : ℕ) → Type 0
+abbrev pub Check3 : Table → (group : ℕ) → Type 0
 Check3 t group = (length t ≢ 32) ⊎ (31 < group)
 
 -- 10: the allowance is smaller than the day's count plus this call's count
 abbrev pub Check10 : Day → (count : ℕ) → Type 0
 Check10 day count = day .allowance < day .spent + count
 
--- the outcome o of a wrap or an unwrap for a group
-pub record CallExactly (day : Day) (t : Sessions) (group : ℕ) (i : CallInput) (o : TableOutcome) : Type 0 where
+-- ---- wrap and unwrap for a group
+
+-- a call meets none of 3 and 5 to 10 (`checkNumber` of the modes' rules gives the first of 5 to 9 that the group's own session meets, or 0)
+pub record NoneBefore11 (day : Day) (t : Table) (group : ℕ) (i : CallInput) : Type 0 where
+  pub three : Check3 t group → ⊥
+  pub five-to-nine : checkNumber sanse incremental (sessionAt t group) i ≡ 0
+  pub ten : Check10 day (countOf sanse incremental i) → ⊥
+
+-- the outcome o of a wrap or an unwrap for a group, where `lone` is what the lone call gives
+pub record CallExactly (day : Day) (t : Table) (group : ℕ) (i : CallInput) (lone : Outcome DeckState) (o : TableOutcome) : Type 0 where
   pub three : (o .number ≡ 3) ↔ Check3 t group
-  -- 5 to 9 are those of the group's own session (`checkNumber` of the modes' rules gives the first that is met, or 0)
   pub five-to-nine : (Check3 t group → ⊥) → checkNumber sanse incremental (sessionAt t group) i ≢ 0
       → o .number ≡ checkNumber sanse incremental (sessionAt t group) i
+  pub only-five-to-nine : 5 ≤ o .number → o .number ≤ 9 → (Check3 t group → ⊥) × (checkNumber sanse incremental (sessionAt t group) i ≡ o .number)
   pub ten : (o .number ≡ 10)
       ↔ ((Check3 t group → ⊥) × (checkNumber sanse incremental (sessionAt t group) i ≡ 0) × Check10 day (countOf sanse incremental i))
+  -- a refusal by another number than 11 has count 0 and alters nothing
+  pub unaltered : o .number ≢ 0 → o .number ≢ 11 → o ≡ refusedBy (o .number) day t i
+  -- 0 or 11 is given if and only if none of the others is met, and then
+  pub none : ((o .number ≡ 0) ⊎ (o .number ≡ 11)) ↔ NoneBefore11 day t group i
+  -- the call gives what the lone call gives, its session in the group's place, its count added
+  pub worked : NoneBefore11 day t group i → o ≡ writtenBack t group (charged day lone)
+  -- and the count is the real one
+  pub counted : NoneBefore11 day t group i → o .count ≡ countOf sanse incremental i
+  -- number 11 has the real count too, and leaves the records
+  pub eleven : o .number ≡ 11 → (o .count ≡ countOf sanse incremental i) × (o .table ≡ t)
   -- the call's count is added to the day's
   pub added : o .day ≡ addCount day (o .count)
-  -- a refusal by another number than 11 has count 0 and alters nothing
-  pub unaltered : o .number ≢ 0 → o .number ≢ 11
-      → o ≡ record { number = o .number; count = 0; day = day; table = t; out = i .out; tag = i .tag }
-  -- number 11 has the real count, and leaves the records
-  pub eleven : o .number ≡ 11 → (o .count ≡ countOf sanse incremental i) × (o .table ≡ t)
   -- the other groups' records do not alter
   pub others : (k : ℕ) → k ≢ group → getD (o .table) k closed ≡ getD t k closed
   pub size : length (o .table) ≡ length t
 
+-- a wrap, which never gets 11
+pub record WrapExactly (day : Day) (t : Table) (group : ℕ) (i : CallInput) : Type 0 where
+  pub call : CallExactly day t group i (wrapAt sanse incremental (sessionAt t group) i) (wrapGroupAt day t group i)
+  pub never-11 : wrapGroupAt day t group i .number ≢ 11
+
+-- an unwrap, which gets 11 where the lone one does
+abbrev pub UnwrapExactly : Day → Table → (group : ℕ) → CallInput → Type 0
+UnwrapExactly day t group i = CallExactly day t group i (unwrapAt sanse incremental (sessionAt t group) i) (unwrapGroupAt day t group i)
+
+-- ---- opening a group
+
 -- the outcome o of opening a group
-pub record OpenExactly (day : Day) (t : Sessions) (group : ℕ) (key : List ℕ) (o : TableOpening) : Type 0 where
+pub record OpenExactly (day : Day) (t : Table) (group : ℕ) (key : List ℕ) (o : TableOpening) : Type 0 where
   pub three : (o .number ≡ 3) ↔ Check3 t group
   pub four : (o .number ≡ 4) ↔ ((Check3 t group → ⊥) × ((length key < 16) ⊎ (47 < length key)))
   pub ten : (o .number ≡ 10) ↔ ((Check3 t group → ⊥) × ((16 ≤ length key) × (length key ≤ 47)) × Check10 day 1)
@@ -49,3 +78,37 @@ pub record OpenExactly (day : Day) (t : Sessions) (group : ℕ) (key : List ℕ)
       → o ≡ record { number = 0; count = 1; day = addCount day 1; table = set t group (newSession key) }
   -- a refusal has count 0 and alters nothing
   pub unaltered : o .number ≢ 0 → o ≡ record { number = o .number; count = 0; day = day; table = t }
+
+-- ---- the nearly-full question
+
+-- one of the 32 groups, open with an index above the mark
+pub record OpenAbove (t : Table) (mark group : ℕ) : Type 0 where
+  pub in-table : group < 32
+  pub opened : sessionAt t group .opened ≡ true
+  pub above : mark < sessionAt t group .history .index
+
+-- the answer r of the question
+pub record FoundExactly (t : Table) (mark : ℕ) (r : NearlyFull) : Type 0 where
+  pub three : (r .number ≡ 3) ↔ (length t ≢ 32)
+  pub answered : (r .number ≡ 0) ↔ (length t ≡ 32)
+  -- a group is found if and only if there is one
+  pub found : (r .found ≡ true) ↔ ((length t ≡ 32) × ((group : ℕ) × OpenAbove t mark group))
+  -- the group that is named is such a one
+  pub named : r .found ≡ true → OpenAbove t mark (r .group)
+  -- otherwise it is 0
+  pub none : r .found ≡ false → r .group ≡ 0
+
+-- ---- the table at first
+
+pub record NewTable : Type 0 where
+  -- wrap and unwrap for a group get 5, and nothing is altered
+  pub wraps : (day : Day) (group : ℕ) (i : CallInput) → group ≤ 31 → wrapGroupAt day newTable group i ≡ refusedBy 5 day newTable i
+  pub unwraps : (day : Day) (group : ℕ) (i : CallInput) → group ≤ 31 → unwrapGroupAt day newTable group i ≡ refusedBy 5 day newTable i
+  -- the nearly-full question says none
+  pub none : (mark : ℕ) (r : NearlyFull) → NearlyFullIs newTable mark r → r ≡ record { number = 0; found = false; group = 0 }
+  -- a group can be opened
+  pub opens : (day : Day) (group : ℕ) (key : List ℕ) → group ≤ 31 → 16 ≤ length key → length key ≤ 47 → day .spent + 1 ≤ day .allowance
+      → openGroupAt day newTable group key ≡ record { number = 0; count = 1; day = addCount day 1; table = set newTable group (newSession key) }
+  -- zeroed memory holds such a session, and 32 of them are such a table
+  pub zero-record : stateOf zeroRecord ≡ closed
+  pub zeroed : tableOf (replicate 32 zeroRecord) ≡ newTable

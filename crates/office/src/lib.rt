@@ -2,8 +2,8 @@
 // reads one group's record, calls the function by value, and writes the record back.
 ghost use mathlib.Core.Path.{_≡_};
 ghost use Rattle.sanse.specs.Session.{stateOf, handed};
-ghost use Rattle.groups.specs.Groups.{newDay};
-ghost use Rattle.office.specs.Table.{aboveMark, sessionsOf, tableResult, openingResult, wrapGroupAt, unwrapGroupAt, openGroupAt, NearlyFullIs};
+ghost use Rattle.groups.specs.Groups.{noDay, newDay};
+ghost use Rattle.office.specs.Table.{noGroup, refused3, aboveMark, tableOf, tableResult, openingResult, wrapGroupAt, unwrapGroupAt, openGroupAt, NearlyFullIs};
 use groups::Day;
 use groups::GroupAnswer;
 use sanse::Session;
@@ -20,6 +20,15 @@ pub struct NearlyFull {
     pub group: usize,
 }
 
+// ---- the day
+
+// Before the first day both numbers are 0.
+pub fn no_day() -> Day
+    ensures { λ r. ⌜ r ≡ noDay ⌝ }
+{
+    groups::no_day()
+}
+
 // A day begins: any allowance, and a count of 0. It is never refused.
 pub fn start_day(allowance: u32) -> Day
     ensures { λ r. ⌜ r ≡ newDay allowance ⌝ }
@@ -27,25 +36,39 @@ pub fn start_day(allowance: u32) -> Day
     groups::start_day(allowance)
 }
 
+// ---- check 3
+
+// Whether a table of some records has no such group.
+fn no_group(records: usize, group: usize) -> bool
+    ensures { λ r. ⌜ r ≡ noGroup records group ⌝ }
+{
+    if records != GROUPS {
+        return true;
+    }
+    HIGHEST_GROUP < group
+}
+
+// Refused by 3: nothing counted, and the day as it was.
+fn refused3(day: Day) -> GroupAnswer
+    ensures { λ r. ⌜ r ≡ refused3 day ⌝ }
+{
+    GroupAnswer {
+        number: 3,
+        count: 0,
+        day,
+    }
+}
+
+// ---- calls for a group
+
 // Opens a group: a fresh session in the place of its record, which stays as it was where the call is refused. Checks 3, 4 and 10.
 pub fn open_group(table: &mut [Session], group: usize, day: Day, key: &[u8]) -> GroupAnswer
-    ensures { λ r. ⌜ openingResult r (now (table .exit)) ≡ openGroupAt day (sessionsOf (now (table .entry))) group (now (key .entry)) ⌝ }
+    ensures { λ r. ⌜ openingResult r (now (table .exit)) ≡ openGroupAt day (tableOf (now (table .entry))) group (now (key .entry)) ⌝ }
 {
-    if table.len() != GROUPS {
-        return GroupAnswer {
-            number: 3,
-            count: 0,
-            day,
-        };
+    if no_group(table.len(), group) {
+        return refused3(day);
     }
-    if HIGHEST_GROUP < group {
-        return GroupAnswer {
-            number: 3,
-            count: 0,
-            day,
-        };
-    }
-    let r = groups::group_open(table[group], day, key);
+    let r = groups::open(table[group], day, key);
     table[group] = r.session;
     r.answer
 }
@@ -61,24 +84,13 @@ pub fn wrap_group(
     tag: &mut [u8],
 ) -> GroupAnswer
     ensures { λ r. ⌜ tableResult r (now (table .exit)) (now (out .exit)) (now (tag .exit))
-        ≡ wrapGroupAt day (sessionsOf (now (table .entry))) group
+        ≡ wrapGroupAt day (tableOf (now (table .entry))) group
         (handed (now (metadata .entry)) (now (message .entry)) (now (out .entry)) (now (tag .entry))) ⌝ }
 {
-    if table.len() != GROUPS {
-        return GroupAnswer {
-            number: 3,
-            count: 0,
-            day,
-        };
+    if no_group(table.len(), group) {
+        return refused3(day);
     }
-    if HIGHEST_GROUP < group {
-        return GroupAnswer {
-            number: 3,
-            count: 0,
-            day,
-        };
-    }
-    let r = groups::group_wrap(table[group], day, metadata, message, out, tag);
+    let r = groups::wrap(table[group], day, metadata, message, out, tag);
     table[group] = r.session;
     r.answer
 }
@@ -94,27 +106,18 @@ pub fn unwrap_group(
     out: &mut [u8],
 ) -> GroupAnswer
     ensures { λ r. ⌜ tableResult r (now (table .exit)) (now (out .exit)) (now (tag .entry))
-        ≡ unwrapGroupAt day (sessionsOf (now (table .entry))) group
+        ≡ unwrapGroupAt day (tableOf (now (table .entry))) group
         (handed (now (metadata .entry)) (now (cryptogram .entry)) (now (out .entry)) (now (tag .entry))) ⌝ }
 {
-    if table.len() != GROUPS {
-        return GroupAnswer {
-            number: 3,
-            count: 0,
-            day,
-        };
+    if no_group(table.len(), group) {
+        return refused3(day);
     }
-    if HIGHEST_GROUP < group {
-        return GroupAnswer {
-            number: 3,
-            count: 0,
-            day,
-        };
-    }
-    let r = groups::group_unwrap(table[group], day, metadata, cryptogram, tag, out);
+    let r = groups::unwrap(table[group], day, metadata, cryptogram, tag, out);
     table[group] = r.session;
     r.answer
 }
+
+// ---- the nearly-full question
 
 // Whether a session is open with an index above the mark.
 fn above_mark(s: Session, mark: u32) -> bool
@@ -128,7 +131,7 @@ fn above_mark(s: Session, mark: u32) -> bool
 
 // The nearly-full question: names a group that is open with an index above the mark, or says that there is none. Check 3.
 pub fn nearly_full(table: &[Session], mark: u32) -> NearlyFull
-    ensures { λ r. ⌜ NearlyFullIs (sessionsOf (now (table .entry))) mark r ⌝ }
+    ensures { λ r. ⌜ NearlyFullIs (tableOf (now (table .entry))) mark r ⌝ }
 {
     if table.len() != GROUPS {
         return NearlyFull {

@@ -15,7 +15,7 @@ use denote.Triple.Clauses.{AtExit}
 use denote.Triple.Entry.{Args, Res}
 use Rattle.sanse.specs.Session.{handed}
 use Rattle.groups.specs.Groups.{noDay, newDay}
-use Rattle.office.specs.Table.{sessionsOf, tableResult, openingResult, wrapGroupAt, unwrapGroupAt, openGroupAt, NearlyFullIs}
+use Rattle.office.specs.Table.{tableOf, tableResult, openingResult, wrapGroupAt, unwrapGroupAt, openGroupAt, NearlyFullIs}
 use Rattle.capi.specs.Found.{widened}
 use Rattle.capi.proofs.c_table.pevghazo_no_day as no-day
 use Rattle.capi.proofs.c_table.pevghazo_start_day as start-day
@@ -48,7 +48,7 @@ module _ {M : Type 1} (𝓤 : URA M) (H : Heap 𝓤) (A : Atoms 𝓤) (mem : Mem
   pub open-group-ensures : (κs : Lfts 2) (a : Args open-group.signature κs) (r : Res open-group.signature κs) (z : AtExit open-group.ended κs)
       → open-group.clauses 𝓤 H A mem run κs a .ensures tt r z
       ≡ connectives 𝓤 .⌜_⌝
-      (openingResult r (now (z .0)) ≡ openGroupAt (a .1 .1 .0) (sessionsOf (now (a .0))) (a .1 .0) (now (a .1 .1 .1 .0)))
+      (openingResult r (now (z .0)) ≡ openGroupAt (a .1 .1 .0) (tableOf (now (a .0))) (a .1 .0) (now (a .1 .1 .1 .0)))
   open-group-ensures κs a r z = refl
 
   pub wrap-group-asks : (κs : Lfts 5) (a : Args wrap-group.signature κs) → wrap-group.clauses 𝓤 H A mem run κs a .requires tt ≡ connectives 𝓤 .⊤ₛ
@@ -58,7 +58,7 @@ module _ {M : Type 1} (𝓤 : URA M) (H : Heap 𝓤) (A : Atoms 𝓤) (mem : Mem
       → wrap-group.clauses 𝓤 H A mem run κs a .ensures tt r z
       ≡ connectives 𝓤 .⌜_⌝
       (tableResult r (now (z .0)) (now (z .1 .1 .1 .1 .1 .0)) (now (z .1 .1 .1 .1 .1 .1 .0))
-      ≡ wrapGroupAt (a .1 .1 .0) (sessionsOf (now (a .0))) (a .1 .0)
+      ≡ wrapGroupAt (a .1 .1 .0) (tableOf (now (a .0))) (a .1 .0)
       (handed (now (a .1 .1 .1 .0)) (now (a .1 .1 .1 .1 .0)) (now (a .1 .1 .1 .1 .1 .0)) (now (a .1 .1 .1 .1 .1 .1 .0))))
   wrap-group-ensures κs a r z = refl
 
@@ -69,7 +69,7 @@ module _ {M : Type 1} (𝓤 : URA M) (H : Heap 𝓤) (A : Atoms 𝓤) (mem : Mem
       → unwrap-group.clauses 𝓤 H A mem run κs a .ensures tt r z
       ≡ connectives 𝓤 .⌜_⌝
       (tableResult r (now (z .0)) (now (z .1 .1 .1 .1 .1 .1 .0)) (now (a .1 .1 .1 .1 .1 .0))
-      ≡ unwrapGroupAt (a .1 .1 .0) (sessionsOf (now (a .0))) (a .1 .0)
+      ≡ unwrapGroupAt (a .1 .1 .0) (tableOf (now (a .0))) (a .1 .0)
       (handed (now (a .1 .1 .1 .0)) (now (a .1 .1 .1 .1 .0)) (now (a .1 .1 .1 .1 .1 .1 .0)) (now (a .1 .1 .1 .1 .1 .0))))
   unwrap-group-ensures κs a r z = refl
 
@@ -78,5 +78,5 @@ module _ {M : Type 1} (𝓤 : URA M) (H : Heap 𝓤) (A : Atoms 𝓤) (mem : Mem
 
   pub nearly-full-ensures : (κs : Lfts 1) (a : Args nearly-full.signature κs) (r : Res nearly-full.signature κs) (z : AtExit nearly-full.ended κs)
       → nearly-full.clauses 𝓤 H A mem run κs a .ensures tt r z
-      ≡ connectives 𝓤 .⌜_⌝ (NearlyFullIs (sessionsOf (now (a .0))) (a .1 .0) (widened r))
+      ≡ connectives 𝓤 .⌜_⌝ (NearlyFullIs (tableOf (now (a .0))) (a .1 .0) (widened r))
   nearly-full-ensures κs a r z = refl

@@ -30,7 +30,7 @@ use denote.Triple.Entry.{Args, alive}
 use denote.Triple.Spec.{Meets, tripleOf}
 use denote.Triple.Table.{entered, cited}
 use denote.Triple.Walked.{says}
-use Rattle.office.specs.Table.{NearlyFullIs, sessionsOf}
+use Rattle.office.specs.Table.{NearlyFullIs, tableOf}
 use Rattle.office.specs.declared.NearlyFull.{NearlyFull}
 use Rattle.capi.specs.Found.{narrowed, widened}
 use Rattle.capi.specs.declared.c_table.Found.{Found}
@@ -78,7 +78,7 @@ module _ {M : Type 1} (𝓤 : URA M) (H : Heap 𝓤) (A : Atoms 𝓤) (W : Given
 
     -- what is known of the table's answer
     abbrev Answers : NearlyFull → Type 0
-    Answers r = NearlyFullIs (sessionsOf (a .0 .now)) (a .1 .0) r
+    Answers r = NearlyFullIs (tableOf (a .0 .now)) (a .1 .0) r
 
     abbrev to-narrow : NearlyFull → Val → Narrow 𝓤 H A at-mem run .Ghost
     to-narrow r v = ((tt, tt, tt, (r, tt), (v ∷ [], tt)), tt)

@@ -1,9 +1,9 @@
--- `groups::group_open` meets its contract. Assumes nothing.
+-- `groups::open` meets its contract. Assumes nothing.
 use denote.Ref.{now}
 use borrow.Author.Needs.{needs}
 use Rattle.groups.proofs.Laws.{open-short, open-long, open-above, open-fits, open-charged}
-use Rattle.groups.proofs.group_open.Statement.{statement}
-use Rattle.groups.proofs.group_open.Tie as tie
+use Rattle.groups.proofs.open.Statement.{statement}
+use Rattle.groups.proofs.open.Tie as tie
 
 returns : tie.Need-returns
 returns c = open-short _ _ _ _ (c .before .if1 .taken) (c .refused .ensures)
@@ -26,5 +26,5 @@ returns-4 c =
     open-charged _ _ _ (c .before .before .before .before .before .if1 .left) (c .before .before .before .before .if2 .left) _ (c .before .before .before .above-allowance .ensures) _ _ (c .before .before .if3 .left)
     (c .before .start .ensures) (c .charged .ensures)
 
-pub group-open-spec : {M : Type 1} → statement M
-group-open-spec = tie.close (tie.spec (λ c κs. search needs) returns (λ c κs. search needs) returns-2 (λ c κs. search needs) (λ c κs. search needs) returns-3 (λ c κs. search needs) charged-requires returns-4)
+pub open-spec : {M : Type 1} → statement M
+open-spec = tie.close (tie.spec (λ c κs. search needs) returns (λ c κs. search needs) returns-2 (λ c κs. search needs) (λ c κs. search needs) returns-3 (λ c κs. search needs) charged-requires returns-4)

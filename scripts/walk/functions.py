@@ -1,0 +1,103 @@
+"""The functions whose walks are written by these scripts."""
+from lent import Lent, Small, Table
+
+# ---- over a lent record: session
+
+
+def session(function, params, core_args, gives, says, uses):
+    """A function of the crate `session`: its answer is the number and the count of what the core gives."""
+    return Lent(
+        path=f'session::{function}', core=f'sanse::{function}', record='sanse::Session', result='sanse::CallResult', session=('session', 2),
+        answer='session::Answer', answer_field=None, answer_parts=[('number', 0), ('count', 1)],
+        params=[('s', 'record')] + params, core_args=core_args, gives=gives, says=says, proof='e', uses=uses,
+        environment='Rattle.session.proofs.Env',
+    )
+
+
+SESSION = [
+    session(
+        'start', [('key', 'bytes')], ['key'],
+        'startResult r ≡ startAt key',
+        'Started key res s′',
+        '''use Rattle.modes.specs.Rules.{startAt}
+use Rattle.sanse.specs.Session.{startResult}
+use Rattle.session.specs.Lent.{Started}'''),
+    session(
+        'wrap', [('metadata', 'bytes'), ('message', 'bytes'), ('out', 'buffer'), ('tag', 'buffer')], ['s', 'metadata', 'message', 'out', 'tag'],
+        'callResult r out′ tag′ ≡ wrapAt sanse incremental (stateOf h) (handed metadata message out tag)',
+        'Wrapped s (handed metadata message out tag) res s′ out′ tag′',
+        '''use Rattle.modes.specs.Mode.{sanse, incremental}
+use Rattle.modes.specs.Rules.{wrapAt}
+use Rattle.sanse.specs.Session.{stateOf, callResult, handed}
+use Rattle.session.specs.Lent.{Wrapped}'''),
+    session(
+        'unwrap', [('metadata', 'bytes'), ('cryptogram', 'bytes'), ('tag', 'bytes'), ('out', 'buffer')], ['s', 'metadata', 'cryptogram', 'tag', 'out'],
+        'callResult r out′ tag ≡ unwrapAt sanse incremental (stateOf h) (handed metadata cryptogram out tag)',
+        'Unwrapped s (handed metadata cryptogram out tag) res s′ out′ tag',
+        '''use Rattle.modes.specs.Mode.{sanse, incremental}
+use Rattle.modes.specs.Rules.{unwrapAt}
+use Rattle.sanse.specs.Session.{stateOf, callResult, handed}
+use Rattle.session.specs.Lent.{Unwrapped}'''),
+]
+
+# ---- over one record of a lent table: office
+
+IN_TABLE = '(unmet e-no-group has)'                 # check 3 is not met
+NO_GROUP = '(met e-no-group none)'                  # it is
+
+
+def office(function, core, params, gives, says, law, uses):
+    """A function of the crate `office`. `law` is what its two laws, LAW-refused and LAW-stored, are cited with."""
+    name, given = law
+    return Lent(
+        path=f'office::{function}', core=f'groups::{core}', record='sanse::Session', result='groups::GroupResult', session=('session', 0),
+        answer='groups::GroupAnswer', answer_field=('answer', 1), answer_parts=[],
+        params=[('table', 'table'), ('g', 'usize'), ('day', 'groups::Day')] + params, core_args=['table', 'day'] + [one for one, _ in params],
+        gives=gives, says=says, proof=f'({name}-stored {given} ys g {IN_TABLE} r e)',
+        uses=uses + f'''
+use Rattle.office.proofs.Laws.{{met, unmet, inside, start-fits, {name}-refused, {name}-stored}}''',
+        environment='Rattle.session.proofs.Env',
+        small=[Small('office::no_group', 'bool', '{r} ≡ noGroup {0} {1}'), Small('office::refused3', 'groups::GroupAnswer', '{r} ≡ refused3 {0}')],
+        table=Table(
+            index='g', record_size=104, past_end='zeroRecord',
+            inside=f'inside (length ys) g {IN_TABLE}', fits=f'start-fits (length ys) g {IN_TABLE}',
+            refused=f'{name}-refused {given} ys g {NO_GROUP} r-refused3 e-refused3'),
+    )
+
+
+OFFICE = [
+    office(
+        'open_group', 'open', [('key', 'bytes')],
+        'groupOpeningResult r ≡ openOnDay day (stateOf h) key',
+        'openingResult res table′ ≡ openGroupAt day (tableOf table) g key',
+        ('open', 'day (x-key .now)'),
+        '''use Rattle.sanse.specs.Session.{stateOf}
+use Rattle.groups.specs.Groups.{openOnDay, groupOpeningResult}
+use Rattle.office.specs.Table.{noGroup, refused3, openGroupAt, zeroRecord, tableOf, openingResult}'''),
+    office(
+        'wrap_group', 'wrap', [('metadata', 'bytes'), ('message', 'bytes'), ('out', 'buffer'), ('tag', 'buffer')],
+        'groupResult r out′ tag′ ≡ wrapOnDay day (stateOf h) (handed metadata message out tag)',
+        'tableResult res table′ out′ tag′ ≡ wrapGroupAt day (tableOf table) g (handed metadata message out tag)',
+        ('call', '(wrapAt sanse incremental) day (handed (x-metadata .now) (x-message .now) (x-out .now) (x-tag .now))'),
+        '''use Rattle.modes.specs.Mode.{sanse, incremental}
+use Rattle.modes.specs.Rules.{wrapAt}
+use Rattle.sanse.specs.Session.{stateOf, handed}
+use Rattle.groups.specs.Groups.{wrapOnDay, groupResult}
+use Rattle.office.specs.Table.{noGroup, refused3, wrapGroupAt, zeroRecord, tableOf, tableResult}'''),
+    office(
+        'unwrap_group', 'unwrap', [('metadata', 'bytes'), ('cryptogram', 'bytes'), ('tag', 'bytes'), ('out', 'buffer')],
+        'groupResult r out′ tag ≡ unwrapOnDay day (stateOf h) (handed metadata cryptogram out tag)',
+        'tableResult res table′ out′ tag ≡ unwrapGroupAt day (tableOf table) g (handed metadata cryptogram out tag)',
+        ('call', '(unwrapAt sanse incremental) day (handed (x-metadata .now) (x-cryptogram .now) (x-out .now) (x-tag .now))'),
+        '''use Rattle.modes.specs.Mode.{sanse, incremental}
+use Rattle.modes.specs.Rules.{unwrapAt}
+use Rattle.sanse.specs.Session.{stateOf, handed}
+use Rattle.groups.specs.Groups.{unwrapOnDay, groupResult}
+use Rattle.office.specs.Table.{noGroup, refused3, unwrapGroupAt, zeroRecord, tableOf, tableResult}'''),
+]
+
+# ---- that hand all their parameters on: capi
+
+PASSING = (
+    [f'capi::c_session::pevghazo_{function}' for function in ('start', 'wrap', 'unwrap')]
+    + [f'capi::c_table::pevghazo_{function}' for function in ('open_group', 'wrap_group', 'unwrap_group')])

@@ -1,0 +1,182 @@
+"""The walk of a function over a lent record, or over one record of a lent table.
+
+The shapes, beside other parameters:
+    fn f(s: &mut S, ..) -> R       { let r = core(*s, ..); *s = r.session; R of r's fields }
+    fn f(table: &mut [S], g: usize, ..) -> R
+        { if test(table.len(), g) { return refusal(..); } let r = core(table[g], ..); table[g] = r.session; r.answer }
+`core` takes the record by value. `test` and `refusal` are small functions: of numbers, bools and plain structs.
+
+Here are the configuration, `Lent`, and the terms that stand for the function's parameters; `lent_walk.py` has the walk itself, which follows
+the MIR, and `lent_file.py` the proof file around it.
+"""
+from dataclasses import dataclass, field
+from typing import Optional
+
+import mir
+from text import last, subscript
+
+WIDTHS = {'u8': 8, 'u16': 16, 'u32': 32, 'u64': 64, 'usize': 64}
+
+
+@dataclass
+class Small:
+    """A small function by value that is called beside the core."""
+    path: str                        # crate::name
+    result: str                      # 'bool', or the path of a struct: the function's own result
+    ensures: str                     # its clause: {r} is its result, {0}, {1} .. its arguments
+
+
+@dataclass
+class Table:
+    """Where the record is one of a lent table. The terms may name the results r-NAME of the small functions, the facts e-NAME that they ensure,
+    and in the arms of the test `none` and `has`, that it holds or not."""
+    index: str                       # the parameter that is the record's place
+    record_size: int                 # the bytes of a record
+    past_end: str                    # the record that a place past the table's end is taken to hold
+    inside: str                      # the place is below the table's length
+    fits: str                        # the byte at which the record begins is a usize
+    refused: str                     # what f ensures, where the test refuses
+
+
+@dataclass
+class Lent:
+    """The configuration of a function."""
+    path: str                        # crate::name
+    core: str                        # the function by value
+    record: str                      # the path of S
+    result: str                      # the path of the struct that the core gives
+    session: tuple                   # its field that is the new record: (name, number)
+    answer: str                      # the path of R
+    answer_field: Optional[tuple]    # R is this field of the core's result, (name, number) ..
+    answer_parts: list               # .. or is made of these, [(name, number)]
+    params: list                     # [(name, kind)]; 'record': &mut S, 'table': &mut [S], 'bytes': &[u8], 'buffer': &mut [u8], 'bool', u8 .. usize, or the path of a struct
+    core_args: list                  # the core's parameters by the names of these; the lent one stands for the record's copy
+    uses: str                        # imports for the clauses and the terms
+    gives: str                       # what the core ensures: h is the record, r the result; a buffer's last contents have a prime
+    says: str                        # what f ensures: res is the result; what the lent one and the buffers hold last has a prime
+    proof: str                       # `says`, from e : `gives`
+    environment: str                 # the module of `envAt`
+    small: list = field(default_factory=list)       # the small functions that it calls
+    table: Optional[Table] = None
+
+
+class Terms:
+    """The parameters of a function, and the terms for them."""
+
+    def __init__(self, config, program):
+        self.config = config
+        self.crate = config.path.split('::')[0]
+        self.function = mir.Function(program, config.path)
+        self.count = len(self.function.locals)                     # the locals, the result and the parameters among them
+        self.kind = dict(config.params)
+        self.names = [name for name, _ in config.params]
+        self.lent = next(name for name, kind in config.params if kind in ('record', 'table'))
+        self.table = config.table
+        # a parameter's local, and the lifetime of a reference by its place among the lifetimes
+        self.local_of = {name: place + 1 for place, name in enumerate(self.names)}
+        self.refs = self.of_kind('record', 'table', 'bytes', 'buffer')
+        self.lifetime = {name: place for place, name in enumerate(self.refs)}
+        self.slices = self.of_kind('bytes', 'buffer')
+        self.integers = self.of_kind(*WIDTHS)
+        self.structs = [name for name in self.names if '::' in self.kind[name]]
+        self.plain = [name for name in self.names if name not in self.refs]
+        self.struct_module = {name: f'D{place}' for place, name in enumerate(self.structs)}
+        # what the core is handed beside the record
+        self.core_refs = [name for name in config.core_args if name in self.slices]
+        self.core_buffers = [name for name in config.core_args if self.kind[name] == 'buffer']
+        self.core_plain = [name for name in config.core_args if name in self.plain]
+        self.S, self.O, self.R = last(config.record), last(config.result), last(config.answer)
+        # the record that the core gave, and the answer, of its result r
+        self.new_record = f'(r .{config.session[0]})'
+        self.answer = (f'(r .{config.answer_field[0]})' if config.answer_field else
+                       '(record { ' + '; '.join(f'{name} = r .{name}' for name, _ in config.answer_parts) + ' })')
+        # the context at a way out
+        self.front = [f'own-{self.lent}', f'tok-{self.lent}'] if self.table else ['obs', 'bor', f'tok-{self.lent}']
+        self.exit_order = self.front + [f'tok-{name}' for name in self.core_refs] + [f'fin-{name}' for name in self.core_buffers]
+
+    # ---- names and terms
+
+    def of_kind(self, *kinds):
+        """The parameters of some kinds."""
+        return [name for name in self.names if self.kind[name] in kinds]
+
+    def κ(self, name):
+        """A reference's lifetime."""
+        return 'κ' + subscript(self.lifetime[name])
+
+    def q(self, name):
+        """The share of its token."""
+        return 'q' + subscript(self.lifetime[name])
+
+    def value(self, name):
+        """A parameter's value."""
+        if name == self.lent:
+            return 'x ys' if self.table else 'x'
+        return f'x-{name}' if name in self.slices else name
+
+    def machine(self, name):
+        """Its machine value."""
+        kind = self.kind[name]
+        if name == self.lent:
+            return 's' if self.table else 'vptr b o'
+        if name in self.slices:
+            return f's-{name}'
+        return self.machine_of(kind, name, name)
+
+    def machine_of(self, kind, name, value):
+        """The machine value of a number, a bool or a struct."""
+        if kind in WIDTHS:
+            return f'vint w{WIDTHS[kind]} {value}'
+        return f'vbool {value}' if kind == 'bool' else f'(mach-{name} {value})'
+
+    def type_of(self, name):
+        """A parameter's type, at its lifetime."""
+        kind = self.kind[name]
+        if kind in WIDTHS:
+            return kind
+        if kind == 'bool':
+            return 'Boolean'
+        if name in self.structs:
+            return f'{self.struct_module[name]}.the-row'
+        shape = {'record': 'MutRef', 'table': 'MutSlice', 'bytes': 'ShrSlice', 'buffer': 'MutSlice'}[kind]
+        return f"{shape} (named {self.lifetime[name]}) {self.κ(name)} {'T.the-row' if name == self.lent else 'u8'}"
+
+    def denoted(self, name):
+        """The type of its value."""
+        kind = self.kind[name]
+        if name in self.refs:
+            return {'record': f'RefT {self.S}', 'table': f'RefT (List {self.S})'}.get(kind, 'RefT (List ℕ)')
+        return 'Bool' if kind == 'bool' else last(kind) if name in self.structs else 'ℕ'
+
+    def owns(self, kind, value, known, name=None):
+        """A step that makes what a number, a bool or a struct owns."""
+        if kind == 'bool':
+            return f'owned ! Boolean (Is Boolean) (bool-makes 𝓤 H A W) {value} _ refl'
+        if kind in WIDTHS:
+            return f'owned ! {kind} (Is {kind}) (uint-makes 𝓤 H A W w{WIDTHS[kind]}) {value} _ (refl, {known})'
+        module = self.struct_module[name]
+        return f'owned ! {module}.the-row (Is {module}.the-row) (LL.makes {module}.the-type {module}′.the-plain 𝓤 H A) {value} _ {known}'
+
+    def known(self, name):
+        """That a plain parameter's value is one of its type."""
+        return f'{name}-fits' if name in self.integers else f'{name}-is'
+
+    def contents(self):
+        """What the slices hold that the core is handed."""
+        return [f'(x-{name} .now)' for name in self.core_refs]
+
+    def answer_value(self, term):
+        """The machine value of an answer."""
+        return f'(only (LL.vals R.the-type R′.the-laws {term}))'
+
+    def is_answer(self, term):
+        """That it is one of its type."""
+        return f'Is R.the-row {term} ({self.answer_value(term)} ∷ [])'
+
+    def typed(self, module, value, known):
+        """That the machine value of a struct has its type."""
+        return f'(LL.lawful {module}.the-type {module}′.the-laws 𝓤 H A W .typed {value} _ {known} .0)'
+
+    def environment(self):
+        """The locals' places."""
+        return 'E ' + ' '.join(f'l{subscript(number)}' for number in range(self.count))
