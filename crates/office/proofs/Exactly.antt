@@ -17,7 +17,7 @@ use Rattle.groups.specs.declared.Day.{Day}
 use Rattle.groups.specs.Groups.{addCount, aboveAllowance, then10, groupCheck, charged, onDay, openedUnless, openOnDay}
 use Rattle.groups.proofs.Counts.{wrap-count, unwrap-count}
 use Rattle.office.specs.Table.{Table, noGroup, sessionAt, TableOutcome, TableOpening, refusedBy, writtenBack, callGroupAt, wrapGroupAt, openGroupAt}
-use Rattle.office.specs.Exactly.{Check3, Check10, NoneBefore11, CallExactly, WrapExactly, UnwrapExactly, OpenExactly}
+use Rattle.office.specs.Exactly.{Check3, Check10, NoCheckMet, CallExactly, WrapGroupExactly, UnwrapGroupExactly, OpenExactly}
 
 -- ---- the tests as statements
 
@@ -85,7 +85,7 @@ module _ (day : Day) (t : Table) (g : ℕ) (i : CallInput) where
   first = checkNumber sanse incremental (sessionAt t g) i
 
   -- what is asked of the outcome `lone` of a lone call that meets none of 5 to 9
-  pub record Ends (lone : Outcome DeckState) : Type 0 where
+  pub record Worked (lone : Outcome DeckState) : Type 0 where
     pub number : (lone .number ≡ 0) ⊎ ((lone .number ≡ 11) × (lone .session ≡ sessionAt t g))
     pub count : lone .count ≡ countOf sanse incremental i
 
@@ -93,7 +93,7 @@ module _ (day : Day) (t : Table) (g : ℕ) (i : CallInput) where
     -- refused by n, where n is neither 0 nor 11: nothing is altered
     stops : (n : ℕ) → n ≢ 0 → n ≢ 11 → (n ≡ 3) ↔ Check3 t g → ((Check3 t g → ⊥) → first ≢ 0 → n ≡ first)
         → (5 ≤ n → n ≤ 9 → (Check3 t g → ⊥) × (first ≡ n))
-        → (n ≡ 10) ↔ ((Check3 t g → ⊥) × (first ≡ 0) × Check10 day (countOf sanse incremental i)) → (NoneBefore11 day t g i → ⊥)
+        → (n ≡ 10) ↔ ((Check3 t g → ⊥) × (first ≡ 0) × Check10 day (countOf sanse incremental i)) → (NoCheckMet day t g i → ⊥)
         → CallExactly day t g i lone (refusedBy n day t i)
     stops n n0 n11 three five-to-nine only ten some =
         record {
@@ -132,7 +132,7 @@ module _ (day : Day) (t : Table) (g : ℕ) (i : CallInput) where
           (λ _. (λ c. apart t g in3 c, e, above), λ _. refl) (λ z. z .ten above)
 
       -- the work was done: number 0 or 11
-      done : NoneBefore11 day t g i → Ends lone → CallExactly day t g i lone (writtenBack t g (charged day lone))
+      done : NoCheckMet day t g i → Worked lone → CallExactly day t g i lone (writtenBack t g (charged day lone))
       done clear r =
           record {
             three = (λ z. absurd (other z (omega arith) (omega arith)), λ c. absurd (clear .three c));
@@ -169,7 +169,7 @@ module _ (day : Day) (t : Table) (g : ℕ) (i : CallInput) where
       stays n = ap₂ (λ (d : Day) (u : Table). record { number = n; count = 0; day = d; table = u; out = i .out; tag = i .tag }) (no-count day) (set-getD t g closed)
 
       -- by the first of 5 to 9, then by 10
-      after3 : (first ≡ 0 → Ends lone) → CallExactly day t g i lone (writtenBack t g (onDay day (sessionAt t g) i lone))
+      after3 : (first ≡ 0 → Worked lone) → CallExactly day t g i lone (writtenBack t g (onDay day (sessionAt t g) i lone))
       unfolding onDay groupCheck
       after3 ends = go first refl (check-range (sessionAt t g) i)
         where
@@ -186,7 +186,7 @@ module _ (day : Day) (t : Table) (g : ℕ) (i : CallInput) where
           go (suc n) e (inr z) = subst (CallExactly day t g i lone) (sym (stays (suc n))) (by-check (suc n) e (omega (arith, e, z .0)) (omega (arith, e, z .1)))
 
     -- by check 3
-    exactly : (first ≡ 0 → Ends lone) → CallExactly day t g i lone (callGroupAt day t g i lone)
+    exactly : (first ≡ 0 → Worked lone) → CallExactly day t g i lone (callGroupAt day t g i lone)
     unfolding callGroupAt
     exactly ends = go (noGroup (length t) g) (told3 t g)
       where
@@ -205,7 +205,7 @@ module _ (day : Day) (t : Table) (g : ℕ) (i : CallInput) where
   wrap-call : CallExactly day t g i (wrapAt sanse incremental (sessionAt t g) i) (wrapGroupAt day t g i)
   wrap-call = exactly (wrapAt sanse incremental (sessionAt t g) i) (λ e. record { number = inl (wrap-number e); count = wrap-count (sessionAt t g) i e })
 
-  pub wrap-exactly : WrapExactly day t g i
+  pub wrap-exactly : WrapGroupExactly day t g i
   wrap-exactly =
       record {
         call = wrap-call;
@@ -230,7 +230,7 @@ module _ (day : Day) (t : Table) (g : ℕ) (i : CallInput) where
       go true = inl refl
       go false = inr (refl, refl)
 
-  pub unwrap-exactly : UnwrapExactly day t g i
+  pub unwrap-exactly : UnwrapGroupExactly day t g i
   unwrap-exactly =
       exactly (unwrapAt sanse incremental (sessionAt t g) i) (λ e. record { number = unwrap-number e; count = unwrap-count (sessionAt t g) i e })
 

@@ -28,7 +28,7 @@ Check10 day count = day .allowance < day .spent + count
 -- ---- wrap and unwrap for a group
 
 -- a call meets none of 3 and 5 to 10 (`checkNumber` of the modes' rules gives the first of 5 to 9 that the group's own session meets, or 0)
-pub record NoneBefore11 (day : Day) (t : Table) (group : ℕ) (i : CallInput) : Type 0 where
+pub record NoCheckMet (day : Day) (t : Table) (group : ℕ) (i : CallInput) : Type 0 where
   pub three : Check3 t group → ⊥
   pub five-to-nine : checkNumber sanse incremental (sessionAt t group) i ≡ 0
   pub ten : Check10 day (countOf sanse incremental i) → ⊥
@@ -44,11 +44,11 @@ pub record CallExactly (day : Day) (t : Table) (group : ℕ) (i : CallInput) (lo
   -- a refusal by another number than 11 has count 0 and alters nothing
   pub unaltered : o .number ≢ 0 → o .number ≢ 11 → o ≡ refusedBy (o .number) day t i
   -- 0 or 11 is given if and only if none of the others is met, and then
-  pub none : ((o .number ≡ 0) ⊎ (o .number ≡ 11)) ↔ NoneBefore11 day t group i
+  pub none : ((o .number ≡ 0) ⊎ (o .number ≡ 11)) ↔ NoCheckMet day t group i
   -- the call gives what the lone call gives, its session in the group's place, its count added
-  pub worked : NoneBefore11 day t group i → o ≡ writtenBack t group (charged day lone)
+  pub worked : NoCheckMet day t group i → o ≡ writtenBack t group (charged day lone)
   -- and the count is the real one
-  pub counted : NoneBefore11 day t group i → o .count ≡ countOf sanse incremental i
+  pub counted : NoCheckMet day t group i → o .count ≡ countOf sanse incremental i
   -- number 11 has the real count too, and leaves the records
   pub eleven : o .number ≡ 11 → (o .count ≡ countOf sanse incremental i) × (o .table ≡ t)
   -- the call's count is added to the day's
@@ -58,13 +58,13 @@ pub record CallExactly (day : Day) (t : Table) (group : ℕ) (i : CallInput) (lo
   pub size : length (o .table) ≡ length t
 
 -- a wrap, which never gets 11
-pub record WrapExactly (day : Day) (t : Table) (group : ℕ) (i : CallInput) : Type 0 where
+pub record WrapGroupExactly (day : Day) (t : Table) (group : ℕ) (i : CallInput) : Type 0 where
   pub call : CallExactly day t group i (wrapAt sanse incremental (sessionAt t group) i) (wrapGroupAt day t group i)
   pub never-11 : wrapGroupAt day t group i .number ≢ 11
 
 -- an unwrap, which gets 11 where the lone one does
-abbrev pub UnwrapExactly : Day → Table → (group : ℕ) → CallInput → Type 0
-UnwrapExactly day t group i = CallExactly day t group i (unwrapAt sanse incremental (sessionAt t group) i) (unwrapGroupAt day t group i)
+abbrev pub UnwrapGroupExactly : Day → Table → (group : ℕ) → CallInput → Type 0
+UnwrapGroupExactly day t group i = CallExactly day t group i (unwrapAt sanse incremental (sessionAt t group) i) (unwrapGroupAt day t group i)
 
 -- ---- opening a group
 
