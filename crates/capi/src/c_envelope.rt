@@ -1,9 +1,9 @@
 // Envelopes: where the parts of one stand, and the bytes of one.
 ghost use mathlib.Core.Path.{_≡_};
 ghost use Rattle.envelope.specs.Read.{readParts};
-ghost use Rattle.envelope.specs.Write.{writeAnswer, writeBuffer};
+ghost use Rattle.envelope_write.specs.Write.{writeAnswer, writeBuffer};
 use envelope::Parts;
-use envelope::WriteResult;
+use envelope_write::WriteResult;
 
 // Where the parts of the envelope at the start of some bytes begin, and the place after it. Checks 1 and 2.
 #[no_mangle]
@@ -25,5 +25,5 @@ pub extern "C" fn pevghazo_write_envelope(
     ensures { λ r. ⌜ (r ≡ writeAnswer group (now (metadata .entry)) (now (cryptogram .entry)) (now (tag .entry)) (now (out .entry)))
         × (now (out .exit) ≡ writeBuffer group (now (metadata .entry)) (now (cryptogram .entry)) (now (tag .entry)) (now (out .entry))) ⌝ }
 {
-    envelope::write_envelope(group, metadata, cryptogram, tag, out)
+    envelope_write::write_envelope(group, metadata, cryptogram, tag, out)
 }

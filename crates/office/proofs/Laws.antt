@@ -8,7 +8,7 @@ use native.Mathlib.Omega.{arith}
 use lib.Dec.{T as Holds, ltb, eqb}
 use lib.ListN.{length, getD, set, length-map, List·getD-map}
 use borrow.Author.Tests.{ltb-false, eqb-true, eq-eqb, ne-eqb}
-use Rattle.xoofff.specs.declared.DeckState.{DeckState}
+use Rattle.deck.specs.declared.DeckState.{DeckState}
 use Rattle.modes.specs.Call.{CallInput}
 use Rattle.modes.specs.Rules.{SessionState, Outcome}
 use Rattle.sanse.specs.declared.Session.{Session}

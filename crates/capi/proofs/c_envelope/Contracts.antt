@@ -14,7 +14,7 @@ use denote.Ref.{now}
 use denote.Triple.Clauses.{AtExit}
 use denote.Triple.Entry.{Args, Res}
 use Rattle.envelope.specs.Read.{readParts}
-use Rattle.envelope.specs.Write.{writeAnswer, writeBuffer}
+use Rattle.envelope_write.specs.Write.{writeAnswer, writeBuffer}
 use Rattle.capi.proofs.c_envelope.pevghazo_read_envelope as read-envelope
 use Rattle.capi.proofs.c_envelope.pevghazo_write_envelope as write-envelope
 
