@@ -37,8 +37,8 @@ fn show(r: CallResult, out: &[u8], tag: &[u8]) {
     number(if s.toggle { 1 } else { 0 }, b"\n");
     line(out);
     line(tag);
-    line(&xoodoo::to_bytes(&acc));
-    line(&xoodoo::to_bytes(&mask));
+    line(&state::to_bytes(&acc));
+    line(&state::to_bytes(&mask));
 }
 
 // Carries a record out, and gives the session after it.

@@ -10,8 +10,8 @@ use lib.ListN.{length}
 use Rattle.word.specs.Lists.{sum}
 use Rattle.word.proofs.Lists.{sum-length}
 use Rattle.xoodoo.specs.Xoodoo.{perm}
-use Rattle.xoodoo.specs.Rolling.{rollIn}
-use Rattle.xoodoo.specs.Bytes.{fromBytes}
+use Rattle.rolling.specs.Rolling.{rollIn}
+use Rattle.state.specs.Bytes.{fromBytes}
 use Rattle.xoodoo.proofs.Facts.{perm-length, rollIn-length, fromString-length, stateByte-lt}
 use Rattle.xoofff.specs.Strings.{Str, blocks, block, b}
 use Rattle.xoofff.specs.Leaves.{closedBy, frameBits}

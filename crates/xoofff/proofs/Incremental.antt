@@ -9,8 +9,8 @@ use native.Mathlib.Omega.{arith}
 use lib.ListN.{length}
 use Rattle.word.specs.Lists.{sum}
 use Rattle.xoodoo.specs.Xoodoo.{perm}
-use Rattle.xoodoo.specs.Rolling.{rollIn}
-use Rattle.xoodoo.specs.Bytes.{fromBytes}
+use Rattle.rolling.specs.Rolling.{rollIn}
+use Rattle.state.specs.Bytes.{fromBytes}
 use Rattle.xoofff.specs.Strings.{Str, blocks}
 use Rattle.xoofff.specs.declared.DeckState.{DeckState}
 use Rattle.xoofff.specs.Deck.{iterate, zeros, keyMask, maskAt, addBlocks, addHistory, indexOf, indexGrowth, accumulator, outputMask, deck}

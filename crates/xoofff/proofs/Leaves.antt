@@ -11,8 +11,8 @@ use lib.Seq.{getD-set-same, getD-set-other, getD-append-seam, ext-getD}
 use Rattle.word.specs.Lists.{tabulate, sum}
 use Rattle.word.proofs.Lists.{Filled, filled-more, tabulate-is, tabulate-at, tabulate-length, sum-at, sum-length}
 use Rattle.xoodoo.specs.Xoodoo.{perm}
-use Rattle.xoodoo.specs.Rolling.{rollIn, rollOut}
-use Rattle.xoodoo.specs.Bytes.{stateByte, toBytes}
+use Rattle.rolling.specs.Rolling.{rollIn, rollOut}
+use Rattle.state.specs.Bytes.{stateByte, toBytes}
 use Rattle.xoofff.specs.declared.DeckState.{DeckState}
 use Rattle.xoofff.specs.declared.Compressed.{Compressed}
 use Rattle.xoofff.specs.Strings.{Str, block, blocks}

@@ -4,7 +4,7 @@ use mathlib.Core.List.{List}
 use Prim.Native.Nat.{ℕ, _+_, _*_, _/_, _%_, _<_}
 use native.Mathlib.Omega.{arith}
 use Rattle.word.specs.Word.{bit}
-use Rattle.xoodoo.specs.Bytes.{stringBit}
+use Rattle.state.specs.Bytes.{stringBit}
 use Rattle.xoodoo.proofs.Facts.{stateByte-bit}
 use Rattle.xoofff.specs.Deck.{outputBlock, outputByte}
 

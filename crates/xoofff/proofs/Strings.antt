@@ -13,9 +13,9 @@ use Rattle.word.specs.Word.{bit}
 use Rattle.word.specs.Lists.{tabulate}
 use Rattle.word.proofs.Bit.{bit-above, word-ext}
 use Rattle.word.proofs.Lists.{tabulate-at, Words}
-use Rattle.xoodoo.specs.State.{bits}
-use Rattle.xoodoo.specs.Bytes.{stateOf, fromString, stringBit, byteBit, fromBytes, stateByte}
-use Rattle.xoodoo.proofs.Lanes.{lanes-ext, bits-of-lanes}
+use Rattle.state.specs.State.{bits}
+use Rattle.state.specs.Bytes.{stateOf, fromString, stringBit, byteBit, fromBytes, stateByte}
+use Rattle.state.proofs.Lanes.{lanes-ext, bits-of-lanes}
 use Rattle.xoofff.specs.Strings.{Str, bitsOfByte, bitsOfBytes, bitsOf, padded, blocks, block, b}
 use Rattle.xoofff.specs.Leaves.{closingByte, frameBits, closedBy}
 use Rattle.xoofff.proofs.Closing.{framed, frame-length, closing-frame, closing-bits}

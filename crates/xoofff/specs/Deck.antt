@@ -5,8 +5,8 @@ use Prim.Native.Nat.{ℕ, zero, suc, _+_, _/_, _%_}
 use lib.ListN.{replicate}
 use Rattle.word.specs.Lists.{tabulate, sum}
 use Rattle.xoodoo.specs.Xoodoo.{perm}
-use Rattle.xoodoo.specs.Rolling.{rollIn, rollOut}
-use Rattle.xoodoo.specs.Bytes.{stateByte}
+use Rattle.rolling.specs.Rolling.{rollIn, rollOut}
+use Rattle.state.specs.Bytes.{stateByte}
 use Rattle.xoofff.specs.Strings.{Str, block, blocks}
 
 -- f done n times

@@ -4,7 +4,7 @@ use mathlib.Core.List.{List, [], _∷_, _++_}
 use Prim.Native.Nat.{ℕ, zero, suc, _+_, _*_, _-_, _/_, _%_}
 use lib.ListN.{length, getD, replicate}
 use Rattle.word.specs.Word.{bit}
-use Rattle.xoodoo.specs.Bytes.{fromString}
+use Rattle.state.specs.Bytes.{fromString}
 
 -- a string: whole bytes, and the frame bits after them
 pub record Str : Type 0 where

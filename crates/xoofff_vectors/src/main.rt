@@ -27,7 +27,7 @@ fn parse(h: &[u8; 6]) -> Header {
 
 // A state on a line.
 fn print_state(s: [u32; 12]) {
-    let b = xoodoo::to_bytes(&s);
+    let b = state::to_bytes(&s);
     hexline::print_hex(&b);
     io::write_all(1, b"\n");
 }

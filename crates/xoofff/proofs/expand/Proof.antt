@@ -7,7 +7,7 @@ use native.Mathlib.Omega.{arith}
 use lib.ListN.{length}
 use denote.Ref.{now}
 use borrow.Author.Needs.{needs}
-use Rattle.xoodoo.specs.Rolling.{rollOut}
+use Rattle.rolling.specs.Rolling.{rollOut}
 use Rattle.xoofff.specs.Deck.{iterate}
 use Rattle.xoofff.specs.Leaves.{outputBlocks}
 use Rattle.xoofff.proofs.Leaves.{added-all, no-blocks, blocks-more, blocks-most, Expanded, expanded-none, expanded-more, place-more}

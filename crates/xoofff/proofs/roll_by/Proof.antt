@@ -3,7 +3,7 @@ use mathlib.Core.Path.{_≡_, refl, sym, ap, _∙_}
 use Prim.Native.Nat.{ℕ, _≤_, _-_}
 use native.Mathlib.Omega.{arith}
 use borrow.Author.Needs.{needs}
-use Rattle.xoodoo.specs.Rolling.{rollOut}
+use Rattle.rolling.specs.Rolling.{rollOut}
 use Rattle.xoofff.specs.Deck.{iterate}
 use Rattle.xoofff.proofs.Deck.{iterate-more}
 use Rattle.xoofff.proofs.roll_by.Statement.{statement}

@@ -3,17 +3,18 @@
 use mathlib.Core.Path.{_≡_, refl, sym, ap, _∙_}
 use mathlib.Core.Bool.{Bool}
 use mathlib.Core.List.{List, [], _∷_}
+use native.Mathlib.Nat.{mod-lt}
 use native.Mathlib.Omega.{arith}
 use lib.Dec.{lit<}
 use lib.Seq.{drop-cons}
-use Prim.Native.Nat.{ℕ, zero, suc, _+_, _^_, _<_}
+use Prim.Native.Nat.{ℕ, zero, suc, _+_, _-_, _%_, _^_, _<_}
 use lib.ListN.{getD, length, drop, drop-of-length-le}
 use mir.Syntax.{w32}
 use mir.Val.{Fits}
 use Rattle.word.specs.Word.{bit}
 use Rattle.word.proofs.Lists.{cons, Words}
 use Rattle.word.proofs.Bit.{Is, is-word, is-own, is-more, word-is, bit-ofBits, ofBits-lt}
-use Rattle.xoodoo.specs.State.{State, bits, lane, lanes, on}
+use Rattle.state.specs.State.{State, plane, shift, bits, lane, lanes, on}
 
 -- twelve words are the lanes of their bits
 pub lanes-are : (f : ℕ → ℕ → ℕ → Bool) {a b c d e g h i j k l m : ℕ}
@@ -119,6 +120,10 @@ lanes-words A =
 -- a step that looks only where a state has bits
 abbrev pub Local : (State → State) → Type 0
 Local F = (A B : State) → Agree A B → Agree (F A) (F B)
+
+-- a shifted plane is one
+pub shifted : (A B : State) → Agree A B → (y : ℕ) → y < 3 → (t v x z : ℕ) → shift t v (plane y A) x z ≡ shift t v (plane y B) x z
+shifted A B h y j t v x z = h ((x + (4 - t)) % 4) y ((z + (32 - v)) % 32) (mod-lt (x + (4 - t)) (lit< tt)) j (mod-lt (z + (32 - v)) (lit< tt))
 
 -- a step on lanes after others
 pub next : (F : State → State) → Local F → (A : State) (l : List ℕ) → l ≡ lanes A → on F l ≡ lanes (F A)

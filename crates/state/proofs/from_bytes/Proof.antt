@@ -1,10 +1,10 @@
--- `xoodoo::from_bytes` meets its contract. Assumes nothing.
+-- `state::from_bytes` meets its contract. Assumes nothing.
 use borrow.Author.Needs.{needs}
 use Rattle.word.proofs.Bit.{is-eq}
-use Rattle.xoodoo.specs.Bytes.{stateOf, byteBit, fromString}
-use Rattle.xoodoo.proofs.Lanes.{lanes-are}
-use Rattle.xoodoo.proofs.from_bytes.Statement.{statement}
-use Rattle.xoodoo.proofs.from_bytes.Tie as tie
+use Rattle.state.specs.Bytes.{stateOf, byteBit, fromString}
+use Rattle.state.proofs.Lanes.{lanes-are}
+use Rattle.state.proofs.from_bytes.Statement.{statement}
+use Rattle.state.proofs.from_bytes.Tie as tie
 
 returns : tie.Need-returns
 unfolding fromString

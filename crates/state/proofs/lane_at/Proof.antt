@@ -1,9 +1,9 @@
--- `xoodoo::lane_at` meets its contract. Assumes nothing.
+-- `state::lane_at` meets its contract. Assumes nothing.
 use borrow.Author.Needs.{needs}
 use Rattle.word.proofs.Bit.{is-word, is-eq, is-more}
-use Rattle.xoodoo.proofs.Bytes.{bits-of-four}
-use Rattle.xoodoo.proofs.lane_at.Statement.{statement}
-use Rattle.xoodoo.proofs.lane_at.Tie as tie
+use Rattle.state.proofs.Bytes.{bits-of-four}
+use Rattle.state.proofs.lane_at.Statement.{statement}
+use Rattle.state.proofs.lane_at.Tie as tie
 
 returns : tie.Need-returns
 returns c =

@@ -2,7 +2,7 @@
 use mathlib.Core.Bool.{Bool}
 use mathlib.Core.List.{List, [], _∷_}
 use Prim.Native.Nat.{ℕ, zero, suc, _+_, _*_, _-_, _%_}
-use lib.ListN.{getD}
+use lib.ListN.{getD, replicate}
 use Rattle.word.specs.Word.{bit, ofBits}
 
 -- a plane: its bits at (x, z), x below 4 and z below 32
@@ -47,3 +47,7 @@ lanes A =
 -- a step on bits, as one on lanes
 abbrev pub on : (State → State) → List ℕ → List ℕ
 on F l = lanes (F (bits l))
+
+-- the state whose bits are 0
+abbrev pub zeros : List ℕ
+zeros = replicate 12 0

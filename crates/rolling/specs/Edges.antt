@@ -2,17 +2,14 @@
 use mathlib.Core.List.{List, [], _∷_, map}
 use mathlib.Core.Path.{_≡_}
 use Prim.Native.Nat.{ℕ}
-use lib.ListN.{replicate, set}
-use Rattle.xoodoo.specs.Rolling.{rollIn, rollOut}
+use lib.ListN.{set}
+use Rattle.state.specs.State.{zeros}
+use Rattle.rolling.specs.Rolling.{rollIn, rollOut}
 
 -- a row: what a definition gives, and what the table says
 pub record Row : Type 0 where
   pub gives : List ℕ
   pub says : List ℕ
-
--- twelve lanes that are 0
-abbrev pub zeros : List ℕ
-zeros = replicate 12 0
 
 -- twelve lanes that are 0, but for v at place i
 abbrev pub only : ℕ → ℕ → List ℕ

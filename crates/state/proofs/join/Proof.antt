@@ -1,8 +1,8 @@
--- `xoodoo::join` meets its contract. Assumes nothing.
+-- `state::join` meets its contract. Assumes nothing.
 use Rattle.word.proofs.Bit.{is-word}
-use Rattle.xoodoo.proofs.Bytes.{is-join}
-use Rattle.xoodoo.proofs.join.Statement.{statement}
-use Rattle.xoodoo.proofs.join.Tie as tie
+use Rattle.state.proofs.Bytes.{is-join}
+use Rattle.state.proofs.join.Statement.{statement}
+use Rattle.state.proofs.join.Tie as tie
 
 returns : tie.Need-returns
 returns c = is-word (is-join (c .args .a) (c .args .b) (c .args .c) (c .args .d) (c .fits .a .fits) (c .fits .b .fits) (c .fits .c .fits) (c .fits .d .fits))

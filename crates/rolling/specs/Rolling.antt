@@ -5,7 +5,7 @@ use mathlib.Core.List.{List}
 use Prim.Native.Nat.{ℕ}
 use lib.Dec.{eqb}
 use Rattle.word.specs.Word.{bit, _⊕_, rotateLeft, shiftLeft}
-use Rattle.xoodoo.specs.State.{State, plane, planes, shift, on}
+use Rattle.state.specs.State.{State, plane, planes, shift, on}
 
 -- A_(0,0) becomes the lane with the bits f
 abbrev pub setFirst : (ℕ → Bool) → State → State

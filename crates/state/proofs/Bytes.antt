@@ -11,7 +11,7 @@ use lib.ListN.{getD, set, length, length-set}
 use Rattle.word.specs.Word.{bit, shiftLeft}
 use Rattle.word.proofs.Lists.{Filled, filled-more}
 use Rattle.word.proofs.Bit.{Is, is-word, is-part, is-own, is-more, is-or, is-shl, bit-above, shifts, shifts-in}
-use Rattle.xoodoo.specs.Bytes.{byteBit, stringBit, stateByte}
+use Rattle.state.specs.Bytes.{byteBit, stringBit, stateByte}
 
 -- a byte as a word of 32 bits: its bits above the eighth are 0
 byte-is : {a : ℕ} → a < 256 → Is 32 a (bit a)

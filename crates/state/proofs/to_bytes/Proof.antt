@@ -1,4 +1,4 @@
--- `xoodoo::to_bytes` meets its contract. The loop's invariant: the bytes of the lanes below i stand. Assumes nothing.
+-- `state::to_bytes` meets its contract. The loop's invariant: the bytes of the lanes below i stand. Assumes nothing.
 use mathlib.Core.Path.{_≡_, refl, ap}
 use Prim.Native.Nat.{ℕ, _≤_, _*_, _-_, _/_, _%_}
 use native.Mathlib.Omega.{arith}
@@ -6,10 +6,10 @@ use lib.Dec.{lit<}
 use lib.ListN.{length}
 use borrow.Author.Needs.{needs}
 use Rattle.word.proofs.Lists.{Filled, tabulate-is}
-use Rattle.xoodoo.specs.Bytes.{stateByte}
-use Rattle.xoodoo.proofs.Bytes.{byte-of, filled-four}
-use Rattle.xoodoo.proofs.to_bytes.Statement.{statement}
-use Rattle.xoodoo.proofs.to_bytes.Tie as tie
+use Rattle.state.specs.Bytes.{stateByte}
+use Rattle.state.proofs.Bytes.{byte-of, filled-four}
+use Rattle.state.proofs.to_bytes.Statement.{statement}
+use Rattle.state.proofs.to_bytes.Tie as tie
 
 abbrev Inv-loop : tie.InvT-loop
 Inv-loop s b₀ i₀ b i = (i ≤ 12) × (length b ≡ 48) × Filled (stateByte s) b (4 * i)

@@ -6,7 +6,7 @@ use Prim.Native.Nat.{ℕ, _+_, _*_, _/_, _%_}
 use lib.ListN.{getD}
 use Rattle.word.specs.Word.{bit, ofBits}
 use Rattle.word.specs.Lists.{tabulate}
-use Rattle.xoodoo.specs.State.{State, lanes}
+use Rattle.state.specs.State.{State, lanes}
 
 -- the state of a string: bit i of it is the bit at (x, y, z), where i = z + 32 (x + 4 y)
 abbrev pub stateOf : (ℕ → Bool) → State

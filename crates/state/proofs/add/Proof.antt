@@ -1,10 +1,10 @@
--- `xoodoo::add` meets its contract. Assumes nothing.
+-- `state::add` meets its contract. Assumes nothing.
 use mathlib.Core.Path.{sym, ap₂}
 use Rattle.word.specs.Lists.{sum}
-use Rattle.xoodoo.proofs.Lanes.{twelve}
+use Rattle.state.proofs.Lanes.{twelve}
 use borrow.Author.Needs.{needs}
-use Rattle.xoodoo.proofs.add.Statement.{statement}
-use Rattle.xoodoo.proofs.add.Tie as tie
+use Rattle.state.proofs.add.Statement.{statement}
+use Rattle.state.proofs.add.Tie as tie
 
 returns : tie.Need-returns
 unfolding sum
