@@ -7,8 +7,8 @@ use mathlib.Core.Path.{_≡_, refl, ap, _∙_}
 use Prim.Native.Nat.{ℕ, zero, suc, _+_, _≤_}
 use native.Mathlib.Omega.{arith}
 use lib.ListN.{length}
-use Rattle.xoofff.specs.declared.DeckState.{DeckState}
-use Rattle.xoofff.specs.Deck.{indexOf}
+use Rattle.deck.specs.declared.DeckState.{DeckState}
+use Rattle.deck.specs.Deck.{indexOf}
 use Rattle.modes.specs.Call.{CallInput, office, group}
 use Rattle.modes.specs.Paper.{PaperResult}
 use Rattle.modes.specs.Mode.{incremental, sanse}

@@ -4,8 +4,8 @@ use mathlib.Core.List.{List, [], _∷_, map}
 use mathlib.Core.Path.{_≡_, refl, sym, ap, _∙_, subst}
 use Prim.Native.Nat.{ℕ, _≤_}
 use lib.ListN.{length}
-use Rattle.xoofff.specs.declared.DeckState.{DeckState}
-use Rattle.xoofff.specs.Deck.{iterate, maskAt, addHistory, indexOf, accumulator}
+use Rattle.deck.specs.declared.DeckState.{DeckState}
+use Rattle.deck.specs.Deck.{iterate, maskAt, addHistory, indexOf, accumulator}
 use Rattle.modes.specs.Call.{Call, sideOf}
 use Rattle.modes.specs.Mode.{HistoryRep, Mode, incremental, sanse}
 use Rattle.modes.specs.Rules.{Outcome, Opening, newSession, startAt}

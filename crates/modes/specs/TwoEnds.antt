@@ -6,7 +6,7 @@ use mathlib.Core.Logic.{_≢_, _⊎_}
 use mathlib.Core.Path.{_≡_}
 use Prim.Native.Nat.{ℕ, _≤_}
 use lib.ListN.{length, take, drop}
-use Rattle.xoofff.specs.declared.DeckState.{DeckState}
+use Rattle.deck.specs.declared.DeckState.{DeckState}
 use Rattle.modes.specs.Call.{CallInput, Side, office, group, other, Call, wrap, unwrap, sideOf}
 use Rattle.modes.specs.Mode.{HistoryRep, Mode}
 use Rattle.modes.specs.Rules.{SessionState, Outcome, Opening, wrapAt, unwrapAt}

@@ -3,7 +3,7 @@
 use mathlib.Core.List.{List}
 use mathlib.Core.Path.{_≡_, refl, sym, ap, _∙_, subst}
 use Prim.Native.Nat.{ℕ}
-use Rattle.xoofff.specs.declared.DeckState.{DeckState}
+use Rattle.deck.specs.declared.DeckState.{DeckState}
 use Rattle.modes.specs.Call.{CallInput, Side, office, group, Call, wrap, unwrap}
 use Rattle.modes.specs.Mode.{incremental, sanse}
 use Rattle.modes.specs.Rules.{SessionState, Outcome, startAt, wrapAt, unwrapAt}

@@ -1,7 +1,7 @@
 -- A record of the program, and what the program's calls gave, in the words of the modes' rules. Assumes nothing.
 use mathlib.Core.List.{List}
 use Prim.Native.Nat.{ℕ}
-use Rattle.xoofff.specs.declared.DeckState.{DeckState}
+use Rattle.deck.specs.declared.DeckState.{DeckState}
 use Rattle.modes.specs.Call.{CallInput}
 use Rattle.modes.specs.Rules.{SessionState, Outcome, Opening}
 use Rattle.sanse.specs.declared.Session.{Session}

@@ -5,14 +5,14 @@ ghost use mathlib.Core.Bool.{not, _||_};
 ghost use Prim.Native.Nat.{_+_, _≤_, _<_};
 ghost use lib.ListN.{length, replicate};
 ghost use Rattle.word.specs.Lists.{sum};
-ghost use Rattle.xoofff.specs.Deck.{run};
-ghost use Rattle.xoofff.specs.Incremental.{output};
-ghost use Rattle.xoofff.specs.Leaves.{closedBy};
+ghost use Rattle.deck.specs.Deck.{run};
+ghost use Rattle.deck.specs.Incremental.{output};
+ghost use Rattle.deck.specs.Closing.{closedBy};
 ghost use Rattle.modes.specs.Mode.{isEmpty};
 ghost use Rattle.modes.specs.Rules.{growth, firstCheck, written, sameBytes};
 ghost use Rattle.steps.specs.Steps.{compressedIf, outputCount};
 use xoofff::Compressed;
-use xoofff::DeckState;
+use deck::DeckState;
 
 // ---- checks 5 to 9
 

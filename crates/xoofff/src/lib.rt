@@ -1,4 +1,4 @@
-// The deck function Xoofff, incremental: what a session keeps of its history, and the leaves that compress a string and expand the output.
+// The deck function Xoofff, incremental: the leaves that compress a string and expand the output.
 ghost use mathlib.Core.Path.{_≡_};
 ghost use mathlib.Core.List.{[], _∷_, _++_};
 ghost use Prim.Native.Nat.{_+_, _*_, _-_, _≤_, _<_, min};
@@ -7,16 +7,11 @@ ghost use Rattle.word.specs.Lists.{sum};
 ghost use Rattle.xoodoo.specs.Xoodoo.{perm};
 ghost use Rattle.rolling.specs.Rolling.{rollOut};
 ghost use Rattle.state.specs.Bytes.{toBytes};
-ghost use Rattle.xoofff.specs.Strings.{block};
-ghost use Rattle.xoofff.specs.Deck.{iterate, keyMask, outputByte, run};
-ghost use Rattle.xoofff.specs.Leaves.{closedBy, compressed, outputBlocks, Added};
-
-// What a session keeps of its history: the accumulator, the mask at the index, and the input index.
-pub struct DeckState {
-    pub acc: [u32; 12],
-    pub mask: [u32; 12],
-    pub index: u32,
-}
+ghost use Rattle.deck.specs.Strings.{block};
+ghost use Rattle.deck.specs.Deck.{iterate, keyMask, outputByte, run};
+ghost use Rattle.deck.specs.Closing.{closedBy};
+ghost use Rattle.xoofff.specs.Leaves.{compressed, outputBlocks, Added};
+use deck::DeckState;
 
 // The state after one more string, and the permutations done for it.
 pub struct Compressed {

@@ -11,13 +11,13 @@ use Rattle.word.specs.Lists.{sum}
 use Rattle.xoodoo.specs.Xoodoo.{perm}
 use Rattle.rolling.specs.Rolling.{rollIn}
 use Rattle.state.specs.Bytes.{fromBytes}
-use Rattle.xoofff.specs.Strings.{Str, blocks}
-use Rattle.xoofff.specs.declared.DeckState.{DeckState}
-use Rattle.xoofff.specs.Deck.{iterate, zeros, keyMask, maskAt, addBlocks, addHistory, indexOf, indexGrowth, accumulator, outputMask, deck}
-use Rattle.xoofff.specs.Incremental.{append, output, fromScratch}
-use Rattle.xoofff.proofs.Closing.{framed}
-use Rattle.xoofff.proofs.Strings.{blocks-front}
-use Rattle.xoofff.proofs.Deck.{addBlocks-from, addBlocks-front, maskAt-add, iterate-add}
+use Rattle.deck.specs.Strings.{Str, blocks, framed}
+use Rattle.deck.specs.declared.DeckState.{DeckState}
+use Rattle.deck.specs.Deck.{iterate, keyMask, maskAt, addBlocks, addHistory, indexOf, indexGrowth, accumulator, outputMask, deck}
+use Rattle.state.specs.State.{zeros}
+use Rattle.deck.specs.Incremental.{append, output, fromScratch}
+use Rattle.deck.proofs.Strings.{blocks-front}
+use Rattle.deck.proofs.Deck.{addBlocks-from, addBlocks-front, maskAt-add, iterate-add}
 
 -- the index after one more string
 pub indexOf-more : (h : List Str) (s : Str) → indexOf (h ++ s ∷ []) ≡ indexOf h + indexGrowth s

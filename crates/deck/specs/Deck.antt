@@ -2,21 +2,17 @@
 -- document 01, "The deck function"). Assumes nothing.
 use mathlib.Core.List.{List, [], _∷_}
 use Prim.Native.Nat.{ℕ, zero, suc, _+_, _/_, _%_}
-use lib.ListN.{replicate}
 use Rattle.word.specs.Lists.{tabulate, sum}
 use Rattle.xoodoo.specs.Xoodoo.{perm}
 use Rattle.rolling.specs.Rolling.{rollIn, rollOut}
+use Rattle.state.specs.State.{zeros}
 use Rattle.state.specs.Bytes.{stateByte}
-use Rattle.xoofff.specs.Strings.{Str, block, blocks}
+use Rattle.deck.specs.Strings.{Str, block, blocks}
 
 -- f done n times
 unfoldable pub iterate : ℕ → (List ℕ → List ℕ) → List ℕ → List ℕ
 iterate zero f s = s
 iterate (suc n) f s = f (iterate n f s)
-
--- the state whose bits are 0
-abbrev pub zeros : List ℕ
-zeros = replicate 12 0
 
 -- ---- the mask
 

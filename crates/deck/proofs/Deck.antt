@@ -12,12 +12,14 @@ use Rattle.word.proofs.Lists.{sum-length}
 use Rattle.xoodoo.specs.Xoodoo.{perm}
 use Rattle.rolling.specs.Rolling.{rollIn}
 use Rattle.state.specs.Bytes.{fromBytes}
-use Rattle.xoodoo.proofs.Facts.{perm-length, rollIn-length, fromString-length, stateByte-lt}
-use Rattle.xoofff.specs.Strings.{Str, blocks, block, b}
-use Rattle.xoofff.specs.Leaves.{closedBy, frameBits}
-use Rattle.xoofff.specs.Deck.{iterate, zeros, keyMask, maskAt, addBlocks, addHistory, indexGrowth, indexOf, accumulator, outputMask, outputBlock, outputByte}
-use Rattle.xoofff.proofs.Closing.{framed}
-use Rattle.xoofff.proofs.Strings.{closed-blocks, block-front, block-behind, blocks-front}
+use Rattle.xoodoo.proofs.Facts.{perm-length}
+use Rattle.rolling.proofs.Facts.{rollIn-length}
+use Rattle.state.proofs.Facts.{fromString-length, stateByte-lt}
+use Rattle.deck.specs.Strings.{Str, blocks, block, b, framed}
+use Rattle.deck.specs.Closing.{closedBy, frameBits}
+use Rattle.deck.specs.Deck.{iterate, keyMask, maskAt, addBlocks, addHistory, indexGrowth, indexOf, accumulator, outputMask, outputBlock, outputByte}
+use Rattle.state.specs.State.{zeros}
+use Rattle.deck.proofs.Strings.{closed-blocks, block-front, block-behind, blocks-front}
 
 -- ---- rolling
 

@@ -12,12 +12,8 @@ use lib.Pow.{pow-add, pow-pos}
 use borrow.Author.Tests.{le-leb, lt-leb}
 use Rattle.word.specs.Word.{bit, digit}
 use Rattle.word.proofs.Bit.{bit-shr, bit-above}
-use Rattle.xoofff.specs.Strings.{Str}
-use Rattle.xoofff.specs.Leaves.{closingByte, frameBits, closedBy}
-
--- a string by its bytes and its frame bits
-abbrev pub framed : List ℕ → List Bool → Str
-framed s f = record { bytes = s; frame = f }
+use Rattle.deck.specs.Strings.{framed}
+use Rattle.deck.specs.Closing.{closingByte, frameBits, closedBy}
 
 -- ---- a bit put below a number's bits
 

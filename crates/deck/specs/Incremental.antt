@@ -3,9 +3,9 @@
 use mathlib.Core.List.{List}
 use Prim.Native.Nat.{ℕ, _+_}
 use Rattle.xoodoo.specs.Xoodoo.{perm}
-use Rattle.xoofff.specs.declared.DeckState.{DeckState}
-use Rattle.xoofff.specs.Strings.{Str, blocks}
-use Rattle.xoofff.specs.Deck.{maskAt, addBlocks, indexGrowth, indexOf, accumulator, outputMask, outputByte}
+use Rattle.deck.specs.declared.DeckState.{DeckState}
+use Rattle.deck.specs.Strings.{Str, blocks}
+use Rattle.deck.specs.Deck.{maskAt, addBlocks, indexGrowth, indexOf, accumulator, outputMask, outputByte}
 
 -- the state after one more string
 unfoldable pub append : DeckState → Str → DeckState

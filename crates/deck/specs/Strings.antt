@@ -11,6 +11,10 @@ pub record Str : Type 0 where
   pub bytes : List ℕ
   pub frame : List Bool
 
+-- bytes and the frame bits after them
+abbrev pub framed : List ℕ → List Bool → Str
+framed x f = record { bytes = x; frame = f }
+
 -- the eight bits of a byte, the lowest first
 abbrev pub bitsOfByte : ℕ → List Bool
 bitsOfByte b = bit b 0 ∷ bit b 1 ∷ bit b 2 ∷ bit b 3 ∷ bit b 4 ∷ bit b 5 ∷ bit b 6 ∷ bit b 7 ∷ []

@@ -16,9 +16,9 @@ use Rattle.word.proofs.Lists.{tabulate-at, Words}
 use Rattle.state.specs.State.{bits}
 use Rattle.state.specs.Bytes.{stateOf, fromString, stringBit, byteBit, fromBytes, stateByte}
 use Rattle.state.proofs.Lanes.{lanes-ext, bits-of-lanes}
-use Rattle.xoofff.specs.Strings.{Str, bitsOfByte, bitsOfBytes, bitsOf, padded, blocks, block, b}
-use Rattle.xoofff.specs.Leaves.{closingByte, frameBits, closedBy}
-use Rattle.xoofff.proofs.Closing.{framed, frame-length, closing-frame, closing-bits}
+use Rattle.deck.specs.Strings.{Str, bitsOfByte, bitsOfBytes, bitsOf, padded, blocks, block, b, framed}
+use Rattle.deck.specs.Closing.{closingByte, frameBits, closedBy}
+use Rattle.deck.proofs.Closing.{frame-length, closing-frame, closing-bits}
 
 -- ---- the padding
 
@@ -83,10 +83,10 @@ closed-byteBit s c p h i =
 -- ---- the blocks
 
 -- block j from 48 bytes that are the string's, its closing byte and zeros
-pub block-bytes : (s : List ℕ) (c j : ℕ) → 0 < c → c < 256 → (B : List ℕ)
+pub block-fromBytes : (s : List ℕ) (c j : ℕ) → 0 < c → c < 256 → (B : List ℕ)
     → ((i : ℕ) → i < 48 → getD B i 0 ≡ getD (s ++ c ∷ []) (48 * j + i) 0) → block (closedBy s c) j ≡ fromBytes B
 unfolding block fromString
-block-bytes s c j p h B e = lanes-ext _ _ agree
+block-fromBytes s c j p h B e = lanes-ext _ _ agree
   where
     agree : (x y z : ℕ) → x < 4 → y < 3 → z < 32
         → getD (padded (bitsOf (closedBy s c))) (384 * j + (z + 32 * (x + 4 * y))) false ≡ byteBit B (z + 32 * (x + 4 * y))
@@ -101,7 +101,7 @@ block-bytes s c j p h B e = lanes-ext _ _ agree
 -- such as these
 pub block-tabulate : (s : List ℕ) (c j : ℕ) → 0 < c → c < 256 → block (closedBy s c) j ≡ fromBytes (tabulate 48 (λ i. getD (s ++ c ∷ []) (48 * j + i) 0))
 block-tabulate s c j p h =
-    block-bytes s c j p h (tabulate 48 (λ i. getD (s ++ c ∷ []) (48 * j + i) 0)) (λ i l. tabulate-at 48 (λ i. getD (s ++ c ∷ []) (48 * j + i) 0) i l)
+    block-fromBytes s c j p h (tabulate 48 (λ i. getD (s ++ c ∷ []) (48 * j + i) 0)) (λ i l. tabulate-at 48 (λ i. getD (s ++ c ∷ []) (48 * j + i) 0) i l)
 
 -- ---- how many
 
