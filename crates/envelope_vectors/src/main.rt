@@ -114,7 +114,7 @@ fn put_write(case: &[u8; 24], source: &[u8], out: &mut [u8]) {
     if out.len() < room {
         return;
     }
-    let w = envelope::write_envelope(
+    let w = envelope_write::write_envelope(
         word(case, 2) as u32,
         &source[..a],
         &source[7..c],

@@ -1,4 +1,4 @@
--- `envelope::write_field` meets its contract: the number's digits, and one byte behind them. Assumes nothing.
+-- `envelope_write::write_field` meets its contract: the number's digits, and one byte behind them. Assumes nothing.
 use Prim.Native.Nat.{ℕ}
 use mathlib.Core.Path.{ap, _∙_}
 use mathlib.Core.List.{List}
@@ -7,11 +7,11 @@ use lib.ListN.{set}
 use denote.Ref.{now}
 use Rattle.decimal.specs.Decimal.{decimal}
 use Rattle.decimal.proofs.Buffers.{written-after}
 use Rattle.envelope.specs.Layout.{field}
 use Rattle.envelope.proofs.Layouts.{field-length}
 use borrow.Author.Needs.{needs}
-use Rattle.envelope.proofs.write_field.Statement.{statement}
-use Rattle.envelope.proofs.write_field.Tie as tie
+use Rattle.envelope_write.proofs.write_field.Statement.{statement}
+use Rattle.envelope_write.proofs.write_field.Tie as tie
 
 write-decimal-requires : tie.Need-write-decimal-requires
 write-decimal-requires c κs = omega (arith, field-length (c .before .before .args .n))

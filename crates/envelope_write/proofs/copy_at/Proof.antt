@@ -1,4 +1,4 @@
--- `envelope::copy_at` meets its contract. The loop's invariant: the first i bytes are written. The measure is what is left of them. Assumes nothing.
+-- `envelope_write::copy_at` meets its contract. The loop's invariant: the first i bytes are written. The measure is what is left of them. Assumes nothing.
 use Prim.Native.Nat.{ℕ, _≤_, _<_, _+_, _-_}
 use mathlib.Core.Path.{_≡_, refl, sym, ap, _∙_}
 use mathlib.Core.List.{List, [], _∷_, _++_}
@@ -9,8 +9,8 @@ use lib.Seq.{take-suc, take-all, length-take-le}
 use denote.Ref.{now}
 use Rattle.decimal.specs.Buffer.{written}
 use Rattle.decimal.proofs.Buffers.{written-none, written-after}
-use Rattle.envelope.proofs.copy_at.Statement.{statement}
-use Rattle.envelope.proofs.copy_at.Tie as tie
+use Rattle.envelope_write.proofs.copy_at.Statement.{statement}
+use Rattle.envelope_write.proofs.copy_at.Tie as tie
 
 abbrev Inv-loop : tie.InvT-loop
 Inv-loop src out₀ at i₀ out i = (i ≤ length src) × (out ≡ written out₀ at (take i src)) × (length out ≡ length out₀)

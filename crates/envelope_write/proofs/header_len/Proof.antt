@@ -1,10 +1,10 @@
--- `envelope::header_len` meets its contract; a number of 32 bits has at most ten digits, so that the sum fits. Assumes nothing.
+-- `envelope_write::header_len` meets its contract; a number of 32 bits has at most ten digits, so that the sum fits. Assumes nothing.
 use native.Mathlib.Omega.{arith}
 use Rattle.decimal.proofs.Laws.{decimal-within}
 use Rattle.envelope.proofs.Layouts.{header-length}
 use borrow.Author.Needs.{needs}
-use Rattle.envelope.proofs.header_len.Statement.{statement}
-use Rattle.envelope.proofs.header_len.Tie as tie
+use Rattle.envelope_write.proofs.header_len.Statement.{statement}
+use Rattle.envelope_write.proofs.header_len.Tie as tie
 
 add-result : tie.Need-add-result
 add-result c = omega (arith, decimal-within 9 (c .before .args .group) (omega arith))

@@ -5,8 +5,8 @@ use mathlib.Core.List.{List}
 use lib.ListN.{length}
 use lib.Dec.{ltb, eqb}
 use Rattle.decimal.specs.Buffer.{written}
 use Rattle.envelope.specs.Layout.{letterS, maxGroup, maxLength, tagLength, header, envelope}
-use Rattle.envelope.specs.declared.WriteResult.{WriteResult}
+use Rattle.envelope_write.specs.declared.WriteResult.{WriteResult}
 
 -- the first check that is met, by the lengths of metadata, cryptogram, tag and buffer, or 0
 unfoldable pub writeNumber : (letter group alen mlen tlen room : ℕ) → ℕ

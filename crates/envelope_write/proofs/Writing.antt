@@ -10,11 +10,11 @@ use lib.Dec.{eqb}
 use borrow.Author.Tests.{ne-eqb, eqb-true, eqb-false}
 use Rattle.decimal.specs.Buffer.{written}
 use Rattle.decimal.proofs.Laws.{lt-or-le}
 use Rattle.envelope.specs.Layout.{letterS, maxGroup, maxLength, tagLength, header, envelope}
-use Rattle.envelope.specs.Checks.{WriteStop, group-above, metadata-long, message-long, tag-wrong, no-room, writable}
-use Rattle.envelope.specs.Write.{writeNumber, writeCheck, writeAnswer, writeBuffer}
-use Rattle.envelope.specs.declared.WriteResult.{WriteResult}
-use Rattle.envelope.proofs.WriteSteps.{number-3, number-6-metadata, number-6-message, number-7, number-8, number-0}
+use Rattle.envelope_write.specs.Checks.{WriteStop, group-above, metadata-long, message-long, tag-wrong, no-room, writable}
+use Rattle.envelope_write.specs.Write.{writeNumber, writeCheck, writeAnswer, writeBuffer}
+use Rattle.envelope_write.specs.declared.WriteResult.{WriteResult}
+use Rattle.envelope_write.proofs.WriteSteps.{number-3, number-6-metadata, number-6-message, number-7, number-8, number-0}
 
 eq-or-ne : (a b : ℕ) → (a ≡ b) ⊎ (a ≡ b → ⊥)
 eq-or-ne a b = go (eqb a b) refl

@@ -1,16 +1,16 @@
--- `envelope::write_envelope` meets its contract: where no check is met there is room for each part, and what the writes leave is joined in
+-- `envelope_write::write_envelope` meets its contract: where no check is met there is room for each part, and what the writes leave is joined in
 -- proofs/WriteSteps.antt. Assumes nothing.
 use mathlib.Core.Path.{sym, _∙_}
 use native.Mathlib.Omega.{arith}
 use lib.ListN.{length}
 use denote.Ref.{now}
 use Rattle.envelope.specs.Layout.{letterS}
 use Rattle.envelope.proofs.Layouts.{envelope-length}
-use Rattle.envelope.proofs.WriteSteps.{envelope-written}
-use Rattle.envelope.proofs.Writing.{accepted, stopped, done}
+use Rattle.envelope_write.proofs.WriteSteps.{envelope-written}
+use Rattle.envelope_write.proofs.Writing.{accepted, stopped, done}
 use borrow.Author.Needs.{needs}
-use Rattle.envelope.proofs.write_envelope.Statement.{statement}
-use Rattle.envelope.proofs.write_envelope.Tie as tie
+use Rattle.envelope_write.proofs.write_envelope.Statement.{statement}
+use Rattle.envelope_write.proofs.write_envelope.Tie as tie
 
 returns : tie.Need-returns
 returns c = stopped _ _ _ _ _ _ (c .before .write-number .ensures) (c .if1 .taken)

@@ -1,22 +1,20 @@
--- Writing and reading undo one another (document 01, "Envelope"), and its example. Assumes nothing.
-use Prim.Native.Nat.{ℕ, _+_, _<_, _≤_}
+-- Writing and reading undo one another (document 01, "Envelope"). Assumes nothing.
+use Prim.Native.Nat.{ℕ, _+_, _≤_}
 use mathlib.Core.Path.{_≡_, refl, sym, ap, _∙_}
-use mathlib.Core.List.{List, [], _∷_, _++_}
+use mathlib.Core.List.{List, _++_}
 use native.Mathlib.Omega.{arith}
 use lib.ListN.{length, take, drop}
 use lib.Seq.{take-at}
-use Rattle.decimal.specs.Decimal.{decimal, decimalWithin}
 use Rattle.decimal.specs.Buffer.{written}
-use Rattle.envelope.specs.Layout.{letterS, tagLength, field, header, envelope, Begins, IsEnvelope}
+use Rattle.envelope.specs.Layout.{letterS, envelope, IsEnvelope}
 use Rattle.envelope.specs.Read.{anEnvelope, readEnvelope, metadataOf, cryptogramOf, tagOf}
-use Rattle.envelope.specs.Write.{writeAnswer, writeBuffer}
-use Rattle.envelope.specs.declared.Envelope.{Envelope}
-use Rattle.envelope.specs.declared.Parts.{Parts}
-use Rattle.envelope.specs.declared.WriteResult.{WriteResult}
 use Rattle.envelope.proofs.Layouts.{envelope-length, tag-of-S}
-use Rattle.envelope.proofs.Reading.{envelope-complete, envelope-sound, parts-few, parts-whole}
-use Rattle.envelope.proofs.Writing.{accepted, stop-given, done}
-use Rattle.envelope.specs.Checks.{writable}
+use Rattle.envelope.proofs.Reading.{envelope-complete, envelope-sound}
+use Rattle.envelope.proofs.Spelling.{place-is, front-is}
+use Rattle.envelope_write.specs.Write.{writeAnswer, writeBuffer}
+use Rattle.envelope_write.specs.Checks.{writable}
+use Rattle.envelope_write.specs.declared.WriteResult.{WriteResult}
+use Rattle.envelope_write.proofs.Writing.{accepted, stop-given, done}
 
 -- Reading the bytes s gives this group, these three parts, and this place
 abbrev pub ReadsAs : List ℕ → (group place : ℕ) (metadata cryptogram tag : List ℕ) → Type 0
@@ -67,17 +65,6 @@ pub buffer-reads : (group : ℕ) (metadata cryptogram tag buffer : List ℕ) →
     → ReadsAs (writeBuffer group metadata cryptogram tag buffer) group (writeAnswer group metadata cryptogram tag buffer .len) metadata cryptogram tag
 buffer-reads group metadata cryptogram tag buffer e = reads group metadata cryptogram tag buffer e _ _ (in-buffer group metadata cryptogram tag buffer e)
 
--- the place is where the envelope ends, and the bytes up to it are the envelope
-place-is : (s : List ℕ) → readEnvelope s .number ≡ 0
-    → readEnvelope s .place ≡ length (envelope letterS (readEnvelope s .group) (metadataOf s) (cryptogramOf s) (tagOf s))
-place-is s e = ap (λ (r : Envelope). r .place) (envelope-complete s _ _ _ _ _ _ (envelope-sound s e) .0)
-
-front-is : (s : List ℕ) → readEnvelope s .number ≡ 0
-    → take (readEnvelope s .place) s ≡ envelope letterS (readEnvelope s .group) (metadataOf s) (cryptogramOf s) (tagOf s)
-front-is s e =
-    ap (take (readEnvelope s .place)) (envelope-sound s e .bytes)
-    ∙ take-at (envelope letterS (readEnvelope s .group) (metadataOf s) (cryptogramOf s) (tagOf s)) (drop (readEnvelope s .place) s) (readEnvelope s .place) (sym (place-is s e))
-
 -- Bytes that are read without a refusal are, up to the place, exactly what writing their group and parts gives to any buffer with room for it.
 pub read-then-write : (s buffer : List ℕ) → readEnvelope s .number ≡ 0 → readEnvelope s .place ≤ length buffer
     → (writeAnswer (readEnvelope s .group) (metadataOf s) (cryptogramOf s) (tagOf s) buffer ≡ record { number = 0; len = readEnvelope s .place })
@@ -91,44 +78,3 @@ read-then-write s buffer e room =
     (writable (h .in-range .group-fits) (h .in-range .metadata-fits) (h .in-range .message-fits) (h .tag-fits) (omega arith)) in
     let d = done (readEnvelope s .group) (metadataOf s) (cryptogramOf s) (tagOf s) buffer (readEnvelope s .place) (written buffer 0 b) free place refl in
     (sym (d .0), sym (d .1) ∙ ap (written buffer 0) (sym (front-is s e)))
-
--- An envelope has one spelling only: bytes that read as the same group and parts are the same up to the place.
-pub one-spelling : (s t : List ℕ) → readEnvelope s .number ≡ 0 → readEnvelope t .number ≡ 0 → readEnvelope s .group ≡ readEnvelope t .group
-    → metadataOf s ≡ metadataOf t → cryptogramOf s ≡ cryptogramOf t → tagOf s ≡ tagOf t
-    → take (readEnvelope s .place) s ≡ take (readEnvelope t .place) t
-one-spelling s t es et g a c x =
-    front-is s es
-    ∙ ap (λ (k : ℕ). envelope letterS k (metadataOf s) (cryptogramOf s) (tagOf s)) g
-    ∙ ap (λ (l : List ℕ). envelope letterS (readEnvelope t .group) l (cryptogramOf s) (tagOf s)) a
-    ∙ ap (λ (l : List ℕ). envelope letterS (readEnvelope t .group) (metadataOf t) l (tagOf s)) c
-    ∙ ap (envelope letterS (readEnvelope t .group) (metadataOf t) (cryptogramOf t)) x
-    ∙ sym (front-is t et)
-
--- `S,7,20,48,`
-unfoldable pub example : List ℕ
-example = 83 ∷ 44 ∷ 55 ∷ 44 ∷ 50 ∷ 48 ∷ 44 ∷ 52 ∷ 56 ∷ 44 ∷ []
-
-example-header : example ≡ header letterS 7 20 48
-unfolding example header field decimal decimalWithin
-example-header = refl
-
-example-begins : (body : List ℕ) → Begins (example ++ body) letterS 7 20 48 body
-example-begins body =
-    record {
-      in-range = record { known = λ z. omega (arith, tag-of-S); group-fits = omega arith; metadata-fits = omega arith; message-fits = omega arith };
-      bytes = ap (λ (l : List ℕ). l ++ body) example-header;
-    }
-
--- `S,7,20,48,` needs 100 bytes after it: with fewer, number 2; with as many, or more, it is read, and ends 100 bytes behind its header of 10.
-pub example-few : (body : List ℕ) → length body < 100 → readEnvelope (example ++ body) ≡ record { number = 2; group = 0; place = 0 }
-unfolding readEnvelope
-example-few body less =
-    ap (λ (p : Parts). record { number = p .number; group = p .group; place = p .place })
-    (parts-few (example ++ body) letterS 7 20 48 body (example-begins body) (omega (arith, tag-of-S)))
-
-pub example-enough : (body : List ℕ) → 100 ≤ length body → readEnvelope (example ++ body) ≡ anEnvelope 7 110
-unfolding readEnvelope example tagLength
-example-enough body enough =
-    ap (λ (p : Parts). record { number = p .number; group = p .group; place = p .place })
-    (parts-whole (example ++ body) letterS 7 20 48 body (example-begins body) (omega (arith, tag-of-S)))
-    ∙ ap (λ (l : List ℕ). anEnvelope 7 (length l + 100)) (sym example-header)

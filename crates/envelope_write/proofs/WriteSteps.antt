@@ -8,9 +8,9 @@ use borrow.Author.Tests.{lt-ltb, le-ltb, eq-eqb, ne-eqb}
 use Rattle.decimal.specs.Buffer.{written}
 use Rattle.decimal.proofs.Laws.{decimal-within}
 use Rattle.decimal.proofs.Buffers.{written-join, written-pair}
 use Rattle.envelope.specs.Layout.{comma, maxGroup, maxLength, tagLength, field, header, envelope}
-use Rattle.envelope.specs.Write.{writeNumber}
+use Rattle.envelope_write.specs.Write.{writeNumber}
 use Rattle.envelope.proofs.Layouts.{header-length, field-length, tag-bound}
 
 module _ (letter group alen mlen tlen room : ℕ) where
   pub number-3 : maxGroup < group → writeNumber letter group alen mlen tlen room ≡ 3

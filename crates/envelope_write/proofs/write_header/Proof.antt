@@ -1,11 +1,11 @@
--- `envelope::write_header` meets its contract: what the writes leave is joined in proofs/WriteSteps.antt. Assumes nothing.
+-- `envelope_write::write_header` meets its contract: what the writes leave is joined in proofs/WriteSteps.antt. Assumes nothing.
 use mathlib.Core.Path.{_∙_}
 use native.Mathlib.Omega.{arith}
 use lib.ListN.{length-set}
 use Rattle.envelope.proofs.Layouts.{field-length, header-length}
-use Rattle.envelope.proofs.WriteSteps.{header-written}
-use Rattle.envelope.proofs.write_header.Statement.{statement}
-use Rattle.envelope.proofs.write_header.Tie as tie
+use Rattle.envelope_write.proofs.WriteSteps.{header-written}
+use Rattle.envelope_write.proofs.write_header.Statement.{statement}
+use Rattle.envelope_write.proofs.write_header.Tie as tie
 
 slice-write-out : tie.Need-slice-write-out
 slice-write-out c = omega (arith, header-length (c .before .args .letter) (c .before .args .group) (c .before .args .alen) (c .before .args .mlen))

@@ -1,10 +1,10 @@
--- `envelope::write_number` meets its contract: each return is a step of proofs/WriteSteps.antt. Assumes nothing.
+-- `envelope_write::write_number` meets its contract: each return is a step of proofs/WriteSteps.antt. Assumes nothing.
 use mathlib.Core.Path.{sym, _∙_}
 use native.Mathlib.Omega.{arith}
-use Rattle.envelope.proofs.WriteSteps.{number-3, number-6-metadata, number-6-message, number-7, number-8, number-0, sizes}
+use Rattle.envelope_write.proofs.WriteSteps.{number-3, number-6-metadata, number-6-message, number-7, number-8, number-0, sizes}
 use borrow.Author.Needs.{needs}
-use Rattle.envelope.proofs.write_number.Statement.{statement}
-use Rattle.envelope.proofs.write_number.Tie as tie
+use Rattle.envelope_write.proofs.write_number.Statement.{statement}
+use Rattle.envelope_write.proofs.write_number.Tie as tie
 
 returns : tie.Need-returns
 returns c = sym (number-3 _ _ _ _ _ _ (c .if1 .taken))
