@@ -11,16 +11,11 @@ use lib.ListN.{length, getD}
 use lib.Pow.{pow-add, pow-pos}
 use borrow.Author.Tests.{le-leb, lt-leb}
 use Rattle.word.specs.Word.{bit, digit}
-use Rattle.word.proofs.Bit.{bit-shr, bit-above}
+use Rattle.word.proofs.Bit.{digit-lt, bit-shr, bit-above}
 use Rattle.deck.specs.Strings.{framed}
 use Rattle.deck.specs.Closing.{closingByte, frameBits, closedBy}
 
 -- ---- a bit put below a number's bits
-
--- a bit is a digit below 2
-digit-lt : (f : Bool) → digit f < 2
-digit-lt true = lit< tt
-digit-lt false = lit< tt
 
 -- the lowest bit of what it gives, the rest, and the bits of the rest
 digit-low : (f : Bool) (n : ℕ) → bit (digit f + 2 * n) 0 ≡ f

@@ -17,7 +17,7 @@ use Rattle.rolling.proofs.Facts.{rollIn-length}
 use Rattle.state.proofs.Facts.{fromString-length, stateByte-lt}
 use Rattle.deck.specs.Strings.{Str, blocks, block, b, framed}
 use Rattle.deck.specs.Closing.{closedBy, frameBits}
-use Rattle.deck.specs.Deck.{iterate, keyMask, maskAt, addBlocks, addHistory, indexGrowth, indexOf, accumulator, outputMask, outputBlock, outputByte}
+use Rattle.deck.specs.Deck.{iterate, keyMask, maskAt, addBlocks, addHistory, indexGrowth, indexOf, accumulator, outputMask, outputByte}
 use Rattle.state.specs.State.{zeros}
 use Rattle.deck.proofs.Strings.{closed-blocks, block-front, block-behind, blocks-front}
 
@@ -147,11 +147,6 @@ accumulator-length key h = addHistory-length (keyMask key) 0 h zeros refl
 pub outputMask-length : (key : List ℕ) (h : List Str) → length (outputMask key h) ≡ 12
 unfolding outputMask
 outputMask-length key h = maskAt-length (keyMask key) (indexOf h) (keyMask-length key)
-
--- blocks of the output
-pub outputBlock-length : (y k : List ℕ) (j : ℕ) → length k ≡ 12 → length (outputBlock y k j) ≡ 12
-unfolding outputBlock
-outputBlock-length y k j h = sum-twelve _ _ (perm-length _) h
 
 -- a byte of the output is a byte
 pub outputByte-lt : (y k : List ℕ) (i : ℕ) → outputByte y k i < 256

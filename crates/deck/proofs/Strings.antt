@@ -7,14 +7,14 @@ use Prim.Native.Nat.{ℕ, zero, suc, _+_, _*_, _-_, _/_, _%_, _^_, _≤_, _<_}
 use native.Mathlib.Decide.{decLe}
 use native.Mathlib.Omega.{arith}
 use lib.Dec.{lit<, lit≤}
-use lib.ListN.{length, getD, take, replicate, length-append, length-replicate, List·getD-eq-default, List·getD-append}
-use lib.Seq.{getD-append-add, getD-append-seam, take-append-seam}
+use lib.ListN.{length, getD, replicate, length-append, length-replicate, List·getD-eq-default, List·getD-append}
+use lib.Seq.{getD-append-add, getD-append-seam}
 use Rattle.word.specs.Word.{bit}
 use Rattle.word.specs.Lists.{tabulate}
 use Rattle.word.proofs.Bit.{bit-above, word-ext}
 use Rattle.word.proofs.Lists.{tabulate-at, Words}
 use Rattle.state.specs.State.{bits}
-use Rattle.state.specs.Bytes.{stateOf, fromString, stringBit, byteBit, fromBytes, stateByte}
+use Rattle.state.specs.Bytes.{stringState, fromString, stringBit, byteBit, fromBytes, stateByte}
 use Rattle.state.proofs.Lanes.{lanes-ext, bits-of-lanes}
 use Rattle.deck.specs.Strings.{Str, bitsOfByte, bitsOfBytes, bitsOf, padded, blocks, block, b, framed}
 use Rattle.deck.specs.Closing.{closingByte, frameBits, closedBy}
@@ -142,9 +142,9 @@ key-blocks key h = omega (arith, blocks-is (framed key []) (lit≤ tt))
 
 -- what pad10* makes of m: m, a 1-bit and fewer than 384 zeros, together a positive multiple of 384 bits
 pub record Pad10 (m p : List Bool) : Type 0 where
-  pub zeros : ℕ
-  pub few : zeros < 384
-  pub form : p ≡ m ++ true ∷ replicate zeros false
+  pub zero-bits : ℕ
+  pub few : zero-bits < 384
+  pub form : p ≡ m ++ true ∷ replicate zero-bits false
   pub whole : length p % 384 ≡ 0
   pub positive : 0 < length p
 
@@ -152,7 +152,7 @@ pub padded-pads : (m : List Bool) → Pad10 m (padded m)
 unfolding padded
 padded-pads m =
     record {
-      zeros = 383 - length m % 384;
+      zero-bits = 383 - length m % 384;
       few = omega arith;
       form = refl;
       whole = omega (arith, padded-length m);
@@ -163,29 +163,14 @@ padded-pads m =
 pub padded-only : (m p : List Bool) → Pad10 m p → p ≡ padded m
 unfolding padded
 padded-only m p d =
-    let l : length (m ++ true ∷ replicate (d .zeros) false) ≡ length m + suc (length (replicate (d .zeros) false)) = length-append m (true ∷ replicate (d .zeros) false) in
-    let e : d .zeros ≡ 383 - length m % 384 = omega (arith, d .few, d .whole, ap length (d .form), l, length-replicate (d .zeros) false) in
+    let l : length (m ++ true ∷ replicate (d .zero-bits) false) ≡ length m + suc (length (replicate (d .zero-bits) false)) = length-append m (true ∷ replicate (d .zero-bits) false) in
+    let e : d .zero-bits ≡ 383 - length m % 384 = omega (arith, d .few, d .whole, ap length (d .form), l, length-replicate (d .zero-bits) false) in
     d .form ∙ ap (λ (n : ℕ). m ++ true ∷ replicate n false) e
 
--- the string itself, the 1-bit after it, and zeros after that
-pub padded-front : (m : List Bool) → take (length m) (padded m) ≡ m
-unfolding padded
-padded-front m = take-append-seam m (true ∷ replicate (383 - length m % 384) false)
-
-pub padded-one : (m : List Bool) → getD (padded m) (length m) false ≡ true
-unfolding padded
-padded-one m = getD-append-seam m true (replicate (383 - length m % 384) false) false
-
-pub padded-zero : (m : List Bool) (i : ℕ) → length m < i → getD (padded m) i false ≡ false
-padded-zero m i h = padded-at m i ∙ List·getD-eq-default (m ++ true ∷ []) false (omega (arith, length-append m (true ∷ [])))
-
--- the padded string is its blocks, at least one
+-- the padded string is its blocks
 pub padded-blocks : (s : Str) → length (padded (bitsOf s)) ≡ 384 * blocks s
 unfolding blocks
 padded-blocks s = omega (arith, padded-length (bitsOf s))
-
-pub blocks-pos : (s : Str) → 0 < blocks s
-blocks-pos s = omega (arith, padded-length (bitsOf s), padded-blocks s)
 
 -- bit z of byte i is bit 8 i + z of a string, and the frame bits follow the bytes
 bytes-at : (s : List ℕ) (i : ℕ) → getD (bitsOfBytes s) i false ≡ byteBit s i
@@ -210,7 +195,7 @@ bitsOf-frame s n =
 -- bit z of the lane at x + 4 y of block j is bit 384 j + z + 32 (x + 4 y) of the padded string
 pub block-bit : (s : Str) (j x y z : ℕ) → x < 4 → y < 3 → z < 32 → bits (block s j) x y z ≡ getD (padded (bitsOf s)) (384 * j + (z + 32 * (x + 4 * y))) false
 unfolding block fromString
-block-bit s j x y z hx hy hz = bits-of-lanes (stateOf (λ i. getD (padded (bitsOf s)) (384 * j + i) false)) x y z hx hy hz
+block-bit s j x y z hx hy hz = bits-of-lanes (stringState (λ i. getD (padded (bitsOf s)) (384 * j + i) false)) x y z hx hy hz
 
 -- the same by the place in the block's string
 pub block-stringBit : (s : Str) (j i : ℕ) → i < 384 → stringBit (block s j) i ≡ getD (padded (bitsOf s)) (384 * j + i) false

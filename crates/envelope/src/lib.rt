@@ -4,7 +4,7 @@
 use decimal::read_decimal;
 ghost use mathlib.Core.Path.{_≡_};
 ghost use Rattle.envelope.specs.Layout.{tagLength};
-ghost use Rattle.envelope.specs.Read.{noHeader, readHeader, noParts, readParts, readEnvelope, metadataOf, cryptogramOf, tagOf};
+ghost use Rattle.envelope.specs.Read.{noHeader, readHeader, noParts, readParts, readEnvelope, metadataPart, cryptogramPart, tagPart};
 
 // The largest group, and the most bytes that metadata and message have.
 pub const MAX_GROUP: u32 = 31;
@@ -153,7 +153,7 @@ pub fn read_envelope(s: &[u8]) -> Envelope
 
 // The metadata of the envelope at the start of some bytes, as a part of these; empty where it is refused.
 pub fn metadata(s: &[u8]) -> &[u8]
-    ensures { λ r. ⌜ now r ≡ metadataOf (now (s .entry)) ⌝ }
+    ensures { λ r. ⌜ now r ≡ metadataPart (now (s .entry)) ⌝ }
 {
     let p = read_parts(s);
     let start = p.metadata;
@@ -163,7 +163,7 @@ pub fn metadata(s: &[u8]) -> &[u8]
 
 // The cryptogram of the envelope at the start of some bytes, as a part of these; empty where it is refused.
 pub fn cryptogram(s: &[u8]) -> &[u8]
-    ensures { λ r. ⌜ now r ≡ cryptogramOf (now (s .entry)) ⌝ }
+    ensures { λ r. ⌜ now r ≡ cryptogramPart (now (s .entry)) ⌝ }
 {
     let p = read_parts(s);
     let start = p.cryptogram;
@@ -173,7 +173,7 @@ pub fn cryptogram(s: &[u8]) -> &[u8]
 
 // The tag of the envelope at the start of some bytes, as a part of these; empty where it is refused.
 pub fn tag(s: &[u8]) -> &[u8]
-    ensures { λ r. ⌜ now r ≡ tagOf (now (s .entry)) ⌝ }
+    ensures { λ r. ⌜ now r ≡ tagPart (now (s .entry)) ⌝ }
 {
     let p = read_parts(s);
     let start = p.tag;

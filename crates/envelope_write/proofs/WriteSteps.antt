@@ -5,9 +5,9 @@ use mathlib.Core.List.{List, [], _∷_, _++_, append-assoc}
 use native.Mathlib.Omega.{arith}
 use lib.ListN.{length, set, length-append}
 use borrow.Author.Tests.{lt-ltb, le-ltb, eq-eqb, ne-eqb}
-use Rattle.decimal.specs.Buffer.{written}
+use Rattle.decimal.specs.Buffer.{writtenAt}
 use Rattle.decimal.proofs.Laws.{decimal-within}
-use Rattle.decimal.proofs.Buffers.{written-join, written-pair}
+use Rattle.decimal.proofs.Buffers.{writtenAt-join, writtenAt-pair}
 use Rattle.envelope.specs.Layout.{comma, maxGroup, maxLength, tagLength, field, header, envelope}
 use Rattle.envelope_write.specs.Write.{writeNumber}
 use Rattle.envelope.proofs.Layouts.{header-length, field-length, tag-bound}
@@ -65,31 +65,31 @@ module _ (letter group alen mlen tlen room : ℕ) where
 -- letter and comma, and then the three numbers, one behind the other, are the header
 pub header-written : (letter group alen mlen p q : ℕ) (out o₁ o₂ o₃ : List ℕ) → length (header letter group alen mlen) ≤ length out
     → p ≡ 2 + length (field group) → q ≡ p + length (field alen)
-    → o₁ ≡ written (set (set out 0 letter) 1 comma) 2 (field group) → o₂ ≡ written o₁ p (field alen) → o₃ ≡ written o₂ q (field mlen)
-    → o₃ ≡ written out 0 (header letter group alen mlen)
+    → o₁ ≡ writtenAt (set (set out 0 letter) 1 comma) 2 (field group) → o₂ ≡ writtenAt o₁ p (field alen) → o₃ ≡ writtenAt o₂ q (field mlen)
+    → o₃ ≡ writtenAt out 0 (header letter group alen mlen)
 unfolding header
 header-written letter group alen mlen p q out o₁ o₂ o₃ room is-p is-q e₁ e₂ e₃ =
     let total : length (header letter group alen mlen) ≡ 2 + length (field group) + length (field alen) + length (field mlen) =
     omega (arith, header-length letter group alen mlen, field-length group, field-length alen, field-length mlen) in
     let start = letter ∷ comma ∷ [] in
-    let w₁ = written-join out start (field group) 2 refl (omega arith) (written-pair out letter comma (omega arith)) e₁ in
-    let w₂ = written-join out (start ++ field group) (field alen) p (omega (arith, length-append start (field group))) (omega (arith, length-append start (field group))) w₁ e₂ in
+    let w₁ = writtenAt-join out start (field group) 2 refl (omega arith) (writtenAt-pair out letter comma (omega arith)) e₁ in
+    let w₂ = writtenAt-join out (start ++ field group) (field alen) p (omega (arith, length-append start (field group))) (omega (arith, length-append start (field group))) w₁ e₂ in
     let l₂ : length ((start ++ field group) ++ field alen) ≡ 2 + length (field group) + length (field alen) = simp length-append in
-    let w₃ = written-join out ((start ++ field group) ++ field alen) (field mlen) q (omega arith) (omega arith) w₂ e₃ in
-    w₃ ∙ ap (written out 0) (ap (λ (l : List ℕ). letter ∷ comma ∷ l) (append-assoc (field group) (field alen) (field mlen)))
+    let w₃ = writtenAt-join out ((start ++ field group) ++ field alen) (field mlen) q (omega arith) (omega arith) w₂ e₃ in
+    w₃ ∙ ap (writtenAt out 0) (ap (λ (l : List ℕ). letter ∷ comma ∷ l) (append-assoc (field group) (field alen) (field mlen)))
 
 -- the header, metadata, cryptogram and tag, one behind the other, are the envelope
 pub envelope-written : (letter group p q r : ℕ) (metadata cryptogram tag out o₁ o₂ o₃ o₄ : List ℕ)
     → length (header letter group (length metadata) (length cryptogram)) + length metadata + length cryptogram + length tag ≤ length out
     → p ≡ length (header letter group (length metadata) (length cryptogram)) → q ≡ p + length metadata → r ≡ q + length cryptogram
-    → o₁ ≡ written out 0 (header letter group (length metadata) (length cryptogram)) → o₂ ≡ written o₁ p metadata → o₃ ≡ written o₂ q cryptogram → o₄ ≡ written o₃ r tag
-    → o₄ ≡ written out 0 (envelope letter group metadata cryptogram tag)
+    → o₁ ≡ writtenAt out 0 (header letter group (length metadata) (length cryptogram)) → o₂ ≡ writtenAt o₁ p metadata → o₃ ≡ writtenAt o₂ q cryptogram → o₄ ≡ writtenAt o₃ r tag
+    → o₄ ≡ writtenAt out 0 (envelope letter group metadata cryptogram tag)
 unfolding envelope
 envelope-written letter group p q r metadata cryptogram tag out o₁ o₂ o₃ o₄ room is-p is-q is-r e₁ e₂ e₃ e₄ =
     let h = header letter group (length metadata) (length cryptogram) in
     let l₁ = length-append h metadata in
     let l₂ = length-append (h ++ metadata) cryptogram in
-    let w₁ = written-join out h metadata p is-p (omega arith) e₁ e₂ in
-    let w₂ = written-join out (h ++ metadata) cryptogram q (omega arith) (omega arith) w₁ e₃ in
-    let w₃ = written-join out ((h ++ metadata) ++ cryptogram) tag r (omega arith) (omega arith) w₂ e₄ in
-    w₃ ∙ ap (written out 0) (append-assoc (h ++ metadata) cryptogram tag ∙ append-assoc h metadata (cryptogram ++ tag))
+    let w₁ = writtenAt-join out h metadata p is-p (omega arith) e₁ e₂ in
+    let w₂ = writtenAt-join out (h ++ metadata) cryptogram q (omega arith) (omega arith) w₁ e₃ in
+    let w₃ = writtenAt-join out ((h ++ metadata) ++ cryptogram) tag r (omega arith) (omega arith) w₂ e₄ in
+    w₃ ∙ ap (writtenAt out 0) (append-assoc (h ++ metadata) cryptogram tag ∙ append-assoc h metadata (cryptogram ++ tag))

@@ -8,7 +8,7 @@ use native.Mathlib.Omega.{arith}
 use lib.ListN.{length}
 use lib.Dec.{eqb}
 use borrow.Author.Tests.{ne-eqb, eqb-true, eqb-false}
-use Rattle.decimal.specs.Buffer.{written}
+use Rattle.decimal.specs.Buffer.{writtenAt}
 use Rattle.decimal.proofs.Laws.{lt-or-le}
 use Rattle.envelope.specs.Layout.{letterS, maxGroup, maxLength, tagLength, header, envelope}
 use Rattle.envelope_write.specs.Checks.{WriteStop, group-above, metadata-long, message-long, tag-wrong, no-room, writable}
@@ -95,7 +95,7 @@ module _ (group : ℕ) (metadata cryptogram tag buffer : List ℕ) where
   stopped n is h = (sym (simp (sym is, ne-eqb n 0 h)), sym (simp (sym is, ne-eqb n 0 h)))
 
   pub done : (n : ℕ) (after : List ℕ) → writeCheck group metadata cryptogram tag buffer ≡ 0
-      → n ≡ length (envelope letterS group metadata cryptogram tag) → after ≡ written buffer 0 (envelope letterS group metadata cryptogram tag)
+      → n ≡ length (envelope letterS group metadata cryptogram tag) → after ≡ writtenAt buffer 0 (envelope letterS group metadata cryptogram tag)
       → (_≡_ {A = WriteResult} (record { number = 0; len = n }) (writeAnswer group metadata cryptogram tag buffer))
       × (after ≡ writeBuffer group metadata cryptogram tag buffer)
   unfolding writeAnswer writeBuffer

@@ -4,7 +4,7 @@ use mathlib.Core.Bool.{cond}
 use mathlib.Core.List.{List}
 use lib.ListN.{length}
 use lib.Dec.{ltb, eqb}
-use Rattle.decimal.specs.Buffer.{written}
+use Rattle.decimal.specs.Buffer.{writtenAt}
 use Rattle.envelope.specs.Layout.{letterS, maxGroup, maxLength, tagLength, header, envelope}
 use Rattle.envelope_write.specs.declared.WriteResult.{WriteResult}
 
@@ -32,4 +32,4 @@ writeAnswer group metadata cryptogram tag buffer =
 -- the buffer afterwards: the envelope at its start and the rest kept, or, on a refusal, as it was
 unfoldable pub writeBuffer : ℕ → (metadata cryptogram tag buffer : List ℕ) → List ℕ
 writeBuffer group metadata cryptogram tag buffer =
-    cond (eqb (writeCheck group metadata cryptogram tag buffer) 0) (written buffer 0 (envelope letterS group metadata cryptogram tag)) buffer
+    cond (eqb (writeCheck group metadata cryptogram tag buffer) 0) (writtenAt buffer 0 (envelope letterS group metadata cryptogram tag)) buffer

@@ -10,7 +10,7 @@ use envelope::MAX_LENGTH;
 ghost use mathlib.Core.Path.{_≡_};
 ghost use Prim.Native.Nat.{ℕ, _+_, _≤_};
 ghost use lib.ListN.{length};
-ghost use Rattle.decimal.specs.Buffer.{written};
+ghost use Rattle.decimal.specs.Buffer.{writtenAt};
 ghost use Rattle.envelope.specs.Layout.{field, header};
 ghost use Rattle.envelope_write.specs.Write.{writeNumber, writeAnswer, writeBuffer};
 
@@ -24,7 +24,7 @@ pub struct WriteResult {
 // Copies bytes into a buffer from the place `at` on, where there is room for them, and gives the place after them.
 fn copy_at(src: &[u8], out: &mut [u8], at: usize) -> usize
     requires { ⌜ at + length (now src) ≤ length (now out) ⌝ }
-    ensures { λ r. ⌜ (r ≡ at + length (now (src .entry))) × (now (out .exit) ≡ written (now (out .entry)) at (now (src .entry))) ⌝ }
+    ensures { λ r. ⌜ (r ≡ at + length (now (src .entry))) × (now (out .exit) ≡ writtenAt (now (out .entry)) at (now (src .entry))) ⌝ }
 {
     let mut i = 0;
     while i < src.len() {
@@ -37,7 +37,7 @@ fn copy_at(src: &[u8], out: &mut [u8], at: usize) -> usize
 // Writes a number of the header and its comma from the place `at` on, where there is room, and gives the place after them.
 fn write_field(n: u32, out: &mut [u8], at: usize) -> usize
     requires { ⌜ at + length (field n) ≤ length (now out) ⌝ }
-    ensures { λ r. ⌜ (r ≡ at + length (field n)) × (now (out .exit) ≡ written (now (out .entry)) at (field n)) ⌝ }
+    ensures { λ r. ⌜ (r ≡ at + length (field n)) × (now (out .exit) ≡ writtenAt (now (out .entry)) at (field n)) ⌝ }
 {
     let p = write_decimal(n, out, at);
     out[p] = COMMA;
@@ -54,7 +54,7 @@ pub fn header_len(group: u32, alen: u32, mlen: u32) -> usize
 // Writes a header to the start of a buffer that has room for it, and gives the place after it.
 fn write_header(letter: u8, group: u32, alen: u32, mlen: u32, out: &mut [u8]) -> usize
     requires { ⌜ length (header letter group alen mlen) ≤ length (now out) ⌝ }
-    ensures { λ r. ⌜ (r ≡ length (header letter group alen mlen)) × (now (out .exit) ≡ written (now (out .entry)) 0 (header letter group alen mlen)) ⌝ }
+    ensures { λ r. ⌜ (r ≡ length (header letter group alen mlen)) × (now (out .exit) ≡ writtenAt (now (out .entry)) 0 (header letter group alen mlen)) ⌝ }
 {
     out[0] = letter;
     out[1] = COMMA;

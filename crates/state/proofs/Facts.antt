@@ -10,7 +10,7 @@ use Rattle.word.specs.Lists.{sum}
 use Rattle.word.proofs.Bit.{move-back, bit-xor, bit-ofBits, ofBits-lt}
 use Rattle.word.proofs.Lists.{sum-at, tabulate-at}
 use Rattle.state.specs.State.{Plane, shift, bits}
-use Rattle.state.specs.Bytes.{stateOf, fromString, stringBit, byteBit, stateByte, toBytes}
+use Rattle.state.specs.Bytes.{stringState, fromString, stringBit, byteBit, stateByte, toBytes}
 use Rattle.state.proofs.Lanes.{bits-of-lanes, lanes-length}
 
 -- ---- 003, Table 1: shifting a plane by (t, v) moves the bit at (x, z) to (x + t mod 4, z + v mod 32)
@@ -22,7 +22,7 @@ shift-moves t v ht hv p x z hx hz = ap₂ p (move-back 4 t x ht hx) (move-back 3
 -- of a state that is made from a string
 pub string-to-state : (s : ℕ → Bool) (x y z : ℕ) → x < 4 → y < 3 → z < 32 → bits (fromString s) x y z ≡ s (z + 32 * (x + 4 * y))
 unfolding fromString
-string-to-state s = bits-of-lanes (stateOf s)
+string-to-state s = bits-of-lanes (stringState s)
 
 -- of a state's string
 pub state-to-string : (l : List ℕ) (x y z : ℕ) → z < 32 → stringBit l (z + 32 * (x + 4 * y)) ≡ bits l x y z

@@ -9,12 +9,12 @@ use Rattle.word.specs.Lists.{tabulate}
 use Rattle.state.specs.State.{State, lanes}
 
 -- the state of a string: bit i of it is the bit at (x, y, z), where i = z + 32 (x + 4 y)
-abbrev pub stateOf : (ℕ → Bool) → State
-stateOf s x y z = s (z + 32 * (x + 4 * y))
+abbrev pub stringState : (ℕ → Bool) → State
+stringState s x y z = s (z + 32 * (x + 4 * y))
 
 -- the lanes of a string
 unfoldable pub fromString : (ℕ → Bool) → List ℕ
-fromString s = lanes (stateOf s)
+fromString s = lanes (stringState s)
 
 -- bit i of the string of twelve lanes
 abbrev pub stringBit : List ℕ → ℕ → Bool

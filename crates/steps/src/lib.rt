@@ -17,51 +17,51 @@ use deck::DeckState;
 // ---- checks 5 to 9
 
 // How far a call moves the index, by the lengths of A and of the text.
-fn index_growth(a: usize, m: usize) -> u64
-    ensures { λ r. ⌜ r ≡ growth a m ⌝ }
+fn index_growth(a_len: usize, text_len: usize) -> u64
+    ensures { λ r. ⌜ r ≡ growth a_len text_len ⌝ }
 {
-    if m == 0 {
-        return (a / 48 + 2) as u64;
+    if text_len == 0 {
+        return (a_len / 48 + 2) as u64;
     }
-    if a == 0 {
-        return (m / 48 + 2) as u64;
+    if a_len == 0 {
+        return (text_len / 48 + 2) as u64;
     }
-    (a / 48 + m / 48 + 4) as u64
+    (a_len / 48 + text_len / 48 + 4) as u64
 }
 
 // The index after a call, by the index before it and the lengths of the string of A and of the text; in 64 bits, since a record may hold any index.
-pub fn index_after(index: u32, a: usize, m: usize) -> u64
-    ensures { λ r. ⌜ r ≡ index + growth a m ⌝ }
+pub fn index_after(index: u32, a_len: usize, text_len: usize) -> u64
+    ensures { λ r. ⌜ r ≡ index + growth a_len text_len ⌝ }
 {
-    (index as u64) + index_growth(a, m)
+    (index as u64) + index_growth(a_len, text_len)
 }
 
-// The first of the checks 5 to 9 that is met, or 0: by whether the session is open, the index after the call, the length `wanted` of the tag, and the
-// lengths of A, of the text, of the tag and of the output buffer.
+// The first of the checks 5 to 9 that is met, or 0: by whether the session is open, the index after the call, the length that a tag has in this
+// mode, and the lengths of A, of the text, of the tag and of the output buffer.
 pub fn first_check(
     opened: bool,
     index: u64,
-    wanted: usize,
-    a: usize,
-    m: usize,
-    tag: usize,
-    out: usize,
+    mode_tag_len: usize,
+    a_len: usize,
+    text_len: usize,
+    tag_len: usize,
+    out_len: usize,
 ) -> u32
-    ensures { λ r. ⌜ r ≡ firstCheck opened index wanted a m tag out ⌝ }
+    ensures { λ r. ⌜ r ≡ firstCheck opened index mode_tag_len a_len text_len tag_len out_len ⌝ }
 {
     if !opened {
         return 5;
     }
-    if 16384 < a {
+    if 16384 < a_len {
         return 6;
     }
-    if 16384 < m {
+    if 16384 < text_len {
         return 6;
     }
-    if tag != wanted {
+    if tag_len != mode_tag_len {
         return 7;
     }
-    if out < m {
+    if out_len < text_len {
         return 8;
     }
     if 1048576 < index {

@@ -7,19 +7,19 @@ use native.Mathlib.Numerals.{add-one}
 use lib.ListN.{length, take, getD, set, length-set}
 use lib.Seq.{take-suc, take-all, length-take-le}
 use denote.Ref.{now}
-use Rattle.decimal.specs.Buffer.{written}
-use Rattle.decimal.proofs.Buffers.{written-none, written-after}
+use Rattle.decimal.specs.Buffer.{writtenAt}
+use Rattle.decimal.proofs.Buffers.{writtenAt-none, writtenAt-after}
 use Rattle.envelope_write.proofs.copy_at.Statement.{statement}
 use Rattle.envelope_write.proofs.copy_at.Tie as tie
 
 abbrev Inv-loop : tie.InvT-loop
-Inv-loop src out₀ at i₀ out i = (i ≤ length src) × (out ≡ written out₀ at (take i src)) × (length out ≡ length out₀)
+Inv-loop src out₀ at i₀ out i = (i ≤ length src) × (out ≡ writtenAt out₀ at (take i src)) × (length out ≡ length out₀)
 
 abbrev μ-loop : tie.MeasureT-loop
 μ-loop src out₀ at i₀ out i = length src - i
 
 loop-holds : tie.Need-loop-holds Inv-loop μ-loop
-loop-holds c = (omega arith, sym (written-none _ _), refl)
+loop-holds c = (omega arith, sym (writtenAt-none _ _), refl)
 
 loop-again : tie.Need-loop-again Inv-loop μ-loop
 loop-again c =
@@ -32,8 +32,8 @@ loop-again c =
     let longer : take i s ++ (getD s i 0 ∷ []) ≡ take (i + 1) s = sym (ap (λ (k : ℕ). take k s) (add-one i) ∙ take-suc s i 0 inside) in (
       omega arith,
       ap (λ (l : List ℕ). set l (at + i) (getD s i 0)) (c .before .before .loop .inv .1)
-          ∙ written-after (now (c .before .before .before .args .out)) at (take i s) (at + i) (getD s i 0) place (omega arith)
-          ∙ ap (written (now (c .before .before .before .args .out)) at) longer,
+          ∙ writtenAt-after (now (c .before .before .before .args .out)) at (take i s) (at + i) (getD s i 0) place (omega arith)
+          ∙ ap (writtenAt (now (c .before .before .before .args .out)) at) longer,
       simp length-set (c .before .before .loop .inv .2),
     )
 
@@ -41,7 +41,7 @@ same-length : tie.Need-same-length Inv-loop μ-loop
 same-length c = c .before .loop .inv .2
 
 returns : tie.Need-returns Inv-loop μ-loop
-returns c = (omega arith, c .before .loop .inv .1 ∙ ap (written _ _) (take-all _ _ (c .loop-test .left)))
+returns c = (omega arith, c .before .loop .inv .1 ∙ ap (writtenAt _ _) (take-all _ _ (c .loop-test .left)))
 
 pub copy-at-spec : {M : Type 1} → statement M
 copy-at-spec = tie.close (tie.spec Inv-loop μ-loop loop-holds (λ c. omega arith) (λ c. omega arith) (λ c. omega arith) (λ c. omega arith) (λ c. omega arith) loop-again (λ c. omega arith) same-length returns)

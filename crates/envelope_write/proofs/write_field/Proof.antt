@@ -6,7 +6,7 @@ use native.Mathlib.Omega.{arith}
 use lib.ListN.{set}
 use denote.Ref.{now}
 use Rattle.decimal.specs.Decimal.{decimal}
-use Rattle.decimal.proofs.Buffers.{written-after}
+use Rattle.decimal.proofs.Buffers.{writtenAt-after}
 use Rattle.envelope.specs.Layout.{field}
 use Rattle.envelope.proofs.Layouts.{field-length}
 use borrow.Author.Needs.{needs}
@@ -29,7 +29,7 @@ returns c =
     let e = c .before .before .write-decimal .ensures in (
       omega (arith, field-length (a .n), e .0),
       ap (λ (l : List ℕ). set l (c .before .before .write-decimal .result) 44) (e .1)
-          ∙ written-after (now (a .out)) (a .at) (decimal (a .n)) (c .before .before .write-decimal .result) 44 (e .0) (omega (arith, field-length (a .n), e .0, c .before .before .before .before .before .pre)),
+          ∙ writtenAt-after (now (a .out)) (a .at) (decimal (a .n)) (c .before .before .write-decimal .result) 44 (e .0) (omega (arith, field-length (a .n), e .0, c .before .before .before .before .before .pre)),
     )
 
 pub write-field-spec : {M : Type 1} → statement M

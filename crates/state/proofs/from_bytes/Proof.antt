@@ -1,7 +1,7 @@
 -- `state::from_bytes` meets its contract. Assumes nothing.
 use borrow.Author.Needs.{needs}
 use Rattle.word.proofs.Bit.{is-eq}
-use Rattle.state.specs.Bytes.{stateOf, byteBit, fromString}
+use Rattle.state.specs.Bytes.{stringState, byteBit, fromString}
 use Rattle.state.proofs.Lanes.{lanes-are}
 use Rattle.state.proofs.from_bytes.Statement.{statement}
 use Rattle.state.proofs.from_bytes.Tie as tie
@@ -9,7 +9,7 @@ use Rattle.state.proofs.from_bytes.Tie as tie
 returns : tie.Need-returns
 unfolding fromString
 returns c =
-    lanes-are (stateOf (byteBit (c .before .before .before .before .before .before .before .before .before .before .before .before .args .b .now)))
+    lanes-are (stringState (byteBit (c .before .before .before .before .before .before .before .before .before .before .before .before .args .b .now)))
     (is-eq (c .before .before .before .before .before .before .before .before .before .before .before .lane-at .ensures)) (is-eq (c .before .before .before .before .before .before .before .before .before .before .lane-at2 .ensures))
     (is-eq (c .before .before .before .before .before .before .before .before .before .lane-at3 .ensures)) (is-eq (c .before .before .before .before .before .before .before .before .lane-at4 .ensures))
     (is-eq (c .before .before .before .before .before .before .before .lane-at5 .ensures)) (is-eq (c .before .before .before .before .before .before .lane-at6 .ensures))
