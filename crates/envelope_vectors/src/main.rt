@@ -26,7 +26,7 @@ fn word(case: &[u8; 24], i: usize) -> usize
     requires { ⌜ i < 23 ⌝ }
     ensures { λ r. ⌜ r < 65536 ⌝ }
 {
-    wide(case[i]) + 256 * wide(case[i + 1])
+    hexline::pair(case[i], case[i + 1])
 }
 
 // A sum over all of the bytes in which each place counts.

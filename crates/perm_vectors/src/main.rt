@@ -34,8 +34,7 @@ fn answer(record: &[u8; 5], state: &[u8; 48]) {
     let times = number(record[1], record[2], record[3], record[4]);
     let s = repeated(record[0], times, state::from_bytes(state));
     let out = state::to_bytes(&s);
-    hexline::print_hex(&out);
-    io::write_all(1, b"\n");
+    hexline::print_line(&out);
 }
 
 fn main() {

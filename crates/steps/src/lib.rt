@@ -17,51 +17,51 @@ use deck::DeckState;
 // ---- checks 5 to 9
 
 // How far a call moves the index, by the lengths of A and of the text.
-fn index_growth(a_len: usize, text_len: usize) -> u64
-    ensures { λ r. ⌜ r ≡ growth a_len text_len ⌝ }
+fn index_growth(alen: usize, mlen: usize) -> u64
+    ensures { λ r. ⌜ r ≡ growth alen mlen ⌝ }
 {
-    if text_len == 0 {
-        return (a_len / 48 + 2) as u64;
+    if mlen == 0 {
+        return (alen / 48 + 2) as u64;
     }
-    if a_len == 0 {
-        return (text_len / 48 + 2) as u64;
+    if alen == 0 {
+        return (mlen / 48 + 2) as u64;
     }
-    (a_len / 48 + text_len / 48 + 4) as u64
+    (alen / 48 + mlen / 48 + 4) as u64
 }
 
 // The index after a call, by the index before it and the lengths of the string of A and of the text; in 64 bits, since a record may hold any index.
-pub fn index_after(index: u32, a_len: usize, text_len: usize) -> u64
-    ensures { λ r. ⌜ r ≡ index + growth a_len text_len ⌝ }
+pub fn index_after(index: u32, alen: usize, mlen: usize) -> u64
+    ensures { λ r. ⌜ r ≡ index + growth alen mlen ⌝ }
 {
-    (index as u64) + index_growth(a_len, text_len)
+    (index as u64) + index_growth(alen, mlen)
 }
 
-// The first of the checks 5 to 9 that is met, or 0: by whether the session is open, the index after the call, the length that a tag has in this
+// The first of the checks 5 to 9 that is met, or 0: by whether the session is open, the index after the call, the length `wanted` of a tag in this
 // mode, and the lengths of A, of the text, of the tag and of the output buffer.
 pub fn first_check(
     opened: bool,
     index: u64,
-    mode_tag_len: usize,
-    a_len: usize,
-    text_len: usize,
-    tag_len: usize,
-    out_len: usize,
+    wanted: usize,
+    alen: usize,
+    mlen: usize,
+    taglen: usize,
+    outlen: usize,
 ) -> u32
-    ensures { λ r. ⌜ r ≡ firstCheck opened index mode_tag_len a_len text_len tag_len out_len ⌝ }
+    ensures { λ r. ⌜ r ≡ firstCheck opened index wanted alen mlen taglen outlen ⌝ }
 {
     if !opened {
         return 5;
     }
-    if 16384 < a_len {
+    if 16384 < alen {
         return 6;
     }
-    if 16384 < text_len {
+    if 16384 < mlen {
         return 6;
     }
-    if tag_len != mode_tag_len {
+    if taglen != wanted {
         return 7;
     }
-    if out_len < text_len {
+    if outlen < mlen {
         return 8;
     }
     if 1048576 < index {
