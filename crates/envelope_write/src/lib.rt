@@ -2,11 +2,11 @@
 // where nothing stopped it. specs/Write.antt says what is written; that reading gives it back is shown in proofs/RoundTrip.antt.
 use decimal::decimal_len;
 use decimal::write_decimal;
-use envelope::tag_len;
 use envelope::COMMA;
 use envelope::LETTER_S;
 use envelope::MAX_GROUP;
 use envelope::MAX_LENGTH;
+use envelope::tag_len;
 ghost use mathlib.Core.Path.{_≡_};
 ghost use Prim.Native.Nat.{ℕ, _+_, _≤_};
 ghost use lib.ListN.{length};

@@ -11,8 +11,8 @@ ghost use Rattle.deck.specs.Closing.{closedBy};
 ghost use Rattle.modes.specs.Mode.{isEmpty};
 ghost use Rattle.modes.specs.Rules.{growth, firstCheck, written, sameBytes};
 ghost use Rattle.steps.specs.Steps.{compressedIf, outputCount};
-use xoofff::Compressed;
 use deck::DeckState;
+use xoofff::Compressed;
 
 // ---- checks 5 to 9
 
