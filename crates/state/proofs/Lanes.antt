@@ -7,7 +7,7 @@ use native.Mathlib.Nat.{mod-lt}
 use native.Mathlib.Omega.{arith}
 use lib.Dec.{lit<}
 use lib.Seq.{drop-cons}
-use Prim.Native.Nat.{ℕ, zero, suc, _+_, _-_, _%_, _^_, _<_}
+use Prim.Native.Nat.{ℕ, zero, suc, _+_, _^_, _<_}
 use lib.ListN.{getD, length, drop, drop-of-length-le}
 use mir.Syntax.{w32}
 use mir.Val.{Fits}
@@ -123,7 +123,7 @@ Local F = (A B : State) → Agree A B → Agree (F A) (F B)
 
 -- a shifted plane is one
 pub shifted : (A B : State) → Agree A B → (y : ℕ) → y < 3 → (t v x z : ℕ) → shift t v (plane y A) x z ≡ shift t v (plane y B) x z
-shifted A B h y j t v x z = h ((x + (4 - t)) % 4) y ((z + (32 - v)) % 32) (mod-lt (x + (4 - t)) (lit< tt)) j (mod-lt (z + (32 - v)) (lit< tt))
+shifted A B h y j t v x z = h _ y _ (mod-lt _ (lit< tt)) j (mod-lt _ (lit< tt))
 
 -- a step on lanes after others
 pub next : (F : State → State) → Local F → (A : State) (l : List ℕ) → l ≡ lanes A → on F l ≡ lanes (F A)
