@@ -1,9 +1,10 @@
 -- One string compressed from index 0, with no frame bits. Assumes nothing.
 use mathlib.Core.List.{List}
 use Prim.Native.Nat.{ℕ}
-use Rattle.xoofff.specs.declared.DeckState.{DeckState}
+use Rattle.deck.specs.declared.DeckState.{DeckState}
 use Rattle.xoofff.specs.declared.Compressed.{Compressed}
-use Rattle.xoofff.specs.Leaves.{closedBy, compressed}
+use Rattle.deck.specs.Closing.{closedBy}
+use Rattle.xoofff.specs.Leaves.{compressed}
 
 -- the state after it
 abbrev pub after : (acc mask s : List ℕ) → Compressed

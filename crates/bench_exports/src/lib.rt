@@ -4,10 +4,10 @@ ghost use Prim.Native.Nat.{_≤_, _+_};
 ghost use lib.ListN.{length};
 ghost use Rattle.word.specs.Lists.{sum};
 ghost use Rattle.xoodoo.specs.Xoodoo.{perm};
-ghost use Rattle.xoofff.specs.Deck.{outputByte, run};
+ghost use Rattle.deck.specs.Deck.{outputByte, run};
 ghost use Rattle.xoofff.specs.Leaves.{outputBlocks};
 ghost use Rattle.bench_exports.specs.Bench.{accAfter, maskAfter};
-use xoofff::DeckState;
+use deck::DeckState;
 
 // The permutation, in place.
 #[no_mangle]

@@ -11,7 +11,7 @@ use lib.Seq.{drop-append-add, drop-drop}
 use lib.Dec.{ltb, leb}
 use lib.Arith.{digits-div, digits-mod}
 use borrow.Author.Tests.{lt-ltb, le-ltb, le-leb, ltb-true, ltb-false, leb-true}
-use Rattle.decimal.specs.Decimal.{digit, decimalWithin, decimal, valueFrom, digitOf}
+use Rattle.decimal.specs.Decimal.{digitChar, decimalWithin, decimal, valueFrom, digitOf}
 
 -- which of two numbers is less, as a sum
 pub lt-or-le : (a b : ℕ) → (a < b) ⊎ (b ≤ a)
@@ -21,12 +21,12 @@ lt-or-le a b = go (ltb a b) refl
     go true e = inl (ltb-true a b e)
     go false e = inr (ltb-false a b e)
 
-within-small : (f n : ℕ) → n < 10 → decimalWithin f n ≡ digit n ∷ []
+within-small : (f n : ℕ) → n < 10 → decimalWithin f n ≡ digitChar n ∷ []
 unfolding decimalWithin
 within-small zero n h = refl
 within-small (suc f) n h = simp (lt-ltb n 10 h)
 
-within-large : (f n : ℕ) → 10 ≤ n → decimalWithin (suc f) n ≡ decimalWithin f (n / 10) ++ (digit (n % 10) ∷ [])
+within-large : (f n : ℕ) → 10 ≤ n → decimalWithin (suc f) n ≡ decimalWithin f (n / 10) ++ (digitChar (n % 10) ∷ [])
 unfolding decimalWithin
 within-large f n h = simp (le-ltb n 10 h)
 
@@ -41,28 +41,28 @@ within-enough (suc f) (suc g) n hf hg = go (lt-or-le n 10) (within-enough f g (n
     go (inl h) ih = within-small (suc f) n h ∙ sym (within-small (suc g) n h)
     go (inr h) ih =
         within-large f n h
-        ∙ ap (λ (l : List ℕ). l ++ (digit (n % 10) ∷ [])) (ih (omega arith) (omega arith))
+        ∙ ap (λ (l : List ℕ). l ++ (digitChar (n % 10) ∷ [])) (ih (omega arith) (omega arith))
         ∙ sym (within-large g n h)
 
 -- a number below 10 is one digit
-pub decimal-small : (n : ℕ) → n < 10 → decimal n ≡ digit n ∷ []
+pub decimal-small : (n : ℕ) → n < 10 → decimal n ≡ digitChar n ∷ []
 unfolding decimal
 decimal-small n h = within-small n n h
 
 -- any other number is its tenth part, and then the last digit
-pub decimal-large : (n : ℕ) → 10 ≤ n → decimal n ≡ decimal (n / 10) ++ (digit (n % 10) ∷ [])
+pub decimal-large : (n : ℕ) → 10 ≤ n → decimal n ≡ decimal (n / 10) ++ (digitChar (n % 10) ∷ [])
 unfolding decimal
 decimal-large zero h = let no : ⊥ = omega arith in absurd no
 decimal-large (suc m) h =
     within-large m (suc m) h
-    ∙ ap (λ (l : List ℕ). l ++ (digit (suc m % 10) ∷ [])) (within-enough m (suc m / 10) (suc m / 10) (omega arith) (omega arith))
+    ∙ ap (λ (l : List ℕ). l ++ (digitChar (suc m % 10) ∷ [])) (within-enough m (suc m / 10) (suc m / 10) (omega arith) (omega arith))
 
 -- one more digit
-pub decimal-snoc : (v d : ℕ) → (v ≡ 0 → ⊥) → d < 10 → decimal (v * 10 + d) ≡ decimal v ++ (digit d ∷ [])
+pub decimal-snoc : (v d : ℕ) → (v ≡ 0 → ⊥) → d < 10 → decimal (v * 10 + d) ≡ decimal v ++ (digitChar d ∷ [])
 decimal-snoc v d nz h =
     decimal-large (v * 10 + d) (omega arith)
-    ∙ ap (λ (q : ℕ). decimal q ++ (digit ((v * 10 + d) % 10) ∷ [])) (digits-div v h)
-    ∙ ap (λ (r : ℕ). decimal v ++ (digit r ∷ [])) (digits-mod v h)
+    ∙ ap (λ (q : ℕ). decimal q ++ (digitChar ((v * 10 + d) % 10) ∷ [])) (digits-div v h)
+    ∙ ap (λ (r : ℕ). decimal v ++ (digitChar r ∷ [])) (digits-mod v h)
 
 -- a number has a digit
 pub decimal-some : (n : ℕ) → 1 ≤ length (decimal n)
@@ -73,18 +73,18 @@ decimal-some n = go (lt-or-le n 10)
     go (inr h) = omega (arith, simp length-append at (ap length (decimal-large n h)))
 
 -- No leading zeros: the first byte is `0` only where the number is 0.
-first-zero : (f n : ℕ) → n ≤ f → getD (decimal n) 0 0 ≡ digit 0 → n ≡ 0
+first-zero : (f n : ℕ) → n ≤ f → getD (decimal n) 0 0 ≡ digitChar 0 → n ≡ 0
 first-zero zero n hf e = omega arith
 first-zero (suc f) n hf e = go (lt-or-le n 10) (first-zero f (n / 10))
   where
-    go : (n < 10) ⊎ (10 ≤ n) → (n / 10 ≤ f → getD (decimal (n / 10)) 0 0 ≡ digit 0 → n / 10 ≡ 0) → n ≡ 0
+    go : (n < 10) ⊎ (10 ≤ n) → (n / 10 ≤ f → getD (decimal (n / 10)) 0 0 ≡ digitChar 0 → n / 10 ≡ 0) → n ≡ 0
     go (inl h) ih = omega (arith, sym (ap (λ (l : List ℕ). getD l 0 0) (decimal-small n h)) ∙ e)
     go (inr h) ih =
         let same : getD (decimal n) 0 0 ≡ getD (decimal (n / 10)) 0 0 =
-        ap (λ (l : List ℕ). getD l 0 0) (decimal-large n h) ∙ List·getD-append (decimal (n / 10)) (digit (n % 10) ∷ []) 0 0 (decimal-some (n / 10)) in
+        ap (λ (l : List ℕ). getD l 0 0) (decimal-large n h) ∙ List·getD-append (decimal (n / 10)) (digitChar (n % 10) ∷ []) 0 0 (decimal-some (n / 10)) in
         omega (arith, ih (omega arith) (sym same ∙ e))
 
-pub decimal-first : (n : ℕ) → getD (decimal n) 0 0 ≡ digit 0 → n ≡ 0
+pub decimal-first : (n : ℕ) → getD (decimal n) 0 0 ≡ digitChar 0 → n ≡ 0
 decimal-first n e = first-zero n n (le-refl n) e
 
 -- The digits are the number's: taken from the left, each number so far ten times and the next digit added, they give it back.
@@ -102,7 +102,7 @@ value-within (suc f) n hf = go (lt-or-le n 10) (value-within f (n / 10))
     go (inl h) ih = ap (valueFrom 0) (decimal-small n h) ∙ omega arith
     go (inr h) ih =
         ap (valueFrom 0) (decimal-large n h)
-        ∙ value-snoc 0 (decimal (n / 10)) (digit (n % 10))
+        ∙ value-snoc 0 (decimal (n / 10)) (digitChar (n % 10))
         ∙ omega (arith, ih (omega arith))
 
 pub decimal-value : (n : ℕ) → valueFrom 0 (decimal n) ≡ n
@@ -120,18 +120,18 @@ decimal-within (suc k) n h = go (lt-or-le n 10) (decimal-within k (n / 10))
         omega (arith, ih tenth, simp length-append at (ap length (decimal-large n large)))
 
 -- the digit of a digit's character, and the character of a digit
-pub digit-back : (d : ℕ) → d < 10 → digitOf (digit d) ≡ d
+pub digit-back : (d : ℕ) → d < 10 → digitOf (digitChar d) ≡ d
 unfolding digitOf
 digit-back d h =
     let lo : 48 ≤ 48 + d = omega arith in
     let hi : 48 + d ≤ 57 = omega arith in
     simp (le-leb 48 (48 + d) lo, le-leb (48 + d) 57 hi) (omega arith)
 
-pub digit-forth : (b : ℕ) → digitOf b ≤ 9 → digit (digitOf b) ≡ b
+pub digit-forth : (b : ℕ) → digitOf b ≤ 9 → digitChar (digitOf b) ≡ b
 unfolding digitOf
 digit-forth b h = go (leb 48 b) (leb b 57) refl refl
   where
-    go : (s t : Bool) → leb 48 b ≡ s → leb b 57 ≡ t → digit (digitOf b) ≡ b
+    go : (s t : Bool) → leb 48 b ≡ s → leb b 57 ≡ t → digitChar (digitOf b) ≡ b
     go true true e f = simp (e, f) (omega (arith, leb-true 48 b e))
     go true false e f = let no : 10 ≤ 9 = simp (e, f) at h in let n : ⊥ = omega arith in absurd n
     go false t e f = let no : 10 ≤ 9 = simp e at h in let n : ⊥ = omega arith in absurd n

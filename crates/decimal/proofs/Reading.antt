@@ -10,29 +10,29 @@ use lib.ListN.{length, drop, length-append}
 use lib.Dec.{ltb, eqb}
 use borrow.Author.Tests.{le-ltb, eq-eqb, ne-eqb, ltb-false, eqb-true, eqb-false}
 use Rattle.decimal.specs.declared.Number.{Number}
-use Rattle.decimal.specs.Decimal.{digit, decimal, Spelled, digitOf, noNumber, readMore, readFirst, readDecimal}
+use Rattle.decimal.specs.Decimal.{digitChar, decimal, Spelled, digitOf, noNumber, readMore, readFirst, readDecimal}
 use Rattle.decimal.proofs.Laws.{lt-or-le, decimal-small, decimal-large, decimal-snoc, digit-back, digit-forth, after-number}
 
 module _ (max end : ℕ) where
   -- one more digit is taken
   more-digit : (v i d : ℕ) (t : List ℕ) → 9 < digitOf end → (v ≡ 0 → ⊥) → d < 10 → v * 10 + d ≤ max
-      → readMore max end v i (digit d ∷ t) ≡ readMore max end (v * 10 + d) (i + 1) t
+      → readMore max end v i (digitChar d ∷ t) ≡ readMore max end (v * 10 + d) (i + 1) t
   unfolding readMore
   more-digit v i d t no-digit nz small fits =
-      let back : digitOf (digit d) ≡ d = digit-back d small in
-      let differs : digit d ≡ end → ⊥ = λ e. omega (arith, ap digitOf e) in
-      let low : digitOf (digit d) ≤ 9 = omega arith in
-      let in-max : v * 10 + digitOf (digit d) ≤ max = omega arith in
-      simp (ne-eqb (digit d) end differs, le-ltb 9 (digitOf (digit d)) low, ne-eqb v 0 nz, le-ltb max (v * 10 + digitOf (digit d)) in-max)
+      let back : digitOf (digitChar d) ≡ d = digit-back d small in
+      let differs : digitChar d ≡ end → ⊥ = λ e. omega (arith, ap digitOf e) in
+      let low : digitOf (digitChar d) ≤ 9 = omega arith in
+      let in-max : v * 10 + digitOf (digitChar d) ≤ max = omega arith in
+      simp (ne-eqb (digitChar d) end differs, le-ltb 9 (digitOf (digitChar d)) low, ne-eqb v 0 nz, le-ltb max (v * 10 + digitOf (digitChar d)) in-max)
       (ap (λ (x : ℕ). readMore max end (v * 10 + x) (i + 1) t) back)
 
-  first-digit : (n at : ℕ) (t : List ℕ) → n < 10 → n ≤ max → readFirst max end at (digit n ∷ t) ≡ readMore max end n (at + 1) t
+  first-digit : (n at : ℕ) (t : List ℕ) → n < 10 → n ≤ max → readFirst max end at (digitChar n ∷ t) ≡ readMore max end n (at + 1) t
   unfolding readFirst
   first-digit n at t small fits =
-      let back : digitOf (digit n) ≡ n = digit-back n small in
-      let low : digitOf (digit n) ≤ 9 = omega arith in
-      let in-max : digitOf (digit n) ≤ max = omega arith in
-      simp (le-ltb 9 (digitOf (digit n)) low, le-ltb max (digitOf (digit n)) in-max)
+      let back : digitOf (digitChar n) ≡ n = digit-back n small in
+      let low : digitOf (digitChar n) ≤ 9 = omega arith in
+      let in-max : digitOf (digitChar n) ≤ max = omega arith in
+      simp (le-ltb 9 (digitOf (digitChar n)) low, le-ltb max (digitOf (digitChar n)) in-max)
       (ap (λ (x : ℕ). readMore max end x (at + 1) t) back)
 
   -- all digits of a number are taken, from a number of steps that is enough
@@ -42,17 +42,17 @@ module _ (max end : ℕ) where
       let small : n < 10 = omega arith in
       rw (decimal-small n small) (first-digit n at t small hm)
   first-all (suc f) n at t no-digit hf hm =
-      go (lt-or-le n 10) (first-all f (n / 10) at (digit (n % 10) ∷ t) no-digit)
+      go (lt-or-le n 10) (first-all f (n / 10) at (digitChar (n % 10) ∷ t) no-digit)
     where
       go : (n < 10) ⊎ (10 ≤ n)
-          → (n / 10 ≤ f → n / 10 ≤ max → readFirst max end at (decimal (n / 10) ++ (digit (n % 10) ∷ t)) ≡ readMore max end (n / 10) (at + length (decimal (n / 10))) (digit (n % 10) ∷ t))
+          → (n / 10 ≤ f → n / 10 ≤ max → readFirst max end at (decimal (n / 10) ++ (digitChar (n % 10) ∷ t)) ≡ readMore max end (n / 10) (at + length (decimal (n / 10))) (digitChar (n % 10) ∷ t))
           → readFirst max end at (decimal n ++ t) ≡ readMore max end n (at + length (decimal n)) t
       go (inl h) ih = rw (decimal-small n h) (first-digit n at t h hm)
       go (inr h) ih =
           let whole : n / 10 * 10 + n % 10 ≡ n = omega arith in
           let longer : at + length (decimal (n / 10)) + 1 ≡ at + length (decimal n) = omega (arith, simp length-append at (ap length (decimal-large n h))) in
           ap (λ (l : List ℕ). readFirst max end at (l ++ t)) (decimal-large n h)
-          ∙ ap (readFirst max end at) (append-assoc (decimal (n / 10)) (digit (n % 10) ∷ []) t)
+          ∙ ap (readFirst max end at) (append-assoc (decimal (n / 10)) (digitChar (n % 10) ∷ []) t)
           ∙ ih (omega arith) (omega arith)
           ∙ more-digit (n / 10) (at + length (decimal (n / 10))) (n % 10) t no-digit (omega arith) (omega arith) (omega arith)
           ∙ ap (λ (x : ℕ). readMore max end x (at + length (decimal (n / 10)) + 1) t) whole

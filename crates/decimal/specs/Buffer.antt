@@ -4,5 +4,5 @@ use mathlib.Core.List.{List, _++_}
 use lib.ListN.{length, take, drop}
 
 -- the buffer with `bytes` from the place `at` on; every other byte is kept
-unfoldable pub written : List ℕ → ℕ → List ℕ → List ℕ
-written buffer at bytes = take at buffer ++ (bytes ++ drop (at + length bytes) buffer)
+unfoldable pub writtenAt : List ℕ → ℕ → List ℕ → List ℕ
+writtenAt buffer at bytes = take at buffer ++ (bytes ++ drop (at + length bytes) buffer)

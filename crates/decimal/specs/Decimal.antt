@@ -10,15 +10,15 @@ use lib.Dec.{ltb, leb, eqb}
 use Rattle.decimal.specs.declared.Number.{Number}
 
 -- the character of a digit 0 to 9
-abbrev pub digit : ℕ → ℕ
-digit d = 48 + d
+abbrev pub digitChar : ℕ → ℕ
+digitChar d = 48 + d
 
 -- the characters of n, the last digit split off `steps` times at most
 unfoldable pub decimalWithin : ℕ → ℕ → List ℕ
-decimalWithin zero n = digit n ∷ []
+decimalWithin zero n = digitChar n ∷ []
 decimalWithin (suc steps) n =
-    let longer = decimalWithin steps (n / 10) ++ (digit (n % 10) ∷ []) in
-    cond (ltb n 10) (digit n ∷ []) longer
+    let longer = decimalWithin steps (n / 10) ++ (digitChar (n % 10) ∷ []) in
+    cond (ltb n 10) (digitChar n ∷ []) longer
 
 -- the number n in decimal: one digit below 10, else n / 10 in decimal and then the last digit
 unfoldable pub decimal : ℕ → List ℕ

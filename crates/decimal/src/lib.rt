@@ -4,8 +4,8 @@
 ghost use mathlib.Core.Path.{_≡_};
 ghost use Prim.Native.Nat.{_+_, _<_, _≤_};
 ghost use lib.ListN.{length};
-ghost use Rattle.decimal.specs.Decimal.{decimal, digit, digitOf, noNumber, readDecimal};
-ghost use Rattle.decimal.specs.Buffer.{written};
+ghost use Rattle.decimal.specs.Decimal.{decimal, digitChar, digitOf, noNumber, readDecimal};
+ghost use Rattle.decimal.specs.Buffer.{writtenAt};
 
 // What was found: a number and the place after the byte that ends it; or nothing, and then both are 0.
 pub struct Number {
@@ -92,7 +92,7 @@ pub fn decimal_len(n: u32) -> usize
 // The character of a digit.
 fn digit_char(d: u32) -> u8
     requires { ⌜ d < 10 ⌝ }
-    ensures { λ r. ⌜ r ≡ digit d ⌝ }
+    ensures { λ r. ⌜ r ≡ digitChar d ⌝ }
 {
     48 + d as u8
 }
@@ -101,7 +101,7 @@ fn digit_char(d: u32) -> u8
 // The last digit is written first.
 pub fn write_decimal(n: u32, out: &mut [u8], at: usize) -> usize
     requires { ⌜ at + length (decimal n) ≤ length (now out) ⌝ }
-    ensures { λ r. ⌜ (r ≡ at + length (decimal n)) × (now (out .exit) ≡ written (now (out .entry)) at (decimal n)) ⌝ }
+    ensures { λ r. ⌜ (r ≡ at + length (decimal n)) × (now (out .exit) ≡ writtenAt (now (out .entry)) at (decimal n)) ⌝ }
 {
     let end = at + decimal_len(n);
     let mut v = n;

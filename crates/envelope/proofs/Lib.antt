@@ -4,6 +4,5 @@ pub mod HeaderSteps
 pub mod Headers
 pub mod Reading
 pub mod PartSteps
-pub mod WriteSteps
-pub mod Writing
-pub mod RoundTrip
+pub mod Spelling
+pub mod Example

@@ -10,7 +10,7 @@ use lib.Seq.{drop-at, take-at, length-take-le}
 use borrow.Author.Tests.{lt-ltb, le-ltb}
 use Rattle.decimal.proofs.Laws.{lt-or-le}
 use Rattle.envelope.specs.Layout.{letterS, tagLength, header, envelope, Begins, IsEnvelope}
-use Rattle.envelope.specs.Read.{noHeader, readHeader, noParts, partsOf, readParts, anEnvelope, readEnvelope, between, metadataOf, cryptogramOf, tagOf}
+use Rattle.envelope.specs.Read.{noHeader, readHeader, noParts, partsOf, readParts, anEnvelope, readEnvelope, between, metadataPart, cryptogramPart, tagPart}
 use Rattle.envelope.specs.Checks.{ReadStop, bad-header, too-few, readable}
 use Rattle.envelope.specs.declared.Header.{Header}
 use Rattle.envelope.specs.declared.Parts.{Parts}
@@ -76,16 +76,16 @@ read-number-exact s n =
 
 -- A refusal gives three empty parts, group 0 and place 0.
 pub read-refused : (s : List ℕ) → (readEnvelope s .number ≡ 0 → ⊥)
-    → (readEnvelope s ≡ record { number = readEnvelope s .number; group = 0; place = 0 }) × (metadataOf s ≡ []) × (cryptogramOf s ≡ []) × (tagOf s ≡ [])
-unfolding readEnvelope metadataOf cryptogramOf tagOf
+    → (readEnvelope s ≡ record { number = readEnvelope s .number; group = 0; place = 0 }) × (metadataPart s ≡ []) × (cryptogramPart s ≡ []) × (tagPart s ≡ [])
+unfolding readEnvelope metadataPart cryptogramPart tagPart
 read-refused s stopped = go (some-stop s .0) (some-stop s .1)
   where
     empty : (n : ℕ) → readParts s ≡ noParts n
-        → (readEnvelope s ≡ record { number = readEnvelope s .number; group = 0; place = 0 }) × (metadataOf s ≡ []) × (cryptogramOf s ≡ []) × (tagOf s ≡ [])
+        → (readEnvelope s ≡ record { number = readEnvelope s .number; group = 0; place = 0 }) × (metadataPart s ≡ []) × (cryptogramPart s ≡ []) × (tagPart s ≡ [])
     empty n e = (simp e, simp e, simp e, simp e)
 
     go : (n : ℕ) → ReadStop s n
-        → (readEnvelope s ≡ record { number = readEnvelope s .number; group = 0; place = 0 }) × (metadataOf s ≡ []) × (cryptogramOf s ≡ []) × (tagOf s ≡ [])
+        → (readEnvelope s ≡ record { number = readEnvelope s .number; group = 0; place = 0 }) × (metadataPart s ≡ []) × (cryptogramPart s ≡ []) × (tagPart s ≡ [])
     go n (bad-header none) = empty 1 (parts-bad s none)
     go n (too-few l g a m rest h less) = empty 2 (parts-few s l g a m rest h less)
     go n (readable l g a m rest h enough) = absurd (stopped (ap (λ (p : Parts). p .number) (parts-whole s l g a m rest h enough)))
@@ -97,7 +97,7 @@ pub record InOrder (n : ℕ) (p : Parts) : Type 0 where
   pub third : p .tag ≤ p .place
   pub inside : p .place ≤ n
 
-pub parts-in-order : (s : List ℕ) → InOrder (length s) (readParts s)
+parts-in-order : (s : List ℕ) → InOrder (length s) (readParts s)
 parts-in-order s = go (some-stop s .0) (some-stop s .1)
   where
     go : (n : ℕ) → ReadStop s n → InOrder (length s) (readParts s)
@@ -107,6 +107,10 @@ parts-in-order s = go (some-stop s .0) (some-stop s .1)
         subst (InOrder (length s)) (sym (parts-whole s l g a m rest h enough))
         (omega (arith, ap length (h .bytes), length-append (header l g a m) rest))
 
+-- and so are those that a call found
+pub in-order : (s : List ℕ) {p : Parts} → p ≡ readParts s → InOrder (length s) p
+in-order s e = subst (InOrder (length s)) (sym e) (parts-in-order s)
+
 -- a run of bytes between others
 between-at : (before run after : List ℕ) (i j : ℕ) → length before ≡ i → i + length run ≡ j → between i j (before ++ (run ++ after)) ≡ run
 between-at before run after i j is-i is-j =
@@ -115,8 +119,8 @@ between-at before run after i j is-i is-j =
 -- An envelope that stands there is read: its group, its parts, and its length as the place after it. Whatever follows it is free.
 pub envelope-complete : (s : List ℕ) (letter group : ℕ) (metadata cryptogram tag rest : List ℕ) → IsEnvelope s letter group metadata cryptogram tag rest
     → (readEnvelope s ≡ anEnvelope group (length (envelope letter group metadata cryptogram tag)))
-    × (metadataOf s ≡ metadata) × (cryptogramOf s ≡ cryptogram) × (tagOf s ≡ tag)
-unfolding readEnvelope metadataOf cryptogramOf tagOf envelope
+    × (metadataPart s ≡ metadata) × (cryptogramPart s ≡ cryptogram) × (tagPart s ≡ tag)
+unfolding readEnvelope metadataPart cryptogramPart tagPart envelope
 envelope-complete s letter group metadata cryptogram tag rest h =
     let head = header letter group (length metadata) (length cryptogram) in
     let whole : s ≡ head ++ (metadata ++ (cryptogram ++ (tag ++ rest))) = h .bytes ∙ simp append-assoc in
@@ -177,11 +181,11 @@ split s l g a m rest h enough =
 
 -- Bytes that are read without a refusal begin with the envelope that writing the group and the three parts gives; the place is where it ends.
 pub envelope-sound : (s : List ℕ) → readEnvelope s .number ≡ 0
-    → IsEnvelope s letterS (readEnvelope s .group) (metadataOf s) (cryptogramOf s) (tagOf s) (drop (readEnvelope s .place) s)
+    → IsEnvelope s letterS (readEnvelope s .group) (metadataPart s) (cryptogramPart s) (tagPart s) (drop (readEnvelope s .place) s)
 envelope-sound s e = go 0 refl (read-number-exact s 0 .0 e)
   where
     known : (l g : ℕ) (metadata cryptogram tag after : List ℕ) → IsEnvelope s l g metadata cryptogram tag after
-        → IsEnvelope s letterS (readEnvelope s .group) (metadataOf s) (cryptogramOf s) (tagOf s) (drop (readEnvelope s .place) s)
+        → IsEnvelope s letterS (readEnvelope s .group) (metadataPart s) (cryptogramPart s) (tagPart s) (drop (readEnvelope s .place) s)
     known l g metadata cryptogram tag after h =
         let c = envelope-complete s l g metadata cryptogram tag after h in
         let rest : drop (length (envelope l g metadata cryptogram tag)) s ≡ after =
@@ -191,7 +195,7 @@ envelope-sound s e = go 0 refl (read-number-exact s 0 .0 e)
         (subst (λ (x : ℕ). IsEnvelope s x g metadata cryptogram tag after) (known-letter l (h .in-range .known)) h)
 
     go : (n : ℕ) → n ≡ 0 → ReadStop s n
-        → IsEnvelope s letterS (readEnvelope s .group) (metadataOf s) (cryptogramOf s) (tagOf s) (drop (readEnvelope s .place) s)
+        → IsEnvelope s letterS (readEnvelope s .group) (metadataPart s) (cryptogramPart s) (tagPart s) (drop (readEnvelope s .place) s)
     go n z (bad-header none) = let no-way : ⊥ = omega arith in absurd no-way
     go n z (too-few l g a m rest h less) = let no-way : ⊥ = omega arith in absurd no-way
     go n z (readable l g a m rest h enough) = let p = split s l g a m rest h enough in known l g (p .0) (p .1) (p .2) (p .3) (p .4)

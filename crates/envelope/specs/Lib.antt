@@ -1,5 +1,4 @@
 -- What the contracts of the crate `envelope` cite.
 pub mod Layout
 pub mod Read
-pub mod Write
 pub mod Checks

@@ -77,11 +77,11 @@ abbrev pub between : ℕ → ℕ → List ℕ → List ℕ
 between i j s = take (j - i) (drop i s)
 
 -- the three parts
-unfoldable pub metadataOf : List ℕ → List ℕ
-metadataOf s = between (readParts s .metadata) (readParts s .cryptogram) s
+unfoldable pub metadataPart : List ℕ → List ℕ
+metadataPart s = between (readParts s .metadata) (readParts s .cryptogram) s
 
-unfoldable pub cryptogramOf : List ℕ → List ℕ
-cryptogramOf s = between (readParts s .cryptogram) (readParts s .tag) s
+unfoldable pub cryptogramPart : List ℕ → List ℕ
+cryptogramPart s = between (readParts s .cryptogram) (readParts s .tag) s
 
-unfoldable pub tagOf : List ℕ → List ℕ
-tagOf s = between (readParts s .tag) (readParts s .place) s
+unfoldable pub tagPart : List ℕ → List ℕ
+tagPart s = between (readParts s .tag) (readParts s .place) s

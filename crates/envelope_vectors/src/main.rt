@@ -26,7 +26,7 @@ fn word(case: &[u8; 24], i: usize) -> usize
     requires { ⌜ i < 23 ⌝ }
     ensures { λ r. ⌜ r < 65536 ⌝ }
 {
-    wide(case[i]) + 256 * wide(case[i + 1])
+    hexline::pair(case[i], case[i + 1])
 }
 
 // A sum over all of the bytes in which each place counts.
@@ -114,7 +114,7 @@ fn put_write(case: &[u8; 24], source: &[u8], out: &mut [u8]) {
     if out.len() < room {
         return;
     }
-    let w = envelope::write_envelope(
+    let w = envelope_write::write_envelope(
         word(case, 2) as u32,
         &source[..a],
         &source[7..c],

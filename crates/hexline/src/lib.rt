@@ -1,5 +1,6 @@
-// Bytes on standard output as hexadecimal digits, for the programs that print what they computed.
+// What the programs over test vectors share: bytes on standard output as lines of hexadecimal digits, and numbers of two bytes.
 ghost use mathlib.Core.Path.{_≡_};
+ghost use Prim.Native.Nat.{_+_, _*_, _<_};
 ghost use lib.ListN.{length};
 
 // Writes two digits for each byte; the answer is the number of bytes.
@@ -12,4 +13,17 @@ pub fn print_hex(b: &[u8]) -> usize
         i += 1;
     }
     i
+}
+
+// Writes two digits for each byte, and a newline.
+pub fn print_line(b: &[u8]) {
+    print_hex(b);
+    io::write_all(1, b"\n");
+}
+
+// A number of two bytes, the lowest first.
+pub fn pair(low: u8, high: u8) -> usize
+    ensures { λ r. ⌜ (r ≡ low + 256 * high) × (r < 65536) ⌝ }
+{
+    (low as usize) + 256 * (high as usize)
 }

@@ -7,9 +7,9 @@ fn once(op: u8, s: [u32; 12]) -> [u32; 12] {
         return xoodoo::permute(s);
     }
     if op == b'C' {
-        return xoodoo::roll_in(s);
+        return rolling::roll_in(s);
     }
-    xoodoo::roll_out(s)
+    rolling::roll_out(s)
 }
 
 // The operation, so many times.
@@ -32,10 +32,9 @@ fn number(a: u8, b: u8, c: u8, d: u8) -> u32 {
 // A record's answer on a line.
 fn answer(record: &[u8; 5], state: &[u8; 48]) {
     let times = number(record[1], record[2], record[3], record[4]);
-    let s = repeated(record[0], times, xoodoo::from_bytes(state));
-    let out = xoodoo::to_bytes(&s);
-    hexline::print_hex(&out);
-    io::write_all(1, b"\n");
+    let s = repeated(record[0], times, state::from_bytes(state));
+    let out = state::to_bytes(&s);
+    hexline::print_line(&out);
 }
 
 fn main() {

@@ -7,19 +7,6 @@ ghost use lib.ListN.{length};
 use sanse::CallResult;
 use sanse::Session;
 
-// A length from its two bytes.
-fn length_of(low: u8, high: u8) -> usize
-    ensures { λ r. ⌜ r < 65536 ⌝ }
-{
-    (low as usize) + 256 * (high as usize)
-}
-
-// Bytes on a line.
-fn line(b: &[u8]) {
-    hexline::print_hex(b);
-    io::write_all(1, b"\n");
-}
-
 // A number and what follows it.
 fn number(n: u32, after: &[u8]) {
     io::print_decimal(1, n as u64);
@@ -35,10 +22,10 @@ fn show(r: CallResult, out: &[u8], tag: &[u8]) {
     number(r.count, b" ");
     number(s.index, b" ");
     number(if s.toggle { 1 } else { 0 }, b"\n");
-    line(out);
-    line(tag);
-    line(&xoodoo::to_bytes(&acc));
-    line(&xoodoo::to_bytes(&mask));
+    hexline::print_line(out);
+    hexline::print_line(tag);
+    hexline::print_line(&state::to_bytes(&acc));
+    hexline::print_line(&state::to_bytes(&mask));
 }
 
 // Carries a record out, and gives the session after it.
@@ -72,8 +59,8 @@ fn read(n: usize, buffer: &mut [u8])
 
 // Reads the rest of a record, and carries it out.
 fn next(header: &[u8; 6], s: Session) -> Session {
-    let n = length_of(header[2], header[3]);
-    let m = length_of(header[4], header[5]);
+    let n = hexline::pair(header[2], header[3]);
+    let m = hexline::pair(header[4], header[5]);
     let mut first = io::large_buffer();
     let mut second = io::large_buffer();
     let mut tag = [0u8; 32];

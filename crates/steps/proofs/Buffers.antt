@@ -12,7 +12,7 @@ use lib.Seq.{length-take-le, take-length, take-suc, drop-length, drop-cons, appe
 use borrow.Author.Tests.{eq-eqb, ne-eqb, eqb-true, eqb-false}
 use Rattle.word.specs.Lists.{sum}
 use Rattle.word.proofs.Lists.{tabulate-length, sum-comm, sum-zero, sum-length, xor-undone}
-use Rattle.xoofff.specs.Deck.{run}
+use Rattle.deck.specs.Deck.{run}
 use Rattle.modes.specs.Rules.{written, sameBytes}
 
 -- ---- a run that is copied to the start of a buffer

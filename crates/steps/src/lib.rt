@@ -5,63 +5,63 @@ ghost use mathlib.Core.Bool.{not, _||_};
 ghost use Prim.Native.Nat.{_+_, _≤_, _<_};
 ghost use lib.ListN.{length, replicate};
 ghost use Rattle.word.specs.Lists.{sum};
-ghost use Rattle.xoofff.specs.Deck.{run};
-ghost use Rattle.xoofff.specs.Incremental.{output};
-ghost use Rattle.xoofff.specs.Leaves.{closedBy};
+ghost use Rattle.deck.specs.Deck.{run};
+ghost use Rattle.deck.specs.Incremental.{output};
+ghost use Rattle.deck.specs.Closing.{closedBy};
 ghost use Rattle.modes.specs.Mode.{isEmpty};
 ghost use Rattle.modes.specs.Rules.{growth, firstCheck, written, sameBytes};
 ghost use Rattle.steps.specs.Steps.{compressedIf, outputCount};
+use deck::DeckState;
 use xoofff::Compressed;
-use xoofff::DeckState;
 
 // ---- checks 5 to 9
 
 // How far a call moves the index, by the lengths of A and of the text.
-fn index_growth(a: usize, m: usize) -> u64
-    ensures { λ r. ⌜ r ≡ growth a m ⌝ }
+fn index_growth(alen: usize, mlen: usize) -> u64
+    ensures { λ r. ⌜ r ≡ growth alen mlen ⌝ }
 {
-    if m == 0 {
-        return (a / 48 + 2) as u64;
+    if mlen == 0 {
+        return (alen / 48 + 2) as u64;
     }
-    if a == 0 {
-        return (m / 48 + 2) as u64;
+    if alen == 0 {
+        return (mlen / 48 + 2) as u64;
     }
-    (a / 48 + m / 48 + 4) as u64
+    (alen / 48 + mlen / 48 + 4) as u64
 }
 
 // The index after a call, by the index before it and the lengths of the string of A and of the text; in 64 bits, since a record may hold any index.
-pub fn index_after(index: u32, a: usize, m: usize) -> u64
-    ensures { λ r. ⌜ r ≡ index + growth a m ⌝ }
+pub fn index_after(index: u32, alen: usize, mlen: usize) -> u64
+    ensures { λ r. ⌜ r ≡ index + growth alen mlen ⌝ }
 {
-    (index as u64) + index_growth(a, m)
+    (index as u64) + index_growth(alen, mlen)
 }
 
-// The first of the checks 5 to 9 that is met, or 0: by whether the session is open, the index after the call, the length `wanted` of the tag, and the
-// lengths of A, of the text, of the tag and of the output buffer.
+// The first of the checks 5 to 9 that is met, or 0: by whether the session is open, the index after the call, the length `wanted` of a tag in this
+// mode, and the lengths of A, of the text, of the tag and of the output buffer.
 pub fn first_check(
     opened: bool,
     index: u64,
     wanted: usize,
-    a: usize,
-    m: usize,
-    tag: usize,
-    out: usize,
+    alen: usize,
+    mlen: usize,
+    taglen: usize,
+    outlen: usize,
 ) -> u32
-    ensures { λ r. ⌜ r ≡ firstCheck opened index wanted a m tag out ⌝ }
+    ensures { λ r. ⌜ r ≡ firstCheck opened index wanted alen mlen taglen outlen ⌝ }
 {
     if !opened {
         return 5;
     }
-    if 16384 < a {
+    if 16384 < alen {
         return 6;
     }
-    if 16384 < m {
+    if 16384 < mlen {
         return 6;
     }
-    if tag != wanted {
+    if taglen != wanted {
         return 7;
     }
-    if out < m {
+    if outlen < mlen {
         return 8;
     }
     if 1048576 < index {

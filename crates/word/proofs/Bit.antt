@@ -174,7 +174,8 @@ ofBits-ext (suc k) f g h = ap₂ (λ (x : Bool) (y : ℕ). digit x * 2 ^ k + y) 
 pub word-ext : (n k : ℕ) (f : ℕ → Bool) → n < 2 ^ k → ((z : ℕ) → z < k → bit n z ≡ f z) → n ≡ ofBits k f
 word-ext n k f h e = sym (mod-eq-of-lt h) ∙ low-is n k ∙ ofBits-ext k (bit n) f e
 
-digit-lt : (b : Bool) → digit b < 2
+-- a bit is a digit below 2
+pub digit-lt : (b : Bool) → digit b < 2
 digit-lt true = lit< tt
 digit-lt false = lit< tt
 

@@ -128,9 +128,6 @@ Words w l = (i : ℕ) → getD l i 0 < 2 ^ w
 abbrev pub Filled : (ℕ → ℕ) → List ℕ → ℕ → Type 0
 Filled f l n = (k : ℕ) → k < n → getD l k 0 ≡ f k
 
-pub filled-none : (f : ℕ → ℕ) (l : List ℕ) → Filled f l 0
-filled-none f l k h = absurd (omega arith)
-
 -- one more store
 pub filled-more : (f : ℕ → ℕ) (l : List ℕ) (n v : ℕ) → n < length l → v ≡ f n → Filled f l n → Filled f (set l n v) (n + 1)
 filled-more f l n v h e d k g = go (decLe n k)

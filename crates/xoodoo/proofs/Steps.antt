@@ -12,9 +12,9 @@ use lib.Bits.{bitAnd, bitXor}
 use Rattle.word.specs.Word.{bit, rotateLeft, _⊕_}
 use Rattle.word.proofs.Lists.{Words}
 use Rattle.word.proofs.Bit.{Is, is-eq, is-own, is-more, is-zero, is-xor, is-and, is-not}
-use Rattle.xoodoo.specs.State.{State, plane, shift, bits, lane, on}
+use Rattle.state.specs.State.{State, plane, shift, bits, lane, on}
 use Rattle.xoodoo.specs.Xoodoo.{P, theta, rhoWest, C, iota, B, chi, rhoEast, round, rounds}
-use Rattle.xoodoo.proofs.Lanes.{Agree, Local, next, twelve, lanes-are}
+use Rattle.state.proofs.Lanes.{Agree, Local, shifted, next, twelve, lanes-are}
 
 -- one lane of chi
 pub is-chi : {a b c : ℕ} → a < 2 ^ 32 → b < 2 ^ 32 → c < 2 ^ 32 → Is 32 (bitXor a (bitAnd ((2 ^ 32 - 1) - b) c)) (λ z. bit a z ⊕ (not (bit b z) && bit c z))
@@ -45,9 +45,6 @@ rounds-more cs i s t h e =
     ap₂ (λ (k : ℕ) (u : List ℕ). rounds (drop k cs) u) (add-one i) e ∙ ap (λ (l : List ℕ). rounds l s) (sym (drop-cons cs i 0 h))
 
 -- ---- each step reads only a state's own bits
-
-pub shifted : (A B : State) → Agree A B → (y : ℕ) → y < 3 → (t v x z : ℕ) → shift t v (plane y A) x z ≡ shift t v (plane y B) x z
-shifted A B h y j t v x z = h ((x + (4 - t)) % 4) y ((z + (32 - v)) % 32) (mod-lt (x + (4 - t)) (lit< tt)) j (mod-lt (z + (32 - v)) (lit< tt))
 
 pub theta-local : Local theta
 theta-local A B h x y z i j k = ap₂ _⊕_ (h x y z i j k) (ap₂ _⊕_ (p 1 5) (p 1 14))

@@ -5,7 +5,7 @@ use mathlib.Core.List.{List, [], _∷_}
 use Prim.Native.Nat.{ℕ}
 use lib.Dec.{eqb}
 use Rattle.word.specs.Word.{bit, _⊕_}
-use Rattle.xoodoo.specs.State.{Plane, State, plane, planes, shift, on}
+use Rattle.state.specs.State.{Plane, State, plane, planes, shift, on}
 
 -- ---- theta
 

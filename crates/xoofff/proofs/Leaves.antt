@@ -11,15 +11,16 @@ use lib.Seq.{getD-set-same, getD-set-other, getD-append-seam, ext-getD}
 use Rattle.word.specs.Lists.{tabulate, sum}
 use Rattle.word.proofs.Lists.{Filled, filled-more, tabulate-is, tabulate-at, tabulate-length, sum-at, sum-length}
 use Rattle.xoodoo.specs.Xoodoo.{perm}
-use Rattle.xoodoo.specs.Rolling.{rollIn, rollOut}
-use Rattle.xoodoo.specs.Bytes.{stateByte, toBytes}
-use Rattle.xoofff.specs.declared.DeckState.{DeckState}
+use Rattle.rolling.specs.Rolling.{rollIn, rollOut}
+use Rattle.state.specs.Bytes.{toBytes}
+use Rattle.deck.specs.declared.DeckState.{DeckState}
 use Rattle.xoofff.specs.declared.Compressed.{Compressed}
-use Rattle.xoofff.specs.Strings.{Str, block, blocks}
-use Rattle.xoofff.specs.Deck.{iterate, maskAt, addBlocks, indexGrowth, outputBlock, outputByte, run}
-use Rattle.xoofff.specs.Incremental.{append}
+use Rattle.deck.specs.Strings.{Str, block, blocks}
+use Rattle.deck.specs.Deck.{iterate, maskAt, addBlocks, indexGrowth, outputByte, run}
+use Rattle.deck.specs.Incremental.{append}
 use Rattle.xoofff.specs.Leaves.{Added, outputBlocks, compressed}
-use Rattle.xoofff.proofs.Deck.{iterate-more, maskAt-more, addBlocks-more}
+use Rattle.deck.proofs.Deck.{iterate-more, maskAt-more, addBlocks-more}
+use Rattle.deck.proofs.Output.{outputByte-block}
 
 -- ---- the bytes of a block
 
@@ -163,16 +164,6 @@ added-all f n o o′ e a =
 
 -- ---- expansion
 
--- what the bytes of one output block are in the output: from byte p on, in the block that p lies in
-pub block-bytes : (y k′ z : List ℕ) (p j n k : ℕ) → p / 48 ≡ j → z ≡ iterate j rollOut y → n ≤ 48 - p % 48 → k < n
-    → getD (toBytes (sum (perm z) k′)) (p % 48 + k) 0 ≡ outputByte y k′ (p + k)
-unfolding outputByte outputBlock
-block-bytes y k′ z p j n k ej ez hn hk =
-    let q : j ≡ (p + k) / 48 = omega arith in
-    let r : p % 48 + k ≡ (p + k) % 48 = omega arith in
-    tabulate-at 48 (stateByte (sum (perm z) k′)) (p % 48 + k) (omega arith)
-    ∙ ap₂ stateByte (ap (λ (u : List ℕ). sum (perm u) k′) (ez ∙ ap (λ (i : ℕ). iterate i rollOut y) q)) r
-
 pub no-blocks : (i : ℕ) → 0 ≡ outputBlocks i 0
 unfolding outputBlocks
 no-blocks i = refl
@@ -214,7 +205,7 @@ expanded-more y k′ from o z o′ o″ m n count b t e h eb et d x =
           (λ k l.
           let a : from + m + k ≡ from + (m + k) = omega arith in
           ap (λ (u : List ℕ). getD u ((from + m) % 48 + k) 0) eb
-          ∙ block-bytes y k′ z (from + m) (from / 48 + count) n k e (x .rolled) h l
+          ∙ outputByte-block y k′ z (from + m) (from / 48 + count) n k e (x .rolled) h l
           ∙ ap (outputByte y k′) a)
           (x .added) d;
     }

@@ -1,31 +1,14 @@
--- What the code's leaves are handed and give: a string's closing byte, and the counts of permutations (document 01, "Counts and limits").
+-- What the code's leaves give: the counts of permutations (document 01, "Counts and limits"), and a buffer to which bytes were added.
 -- Assumes nothing.
-use mathlib.Core.Bool.{Bool, cond}
-use mathlib.Core.List.{List, [], _∷_}
+use mathlib.Core.List.{List}
 use mathlib.Core.Path.{_≡_}
-use Prim.Native.Nat.{ℕ, zero, suc, _+_, _*_, _-_, _/_, _%_, _≤_, _<_}
+use Prim.Native.Nat.{ℕ, zero, suc, _+_, _-_, _/_, _≤_, _<_}
 use lib.Bits.{bitXor}
-use lib.Dec.{leb}
 use lib.ListN.{length, getD}
-use Rattle.word.specs.Word.{bit, digit}
-use Rattle.xoofff.specs.declared.DeckState.{DeckState}
+use Rattle.deck.specs.declared.DeckState.{DeckState}
+use Rattle.deck.specs.Strings.{Str, blocks}
+use Rattle.deck.specs.Incremental.{append}
 use Rattle.xoofff.specs.declared.Compressed.{Compressed}
-use Rattle.xoofff.specs.Strings.{Str, blocks}
-use Rattle.xoofff.specs.Incremental.{append}
-
--- the byte that follows a string's last byte: the frame bits, the padding bit, zeros
-unfoldable pub closingByte : List Bool → ℕ
-closingByte [] = 1
-closingByte (f ∷ fs) = digit f + 2 * closingByte fs
-
--- the frame bits that a closing byte carries: its bits below its highest 1-bit, of which there are at most n
-unfoldable pub frameBits : (n c : ℕ) → List Bool
-frameBits zero c = []
-frameBits (suc n) c = cond (leb c 1) [] (bit c 0 ∷ frameBits n (c / 2))
-
--- the string of these bytes and this closing byte
-abbrev pub closedBy : List ℕ → ℕ → Str
-closedBy s c = record { bytes = s; frame = frameBits 7 c }
 
 -- the output blocks that hold the n bytes from byte i on
 unfoldable pub outputBlocks : (i n : ℕ) → ℕ

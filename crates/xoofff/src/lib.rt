@@ -1,22 +1,17 @@
-// The deck function Xoofff, incremental: what a session keeps of its history, and the leaves that compress a string and expand the output.
+// The deck function Xoofff, incremental: the leaves that compress a string and expand the output.
 ghost use mathlib.Core.Path.{_≡_};
 ghost use mathlib.Core.List.{[], _∷_, _++_};
 ghost use Prim.Native.Nat.{_+_, _*_, _-_, _≤_, _<_, min};
 ghost use lib.ListN.{length, getD};
 ghost use Rattle.word.specs.Lists.{sum};
 ghost use Rattle.xoodoo.specs.Xoodoo.{perm};
-ghost use Rattle.xoodoo.specs.Rolling.{rollOut};
-ghost use Rattle.xoodoo.specs.Bytes.{toBytes};
-ghost use Rattle.xoofff.specs.Strings.{block};
-ghost use Rattle.xoofff.specs.Deck.{iterate, keyMask, outputByte, run};
-ghost use Rattle.xoofff.specs.Leaves.{closedBy, compressed, outputBlocks, Added};
-
-// What a session keeps of its history: the accumulator, the mask at the index, and the input index.
-pub struct DeckState {
-    pub acc: [u32; 12],
-    pub mask: [u32; 12],
-    pub index: u32,
-}
+ghost use Rattle.rolling.specs.Rolling.{rollOut};
+ghost use Rattle.state.specs.Bytes.{toBytes};
+ghost use Rattle.deck.specs.Strings.{block};
+ghost use Rattle.deck.specs.Deck.{iterate, keyMask, outputByte, run};
+ghost use Rattle.deck.specs.Closing.{closedBy};
+ghost use Rattle.xoofff.specs.Leaves.{compressed, outputBlocks, Added};
+use deck::DeckState;
 
 // The state after one more string, and the permutations done for it.
 pub struct Compressed {
@@ -59,7 +54,7 @@ fn load_block(s: &[u8], closing: u8, j: usize) -> [u32; 12]
     ensures { λ r. ⌜ r ≡ block (closedBy (now (s .entry)) closing) j ⌝ }
 {
     let b = block_bytes(s, closing, j);
-    xoodoo::from_bytes(&b)
+    state::from_bytes(&b)
 }
 
 // The mask k of a key: one permutation.
@@ -75,9 +70,9 @@ pub fn key_mask(key: &[u8]) -> [u32; 12]
 fn add_block(acc: [u32; 12], mask: [u32; 12], b: [u32; 12]) -> [u32; 12]
     ensures { λ r. ⌜ r ≡ sum acc (perm (sum b mask)) ⌝ }
 {
-    let x = xoodoo::add(b, mask);
+    let x = state::add(b, mask);
     let p = xoodoo::permute(x);
-    xoodoo::add(acc, p)
+    state::add(acc, p)
 }
 
 // One more string, of these bytes and this closing byte: block by block, and the mask rolled once more for the blank index.
@@ -92,11 +87,11 @@ pub fn compress(d: DeckState, s: &[u8], closing: u8) -> Compressed
         let b = load_block(s, closing, j);
         let x = add_block(acc, mask, b);
         acc = x;
-        let m = xoodoo::roll_in(mask);
+        let m = rolling::roll_in(mask);
         mask = m;
         j += 1;
     }
-    let blank = xoodoo::roll_in(mask);
+    let blank = rolling::roll_in(mask);
     let count = j as u32;
     let index = d.index + count + 1;
     let state = DeckState {
@@ -114,7 +109,7 @@ fn roll_by(y: [u32; 12], n: usize) -> [u32; 12]
     let mut z = y;
     let mut i: usize = 0;
     while i < n {
-        let t = xoodoo::roll_out(z);
+        let t = rolling::roll_out(z);
         z = t;
         i += 1;
     }
@@ -127,8 +122,8 @@ fn output_bytes(y: [u32; 12], mask: &[u32; 12]) -> [u8; 48]
 {
     let p = xoodoo::permute(y);
     let k = *mask;
-    let o = xoodoo::add(p, k);
-    xoodoo::to_bytes(&o)
+    let o = state::add(p, k);
+    state::to_bytes(&o)
 }
 
 // Adds the bytes of a block from byte `skip` on to the buffer from byte `at` on, as many as there are and fit; gives their number.
@@ -158,7 +153,7 @@ pub fn expand(y: [u32; 12], mask: &[u32; 12], from: usize, out: &mut [u8]) -> u3
     while at < out.len() {
         let b = output_bytes(z, mask);
         at += xor_bytes(&b, (from + at) % 48, at, out);
-        let t = xoodoo::roll_out(z);
+        let t = rolling::roll_out(z);
         z = t;
         count += 1;
     }

@@ -1,7 +1,7 @@
 // The deck function over the histories on standard input. A record is a header of six bytes and, but for O, so many bytes of data: K sets
 // the key and an empty history; S appends the string of the data and the header's closing byte; O prints index, accumulator, mask and a run
 // of the output, each on a line. The header: the letter, the closing byte, the length and the offset, the lowest byte first.
-use xoofff::DeckState;
+use deck::DeckState;
 
 // A header's fields.
 struct Header {
@@ -11,25 +11,19 @@ struct Header {
     from: usize,
 }
 
-// A number of two bytes, the lowest first.
-fn pair(a: u8, b: u8) -> usize {
-    (a as usize) + 256 * (b as usize)
-}
-
 fn parse(h: &[u8; 6]) -> Header {
     Header {
         letter: h[0],
         closing: h[1],
-        len: pair(h[2], h[3]),
-        from: pair(h[4], h[5]),
+        len: hexline::pair(h[2], h[3]),
+        from: hexline::pair(h[4], h[5]),
     }
 }
 
 // A state on a line.
 fn print_state(s: [u32; 12]) {
-    let b = xoodoo::to_bytes(&s);
-    hexline::print_hex(&b);
-    io::write_all(1, b"\n");
+    let b = state::to_bytes(&s);
+    hexline::print_line(&b);
 }
 
 // The run of the output from byte `from` on, added to the buffer.
@@ -53,8 +47,7 @@ fn print_output(d: DeckState, from: usize, out: &mut [u8]) {
     print_state(mask);
     let y = xoodoo::permute(acc);
     fill(y, &mask, from, out);
-    hexline::print_hex(out);
-    io::write_all(1, b"\n");
+    hexline::print_line(out);
 }
 
 // The state under a key, before the first string.

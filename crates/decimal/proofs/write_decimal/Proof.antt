@@ -6,23 +6,23 @@ use mathlib.Core.List.{List, [], _∷_, _++_, append-assoc, append-nil}
 use native.Mathlib.Omega.{arith}
 use lib.ListN.{length, set, length-append, length-set}
 use borrow.Author.Needs.{needs}
-use Rattle.decimal.specs.Decimal.{decimal, digit}
-use Rattle.decimal.specs.Buffer.{written}
+use Rattle.decimal.specs.Decimal.{decimal, digitChar}
+use Rattle.decimal.specs.Buffer.{writtenAt}
 use Rattle.decimal.proofs.Laws.{decimal-small, decimal-large, decimal-some}
-use Rattle.decimal.proofs.Buffers.{written-none, written-before}
+use Rattle.decimal.proofs.Buffers.{writtenAt-none, writtenAt-before}
 use Rattle.decimal.proofs.write_decimal.Statement.{statement}
 use Rattle.decimal.proofs.write_decimal.Tie as tie
 
 abbrev Inv-loop : tie.InvT-loop
-Inv-loop n out₀ at end v₀ i₀ out v i = (tail : List ℕ) × (decimal v ++ tail ≡ decimal n) × (i ≡ at + length (decimal v)) × (out ≡ written out₀ i tail) × (length out ≡ length out₀)
+Inv-loop n out₀ at end v₀ i₀ out v i = (tail : List ℕ) × (decimal v ++ tail ≡ decimal n) × (i ≡ at + length (decimal v)) × (out ≡ writtenAt out₀ i tail) × (length out ≡ length out₀)
 
 abbrev μ-loop : tie.MeasureT-loop
 μ-loop n out₀ at end v₀ i₀ out v i = v
 
 -- what a turn leaves: one digit more stands in front of those written
-turn : (n at v i d : ℕ) (out₀ out tail : List ℕ) → 10 ≤ v → decimal v ++ tail ≡ decimal n → i ≡ at + length (decimal v) → out ≡ written out₀ i tail
-    → at + length (decimal n) ≤ length out₀ → d ≡ digit (v % 10)
-    → (decimal (v / 10) ++ (d ∷ tail) ≡ decimal n) × (i - 1 ≡ at + length (decimal (v / 10))) × (set out (i - 1) d ≡ written out₀ (i - 1) (d ∷ tail))
+turn : (n at v i d : ℕ) (out₀ out tail : List ℕ) → 10 ≤ v → decimal v ++ tail ≡ decimal n → i ≡ at + length (decimal v) → out ≡ writtenAt out₀ i tail
+    → at + length (decimal n) ≤ length out₀ → d ≡ digitChar (v % 10)
+    → (decimal (v / 10) ++ (d ∷ tail) ≡ decimal n) × (i - 1 ≡ at + length (decimal (v / 10))) × (set out (i - 1) d ≡ writtenAt out₀ (i - 1) (d ∷ tail))
 turn n at v i d out₀ out tail large spelled place content room is =
     let shorter : length (decimal v) ≡ length (decimal (v / 10)) + 1 = ap length (decimal-large v large) ∙ simp length-append in
     let whole : length (decimal v) + length tail ≡ length (decimal n) = sym (length-append (decimal v) tail) ∙ ap length spelled in
@@ -32,25 +32,25 @@ turn n at v i d out₀ out tail large spelled place content room is =
           ∙ ap (λ (l : List ℕ). l ++ tail) (sym (decimal-large v large))
           ∙ spelled,
       omega arith,
-      ap (λ (l : List ℕ). set l (i - 1) d) (content ∙ ap (λ (k : ℕ). written out₀ k tail) back)
-          ∙ written-before out₀ (i - 1) d tail (omega arith),
+      ap (λ (l : List ℕ). set l (i - 1) d) (content ∙ ap (λ (k : ℕ). writtenAt out₀ k tail) back)
+          ∙ writtenAt-before out₀ (i - 1) d tail (omega arith),
     )
 
 -- what the last store leaves
-last : (n at v i d : ℕ) (out₀ out tail : List ℕ) → v < 10 → decimal v ++ tail ≡ decimal n → i ≡ at + length (decimal v) → out ≡ written out₀ i tail
-    → at + length (decimal n) ≤ length out₀ → d ≡ digit v
-    → set out at d ≡ written out₀ at (decimal n)
+last : (n at v i d : ℕ) (out₀ out tail : List ℕ) → v < 10 → decimal v ++ tail ≡ decimal n → i ≡ at + length (decimal v) → out ≡ writtenAt out₀ i tail
+    → at + length (decimal n) ≤ length out₀ → d ≡ digitChar v
+    → set out at d ≡ writtenAt out₀ at (decimal n)
 last n at v i d out₀ out tail small spelled place content room is =
     let one : decimal v ≡ d ∷ [] = decimal-small v small ∙ ap (λ (x : ℕ). x ∷ []) (sym is) in
     let all : d ∷ tail ≡ decimal n = ap (λ (l : List ℕ). l ++ tail) (sym one) ∙ spelled in
     let next : i ≡ at + 1 = place ∙ ap (λ (l : List ℕ). at + length l) one in
     let fits : at + 1 + length tail ≤ length out₀ = omega (arith, ap length all) in
-    ap (λ (l : List ℕ). set l at d) (content ∙ ap (λ (k : ℕ). written out₀ k tail) next)
-    ∙ written-before out₀ at d tail fits
-    ∙ ap (written out₀ at) all
+    ap (λ (l : List ℕ). set l at d) (content ∙ ap (λ (k : ℕ). writtenAt out₀ k tail) next)
+    ∙ writtenAt-before out₀ at d tail fits
+    ∙ ap (writtenAt out₀ at) all
 
 loop-holds : tie.Need-loop-holds Inv-loop μ-loop
-loop-holds c = ([], append-nil _, omega arith, sym (written-none _ _), refl)
+loop-holds c = ([], append-nil _, omega arith, sym (writtenAt-none _ _), refl)
 
 sub-i : tie.Need-sub-i Inv-loop μ-loop
 sub-i c = omega (arith, decimal-some (c .before .loop .v))

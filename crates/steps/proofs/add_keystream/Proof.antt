@@ -3,7 +3,7 @@ use mathlib.Core.Path.{sym, ap, _∙_}
 use native.Mathlib.Omega.{arith}
 use denote.Ref.{now}
 use borrow.Author.Needs.{needs}
-use Rattle.xoofff.specs.Incremental.{output}
+use Rattle.deck.specs.Incremental.{output}
 use Rattle.steps.specs.Steps.{outputCount}
 use Rattle.steps.proofs.Buffers.{part-added, part-length}
 use Rattle.steps.proofs.add_keystream.Statement.{statement}

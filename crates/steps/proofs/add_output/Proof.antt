@@ -7,8 +7,8 @@ use lib.ListN.{length}
 use denote.Ref.{now}
 use borrow.Author.Needs.{needs}
 use Rattle.word.specs.Lists.{sum}
-use Rattle.xoofff.specs.Deck.{run, outputByte}
-use Rattle.xoofff.specs.Incremental.{output}
+use Rattle.deck.specs.Deck.{run, outputByte}
+use Rattle.deck.specs.Incremental.{output}
 use Rattle.xoofff.proofs.Leaves.{blocks-most}
 use Rattle.steps.proofs.add_output.Statement.{statement}
 use Rattle.steps.proofs.add_output.Tie as tie

@@ -2,7 +2,7 @@
 use mathlib.Core.Logic.{inl, inr}
 use denote.Ref.{now}
 use borrow.Author.Needs.{needs}
-use Rattle.xoofff.specs.Leaves.{closedBy}
+use Rattle.deck.specs.Closing.{closedBy}
 use Rattle.steps.proofs.History.{appended-a, skipped-a}
 use Rattle.steps.proofs.append_metadata.Statement.{statement}
 use Rattle.steps.proofs.append_metadata.Tie as tie

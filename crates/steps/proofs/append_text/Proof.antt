@@ -1,7 +1,7 @@
 -- `steps::append_text` meets its contract. Assumes nothing.
 use denote.Ref.{now}
 use borrow.Author.Needs.{needs}
-use Rattle.xoofff.specs.Leaves.{closedBy}
+use Rattle.deck.specs.Closing.{closedBy}
 use Rattle.steps.proofs.History.{appended-text, skipped-text}
 use Rattle.steps.proofs.append_text.Statement.{statement}
 use Rattle.steps.proofs.append_text.Tie as tie

@@ -2,7 +2,7 @@
 use mathlib.Core.Path.{ap, _∙_}
 use denote.Ref.{now}
 use borrow.Author.Needs.{needs}
-use Rattle.xoofff.specs.Incremental.{output}
+use Rattle.deck.specs.Incremental.{output}
 use Rattle.steps.specs.Steps.{outputCount}
 use Rattle.steps.proofs.Buffers.{tag-filled}
 use Rattle.steps.proofs.tag_of.Statement.{statement}

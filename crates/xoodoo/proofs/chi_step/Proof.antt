@@ -1,7 +1,7 @@
 -- `xoodoo::chi_step` meets its contract. Assumes nothing.
 use borrow.Author.Needs.{needs}
 use Rattle.word.proofs.Lists.{Words}
-use Rattle.xoodoo.proofs.Lanes.{fits-of, lanes-are}
+use Rattle.state.proofs.Lanes.{fits-of, lanes-are}
 use Rattle.xoodoo.proofs.Steps.{is-chi}
 use Rattle.xoodoo.proofs.chi_step.Statement.{statement}
 use Rattle.xoodoo.proofs.chi_step.Tie as tie

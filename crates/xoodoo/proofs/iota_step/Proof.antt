@@ -1,6 +1,6 @@
 -- `xoodoo::iota_step` meets its contract. Assumes nothing.
 use borrow.Author.Needs.{needs}
-use Rattle.xoodoo.proofs.Lanes.{fits-of}
+use Rattle.state.proofs.Lanes.{fits-of}
 use Rattle.xoodoo.proofs.Steps.{iota-law}
 use Rattle.xoodoo.proofs.iota_step.Statement.{statement}
 use Rattle.xoodoo.proofs.iota_step.Tie as tie

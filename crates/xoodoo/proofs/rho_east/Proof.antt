@@ -2,7 +2,7 @@
 use borrow.Author.Needs.{needs}
 use Rattle.word.proofs.Bit.{is-own, is-eq}
 use Rattle.word.proofs.Lists.{Words}
-use Rattle.xoodoo.proofs.Lanes.{fits-of, lanes-are}
+use Rattle.state.proofs.Lanes.{fits-of, lanes-are}
 use Rattle.xoodoo.proofs.rho_east.Statement.{statement}
 use Rattle.xoodoo.proofs.rho_east.Tie as tie
 

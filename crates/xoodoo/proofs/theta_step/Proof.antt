@@ -2,7 +2,7 @@
 use borrow.Author.Needs.{needs}
 use Rattle.word.proofs.Bit.{is-own, is-xor}
 use Rattle.word.proofs.Lists.{Words}
-use Rattle.xoodoo.proofs.Lanes.{fits-of, lanes-are}
+use Rattle.state.proofs.Lanes.{fits-of, lanes-are}
 use Rattle.xoodoo.proofs.Steps.{is-effect, is-parity}
 use Rattle.xoodoo.proofs.theta_step.Statement.{statement}
 use Rattle.xoodoo.proofs.theta_step.Tie as tie

@@ -5,10 +5,10 @@ use native.Mathlib.Omega.{arith}
 use lib.ListN.{length}
 use denote.Ref.{now}
 use borrow.Author.Needs.{needs}
-use Rattle.xoofff.specs.Deck.{addBlocks, maskAt}
-use Rattle.xoofff.specs.Leaves.{closedBy}
-use Rattle.xoofff.proofs.Strings.{closed-blocks}
-use Rattle.xoofff.proofs.Deck.{addBlocks-none, maskAt-none}
+use Rattle.deck.specs.Deck.{addBlocks, maskAt}
+use Rattle.deck.specs.Closing.{closedBy}
+use Rattle.deck.proofs.Strings.{closed-blocks}
+use Rattle.deck.proofs.Deck.{addBlocks-none, maskAt-none}
 use Rattle.xoofff.proofs.Leaves.{block-added, mask-rolled, all-added}
 use Rattle.xoofff.proofs.compress.Statement.{statement}
 use Rattle.xoofff.proofs.compress.Tie as tie

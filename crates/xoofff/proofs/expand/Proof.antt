@@ -7,8 +7,8 @@ use native.Mathlib.Omega.{arith}
 use lib.ListN.{length}
 use denote.Ref.{now}
 use borrow.Author.Needs.{needs}
-use Rattle.xoodoo.specs.Rolling.{rollOut}
-use Rattle.xoofff.specs.Deck.{iterate}
+use Rattle.rolling.specs.Rolling.{rollOut}
+use Rattle.deck.specs.Deck.{iterate}
 use Rattle.xoofff.specs.Leaves.{outputBlocks}
 use Rattle.xoofff.proofs.Leaves.{added-all, no-blocks, blocks-more, blocks-most, Expanded, expanded-none, expanded-more, place-more}
 use Rattle.xoofff.proofs.expand.Statement.{statement}

@@ -3,7 +3,7 @@ use mathlib.Core.Path.{ap, sym, _∙_}
 use denote.Ref.{now}
 use borrow.Author.Needs.{needs}
 use Rattle.xoodoo.specs.Xoodoo.{perm}
-use Rattle.xoofff.proofs.Deck.{keyMask-closed}
+use Rattle.deck.proofs.Deck.{keyMask-closed}
 use Rattle.xoofff.proofs.key_mask.Statement.{statement}
 use Rattle.xoofff.proofs.key_mask.Tie as tie
 

@@ -4,8 +4,8 @@ use mathlib.Core.List.{List}
 use Prim.Native.Nat.{ℕ}
 use denote.Ref.{now}
 use borrow.Author.Needs.{needs}
-use Rattle.xoodoo.specs.Bytes.{fromBytes}
-use Rattle.xoofff.proofs.Strings.{block-tabulate}
+use Rattle.state.specs.Bytes.{fromBytes}
+use Rattle.deck.proofs.Strings.{block-tabulate}
 use Rattle.xoofff.proofs.load_block.Statement.{statement}
 use Rattle.xoofff.proofs.load_block.Tie as tie
 

@@ -1,0 +1,33 @@
+-- An envelope that is read has one spelling only, and the place is where it ends. Assumes nothing.
+use Prim.Native.Nat.{ℕ}
+use mathlib.Core.Path.{_≡_, sym, ap, _∙_}
+use mathlib.Core.List.{List}
+use lib.ListN.{length, take, drop}
+use lib.Seq.{take-at}
+use Rattle.envelope.specs.Layout.{letterS, envelope}
+use Rattle.envelope.specs.Read.{readEnvelope, metadataPart, cryptogramPart, tagPart}
+use Rattle.envelope.specs.declared.Envelope.{Envelope}
+use Rattle.envelope.proofs.Reading.{envelope-complete, envelope-sound}
+
+-- the place is where the envelope ends, and the bytes up to it are the envelope
+pub place-is : (s : List ℕ) → readEnvelope s .number ≡ 0
+    → readEnvelope s .place ≡ length (envelope letterS (readEnvelope s .group) (metadataPart s) (cryptogramPart s) (tagPart s))
+place-is s e = ap (λ (r : Envelope). r .place) (envelope-complete s _ _ _ _ _ _ (envelope-sound s e) .0)
+
+pub front-is : (s : List ℕ) → readEnvelope s .number ≡ 0
+    → take (readEnvelope s .place) s ≡ envelope letterS (readEnvelope s .group) (metadataPart s) (cryptogramPart s) (tagPart s)
+front-is s e =
+    ap (take (readEnvelope s .place)) (envelope-sound s e .bytes)
+    ∙ take-at (envelope letterS (readEnvelope s .group) (metadataPart s) (cryptogramPart s) (tagPart s)) (drop (readEnvelope s .place) s) (readEnvelope s .place) (sym (place-is s e))
+
+-- An envelope has one spelling only: bytes that read as the same group and parts are the same up to the place.
+pub one-spelling : (s t : List ℕ) → readEnvelope s .number ≡ 0 → readEnvelope t .number ≡ 0 → readEnvelope s .group ≡ readEnvelope t .group
+    → metadataPart s ≡ metadataPart t → cryptogramPart s ≡ cryptogramPart t → tagPart s ≡ tagPart t
+    → take (readEnvelope s .place) s ≡ take (readEnvelope t .place) t
+one-spelling s t es et g a c x =
+    front-is s es
+    ∙ ap (λ (k : ℕ). envelope letterS k (metadataPart s) (cryptogramPart s) (tagPart s)) g
+    ∙ ap (λ (l : List ℕ). envelope letterS (readEnvelope t .group) l (cryptogramPart s) (tagPart s)) a
+    ∙ ap (λ (l : List ℕ). envelope letterS (readEnvelope t .group) (metadataPart t) l (tagPart s)) c
+    ∙ ap (envelope letterS (readEnvelope t .group) (metadataPart t) (cryptogramPart t)) x
+    ∙ sym (front-is t et)

@@ -1,0 +1,95 @@
+-- What each test and each write of the code that makes an envelope comes to. Assumes nothing.
+use Prim.Native.Nat.{ℕ, _+_, _<_, _≤_}
+use mathlib.Core.Path.{_≡_, refl, sym, ap, _∙_}
+use mathlib.Core.List.{List, [], _∷_, _++_, append-assoc}
+use native.Mathlib.Omega.{arith}
+use lib.ListN.{length, set, length-append}
+use borrow.Author.Tests.{lt-ltb, le-ltb, eq-eqb, ne-eqb}
+use Rattle.decimal.specs.Buffer.{writtenAt}
+use Rattle.decimal.proofs.Laws.{decimal-within}
+use Rattle.decimal.proofs.Buffers.{writtenAt-join, writtenAt-pair}
+use Rattle.envelope.specs.Layout.{comma, maxGroup, maxLength, tagLength, field, header, envelope}
+use Rattle.envelope_write.specs.Write.{writeNumber}
+use Rattle.envelope.proofs.Layouts.{header-length, field-length, tag-bound}
+
+module _ (letter group alen mlen tlen room : ℕ) where
+  pub number-3 : maxGroup < group → writeNumber letter group alen mlen tlen room ≡ 3
+  unfolding writeNumber
+  number-3 h = simp (lt-ltb maxGroup group h)
+
+  module _ (g : group ≤ maxGroup) where
+    pub number-6-metadata : maxLength < alen → writeNumber letter group alen mlen tlen room ≡ 6
+    unfolding writeNumber
+    number-6-metadata h = simp (le-ltb maxGroup group g, lt-ltb maxLength alen h)
+
+    module _ (a : alen ≤ maxLength) where
+      pub number-6-message : maxLength < mlen → writeNumber letter group alen mlen tlen room ≡ 6
+      unfolding writeNumber
+      number-6-message h = simp (le-ltb maxGroup group g, le-ltb maxLength alen a, lt-ltb maxLength mlen h)
+
+      module _ (m : mlen ≤ maxLength) where
+        pub number-7 : (tlen ≡ tagLength letter → ⊥) → writeNumber letter group alen mlen tlen room ≡ 7
+        unfolding writeNumber
+        number-7 h = simp (le-ltb maxGroup group g, le-ltb maxLength alen a, le-ltb maxLength mlen m, ne-eqb tlen (tagLength letter) h)
+
+        -- n is the header's length
+        module _ (t : tlen ≡ tagLength letter) (n : ℕ) (is-n : n ≡ length (header letter group alen mlen)) where
+          pub sizes : n + alen + mlen + tlen ≤ 32817
+          sizes =
+              omega (arith, tag-bound letter, header-length letter group alen mlen, decimal-within 1 group (omega arith), decimal-within 4 alen (omega arith), decimal-within 4 mlen (omega arith))
+
+          pub number-8 : room < n + alen + mlen + tlen → writeNumber letter group alen mlen tlen room ≡ 8
+          unfolding writeNumber
+          number-8 h =
+              simp (
+                le-ltb maxGroup group g,
+                le-ltb maxLength alen a,
+                le-ltb maxLength mlen m,
+                eq-eqb tlen (tagLength letter) t,
+                sym is-n,
+                lt-ltb room (n + alen + mlen + tlen) h,
+              )
+
+          pub number-0 : n + alen + mlen + tlen ≤ room → writeNumber letter group alen mlen tlen room ≡ 0
+          unfolding writeNumber
+          number-0 h =
+              simp (
+                le-ltb maxGroup group g,
+                le-ltb maxLength alen a,
+                le-ltb maxLength mlen m,
+                eq-eqb tlen (tagLength letter) t,
+                sym is-n,
+                le-ltb room (n + alen + mlen + tlen) h,
+              )
+
+-- letter and comma, and then the three numbers, one behind the other, are the header
+pub header-written : (letter group alen mlen p q : ℕ) (out o₁ o₂ o₃ : List ℕ) → length (header letter group alen mlen) ≤ length out
+    → p ≡ 2 + length (field group) → q ≡ p + length (field alen)
+    → o₁ ≡ writtenAt (set (set out 0 letter) 1 comma) 2 (field group) → o₂ ≡ writtenAt o₁ p (field alen) → o₃ ≡ writtenAt o₂ q (field mlen)
+    → o₃ ≡ writtenAt out 0 (header letter group alen mlen)
+unfolding header
+header-written letter group alen mlen p q out o₁ o₂ o₃ room is-p is-q e₁ e₂ e₃ =
+    let total : length (header letter group alen mlen) ≡ 2 + length (field group) + length (field alen) + length (field mlen) =
+    omega (arith, header-length letter group alen mlen, field-length group, field-length alen, field-length mlen) in
+    let start = letter ∷ comma ∷ [] in
+    let w₁ = writtenAt-join out start (field group) 2 refl (omega arith) (writtenAt-pair out letter comma (omega arith)) e₁ in
+    let w₂ = writtenAt-join out (start ++ field group) (field alen) p (omega (arith, length-append start (field group))) (omega (arith, length-append start (field group))) w₁ e₂ in
+    let l₂ : length ((start ++ field group) ++ field alen) ≡ 2 + length (field group) + length (field alen) = simp length-append in
+    let w₃ = writtenAt-join out ((start ++ field group) ++ field alen) (field mlen) q (omega arith) (omega arith) w₂ e₃ in
+    w₃ ∙ ap (writtenAt out 0) (ap (λ (l : List ℕ). letter ∷ comma ∷ l) (append-assoc (field group) (field alen) (field mlen)))
+
+-- the header, metadata, cryptogram and tag, one behind the other, are the envelope
+pub envelope-written : (letter group p q r : ℕ) (metadata cryptogram tag out o₁ o₂ o₃ o₄ : List ℕ)
+    → length (header letter group (length metadata) (length cryptogram)) + length metadata + length cryptogram + length tag ≤ length out
+    → p ≡ length (header letter group (length metadata) (length cryptogram)) → q ≡ p + length metadata → r ≡ q + length cryptogram
+    → o₁ ≡ writtenAt out 0 (header letter group (length metadata) (length cryptogram)) → o₂ ≡ writtenAt o₁ p metadata → o₃ ≡ writtenAt o₂ q cryptogram → o₄ ≡ writtenAt o₃ r tag
+    → o₄ ≡ writtenAt out 0 (envelope letter group metadata cryptogram tag)
+unfolding envelope
+envelope-written letter group p q r metadata cryptogram tag out o₁ o₂ o₃ o₄ room is-p is-q is-r e₁ e₂ e₃ e₄ =
+    let h = header letter group (length metadata) (length cryptogram) in
+    let l₁ = length-append h metadata in
+    let l₂ = length-append (h ++ metadata) cryptogram in
+    let w₁ = writtenAt-join out h metadata p is-p (omega arith) e₁ e₂ in
+    let w₂ = writtenAt-join out (h ++ metadata) cryptogram q (omega arith) (omega arith) w₁ e₃ in
+    let w₃ = writtenAt-join out ((h ++ metadata) ++ cryptogram) tag r (omega arith) (omega arith) w₂ e₄ in
+    w₃ ∙ ap (writtenAt out 0) (append-assoc (h ++ metadata) cryptogram tag ∙ append-assoc h metadata (cryptogram ++ tag))

@@ -1,0 +1,4 @@
+-- Laws that belong to no one function.
+pub mod Moves
+pub mod Facts
+pub mod Edges
