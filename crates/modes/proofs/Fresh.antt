@@ -3,7 +3,7 @@
 use mathlib.Core.Bool.{Bool, true, false, cond}
 use mathlib.Core.List.{List, []}
 use mathlib.Core.Logic.{_≢_, inl}
-use mathlib.Core.Path.{_≡_, refl, ap, _∙_}
+use mathlib.Core.Path.{_≡_, refl, sym, ap, _∙_}
 use Prim.Native.Nat.{ℕ, zero, suc, _+_, _≤_}
 use native.Mathlib.Omega.{arith}
 use lib.ListN.{length}
@@ -12,7 +12,7 @@ use Rattle.xoofff.specs.Deck.{indexOf}
 use Rattle.modes.specs.Call.{CallInput, office, group}
 use Rattle.modes.specs.Paper.{PaperResult}
 use Rattle.modes.specs.Mode.{incremental, sanse}
-use Rattle.modes.specs.Rules.{SessionState, Outcome, growth, wrapAt}
+use Rattle.modes.specs.Rules.{SessionState, Outcome, growth, newSession, wrapAt}
 use Rattle.modes.specs.Ledger.{PaperMode, sansePaper, Ledger, equalTags, wrapFinds, unwrapFinds, checkBefore11, onCheck, accepts, refuses11, ledgerWrap, ledgerUnwrap, freshLedger}
 use Rattle.modes.specs.Exactly.{NoneBefore11}
 use Rattle.modes.specs.TwoEnds.{ledgerAt, finishLedgers, freshLedgers, delivery, Delivers}
@@ -78,13 +78,17 @@ fresh-ledger key i w = accepts-within sanse-paper-laws (freshLedger sansePaper k
 
 -- a fresh ledger, and the session that a start gives, accept every wrap within the limits
 pub fresh-accepts : (key : List ℕ) (i : CallInput) → FreshAccepts key i
-fresh-accepts key i =
-    record {
-      ledger = fresh-ledger key i;
-      session = λ w.
-          ap (λ (s : SessionState DeckState). wrapAt sanse incremental s i .number) (new-session key)
-          ∙ ap (λ (o : Outcome DeckState). o .number) (wrap-is key [] false i) ∙ fresh-ledger key i w;
-    }
+fresh-accepts key i = record { ledger = (fresh-ledger key i, back); session = (λ w. same ∙ fresh-ledger key i w, λ h. back (sym same ∙ h)) }
+  where
+    back : ledgerWrap sansePaper (freshLedger sansePaper key) i .answer .number ≡ 0 → InLimits sansePaper i
+    back h =
+        let n = wrap-exactly sansePaper (freshLedger sansePaper key) i .accepted .0 h in
+        record { metadata = n .metadata; text = n .text; tag = n .tag; out = n .out }
+
+    same : wrapAt sanse incremental (newSession key) i .number ≡ ledgerWrap sansePaper (freshLedger sansePaper key) i .answer .number
+    same =
+        ap (λ (s : SessionState DeckState). wrapAt sanse incremental s i .number) (new-session key)
+        ∙ ap (λ (o : Outcome DeckState). o .number) (wrap-is key [] false i)
 
 -- messages both ways
 pub both-ways : (key : List ℕ) (i j : CallInput) (out out′ : List ℕ) → BothWays key i j out out′

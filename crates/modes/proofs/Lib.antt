@@ -5,6 +5,7 @@ pub mod Sessions
 pub mod Ledgers
 pub mod Entries
 pub mod Delivery
+pub mod Converse
 pub mod Exactly
 pub mod TwoEnds
 pub mod OneCall

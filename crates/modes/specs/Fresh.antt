@@ -1,6 +1,7 @@
 -- What demand 3 speaks of is there (document 01, "What must fall through it?"): before the first call every wrap within the limits is
 -- accepted, and there are lists with messages both ways in which each is delivered. Assumes nothing.
 use mathlib.Core.List.{List, [], _∷_, _++_}
+use mathlib.Core.Logic.{_↔_}
 use mathlib.Core.Path.{_≡_}
 use Prim.Native.Nat.{ℕ, _≤_}
 use lib.ListN.{length}
@@ -17,10 +18,10 @@ pub record InLimits (m : PaperMode) (i : CallInput) : Type 0 where
   pub tag : length (i .tag) ≡ m .tagLength
   pub out : length (i .text) ≤ length (i .out)
 
--- a fresh ledger accepts it, and so does the session that a start gives
+-- a fresh ledger accepts just these, and so does the session that a start gives
 pub record FreshAccepts (key : List ℕ) (i : CallInput) : Type 0 where
-  pub ledger : InLimits sansePaper i → ledgerWrap sansePaper (freshLedger sansePaper key) i .answer .number ≡ 0
-  pub session : InLimits sansePaper i → wrapAt sanse incremental (newSession key) i .number ≡ 0
+  pub ledger : InLimits sansePaper i ↔ (ledgerWrap sansePaper (freshLedger sansePaper key) i .answer .number ≡ 0)
+  pub session : InLimits sansePaper i ↔ (wrapAt sanse incremental (newSession key) i .number ≡ 0)
 
 -- ---- messages both ways
 

@@ -93,6 +93,25 @@ pub record UnwrapPromise (s : Session) (i : CallInput) (r : CallResult) (out tag
   pub isTag : now (args .1 .1 .1 .0) ≡ tag
   pub met : UnwrapPost κs args r exits
 
+-- every call of which the function's `ensures` holds keeps its promise: nothing else is asked of it
+pub start-kept : (κs : Lfts 1) (args : Dens κs start-ps) (exits : AtExit (endedOf 1 start-ps start-r) κs) (r : CallResult)
+    → StartPost κs args r exits → StartPromise (now (args .0)) r
+start-kept κs args exits r h = record { κs = κs; args = args; exits = exits; isKey = refl; met = h }
+
+pub wrap-kept : (κs : Lfts 4) (args : Dens κs wrap-ps) (exits : AtExit (endedOf 4 wrap-ps wrap-r) κs) (r : CallResult)
+    → WrapPost κs args r exits
+    → WrapPromise (args .0) (handed (now (args .1 .0)) (now (args .1 .1 .0)) (now (args .1 .1 .1 .0)) (now (args .1 .1 .1 .1 .0))) r
+    (now (exits .1 .1 .1 .0)) (now (exits .1 .1 .1 .1 .0))
+wrap-kept κs args exits r h =
+    record { κs = κs; args = args; exits = exits; isRecord = refl; isInput = refl; isOut = refl; isTag = refl; met = h }
+
+pub unwrap-kept : (κs : Lfts 4) (args : Dens κs unwrap-ps) (exits : AtExit (endedOf 4 unwrap-ps unwrap-r) κs) (r : CallResult)
+    → UnwrapPost κs args r exits
+    → UnwrapPromise (args .0) (handed (now (args .1 .0)) (now (args .1 .1 .0)) (now (args .1 .1 .1 .1 .0)) (now (args .1 .1 .1 .0))) r
+    (now (exits .1 .1 .1 .1 .0)) (now (args .1 .1 .1 .0))
+unwrap-kept κs args exits r h =
+    record { κs = κs; args = args; exits = exits; isRecord = refl; isInput = refl; isOut = refl; isTag = refl; met = h }
+
 abbrev pub promises : Promises
 promises = record { starts = StartPromise; wraps = WrapPromise; unwraps = UnwrapPromise }
 

@@ -1,6 +1,6 @@
 -- Demands 1 to 3 hold of all promises that give each call's equation with the rules; and so of the program's start, wrap and unwrap, known
 -- by their `ensures` alone. Assumes nothing.
-use mathlib.Core.List.{List}
+use mathlib.Core.List.{List, [], _∷_}
 use mathlib.Core.Path.{_≡_, refl, sym, ap, _∙_, subst}
 use Prim.Native.Nat.{ℕ}
 use Rattle.xoofff.specs.declared.DeckState.{DeckState}
@@ -59,6 +59,23 @@ module _ {p : Promises} (l : ByRules p) where
   pub demand-3-of : Demand3Of p
   demand-3-of key h g first second a b cs os to r =
       modes.demand-3 key h g (startResult first) (startResult second) (l .starts a) (l .starts b) cs os (sessionsOf to) (runs-of r)
+
+-- promises that some result meets, whatever a call is handed
+pub record Kept (p : Promises) : Type 0 where
+  pub wraps : (s : Session) (i : CallInput) → (r : CallResult) × (out : List ℕ) × (tag : List ℕ) × p .wraps s i r out tag
+  pub unwraps : (s : Session) (i : CallInput) → (r : CallResult) × (out : List ℕ) × (tag : List ℕ) × p .unwraps s i r out tag
+
+-- then every list of calls has a run
+pub runs-exist : {p : Promises} → Kept p → (cs : List Call) (from : Records) → (os : List (Outcome DeckState)) × (to : Records) × Run p cs from os to
+runs-exist k [] from = ([], from, Run.none)
+runs-exist k (wrap x i ∷ cs) from =
+    let w = k .wraps (recordAt x from) i in
+    let z = runs-exist k cs (store x (w .0 .session) from) in
+    (callResult (w .0) (w .1) (w .2) ∷ z .0, z .1, Run.wrapped (w .3) (z .2))
+runs-exist k (unwrap x i ∷ cs) from =
+    let w = k .unwraps (recordAt x from) i in
+    let z = runs-exist k cs (store x (w .0 .session) from) in
+    (callResult (w .0) (w .1) (w .2) ∷ z .0, z .1, Run.unwrapped (w .3) (z .2))
 
 -- ---- the program's functions
 
