@@ -15,10 +15,11 @@ use Rattle.modes.specs.Call.{CallInput, Side}
 use Rattle.modes.specs.Mode.{Mode, wholeHistory}
 use Rattle.modes.specs.Paper.{PaperResult}
 use Rattle.modes.specs.Rules.{growth}
-use Rattle.modes.specs.Ledger.{PaperMode, sansePaper, Ledger, equalTags, wrapFinds, unwrapFinds, checkBefore11, onCheck, accepts, refuses11, ledgerWrap, ledgerUnwrap}
+use Rattle.modes.specs.Ledger.{PaperMode, Ledger, equalTags, wrapFinds, unwrapFinds, checkBefore11, onCheck, accepts, refuses11, ledgerWrap, ledgerUnwrap}
 use Rattle.modes.specs.TwoEnds.{delivery}
-use Rattle.modes.proofs.Papers.{toPaper, paperOf, sanse-paper}
-use Rattle.modes.proofs.Steps.{ModeLaws, sanse-laws}
+use Rattle.modes.proofs.Papers.{toPaper, paperOf}
+use Rattle.modes.proofs.Steps.{ModeLaws}
+use Rattle.modes.proofs.Modes.{Follows}
 use Rattle.modes.proofs.Sessions.{wholeHistory-grows}
 
 -- ---- what is asked of a mode
@@ -37,19 +38,19 @@ pub record PaperLaws (m : PaperMode) : Type 0 where
   pub unwraps-index : (key : List ℕ) (h : List Str) (e : Bool) (a c t : List ℕ)
       → indexOf (m .unwraps key h e a c t .history) ≡ indexOf h + growth (length a) (length c)
 
-pub paper-laws : {m : Mode} → ModeLaws m → PaperLaws (paperOf m)
+own-laws : {r : Mode} → ModeLaws r → PaperLaws (paperOf r)
 unfolding paperOf
-paper-laws {m} laws =
+own-laws {r} laws =
     record {
-      undone = λ key h e a p. ap (toPaper m e) (laws .undone (wholeHistory key) h e a p);
+      undone = λ key h e a p. ap (toPaper r e) (laws .undone (wholeHistory key) h e a p);
       wraps-length = λ key. laws .wraps-length (wholeHistory key);
       wraps-tag = λ key. laws .wraps-tag (wholeHistory key);
       wraps-index = λ key. laws .wraps-index (wholeHistory key) (wholeHistory-grows key);
       unwraps-index = λ key. laws .unwraps-index (wholeHistory key) (wholeHistory-grows key);
     }
 
-pub sanse-paper-laws : PaperLaws sansePaper
-sanse-paper-laws = subst PaperLaws sanse-paper (paper-laws sanse-laws)
+pub paper-laws : {r : Mode} {m : PaperMode} → Follows r m → PaperLaws m
+paper-laws f = subst PaperLaws (f .paper) (own-laws (f .laws))
 
 -- ---- tags
 

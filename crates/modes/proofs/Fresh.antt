@@ -1,25 +1,28 @@
 -- The theorems are not empty: a ledger with room in its index, and so a fresh one, accepts every wrap within the limits; and a list with
 -- messages both ways, and a refused arrival among them, is one of those in which each message is delivered. Assumes nothing.
 use mathlib.Core.Bool.{Bool, true, false, cond}
-use mathlib.Core.List.{List, []}
+use mathlib.Core.List.{List}
 use mathlib.Core.Logic.{_≢_, inl}
 use mathlib.Core.Path.{_≡_, refl, sym, ap, _∙_}
 use Prim.Native.Nat.{ℕ, zero, suc, _+_, _≤_}
 use native.Mathlib.Omega.{arith}
 use lib.ListN.{length}
 use Rattle.xoofff.specs.declared.DeckState.{DeckState}
+use Rattle.xoofff.specs.Strings.{Str}
 use Rattle.xoofff.specs.Deck.{indexOf}
 use Rattle.modes.specs.Call.{CallInput, office, group}
-use Rattle.modes.specs.Paper.{PaperResult}
-use Rattle.modes.specs.Mode.{incremental, sanse}
+use Rattle.modes.specs.Paper.{PaperResult, sanseOpens}
+use Rattle.modes.specs.Mode.{Mode, incremental, sanse}
 use Rattle.modes.specs.Rules.{SessionState, Outcome, growth, newSession, wrapAt}
 use Rattle.modes.specs.Ledger.{PaperMode, sansePaper, Ledger, equalTags, wrapFinds, unwrapFinds, checkBefore11, onCheck, accepts, refuses11, ledgerWrap, ledgerUnwrap, freshLedger}
 use Rattle.modes.specs.Exactly.{NoneBefore11}
+use Rattle.modes.specs.OneCall.{sessionOf}
 use Rattle.modes.specs.TwoEnds.{ledgerAt, finishLedgers, freshLedgers, delivery, Delivers}
 use Rattle.modes.specs.Fresh.{InLimits, FreshAccepts, noTag, sentBy, afterThere, BothWays}
-use Rattle.modes.proofs.Entries.{PaperLaws, sanse-paper-laws}
+use Rattle.modes.proofs.Modes.{Follows, sanse-follows}
+use Rattle.modes.proofs.Ledgers.{wrap-by-ledger}
+use Rattle.modes.proofs.Entries.{PaperLaws, paper-laws}
 use Rattle.modes.proofs.Exactly.{check-none, wrap-exactly}
-use Rattle.modes.proofs.OneCall.{wrap-is}
 use Rattle.modes.proofs.TwoEnds.{new-session}
 
 -- a call within the limits moves the index by at most 686
@@ -66,54 +69,60 @@ module _ {m : PaperMode} (laws : PaperLaws m) (l : Ledger) (i : CallInput) where
       go zero false c = omega arith
       go (suc k) q c = omega arith
 
+-- ---- any mode, from a history that leaves room
+
+module _ {r : Mode} {m : PaperMode} (f : Follows r m) (key : List ℕ) (opening : List Str) (room : indexOf opening + 2058 ≤ 1048576) where
+  fresh-ledger : (i : CallInput) → InLimits m i → ledgerWrap m (freshLedger key opening) i .answer .number ≡ 0
+  fresh-ledger i w = accepts-within (paper-laws f) (freshLedger key opening) i w (omega arith)
+
+  -- a fresh ledger, and the session of the history that it opens with, accept just the wraps within the limits
+  pub fresh-by : (s : SessionState DeckState) → s ≡ sessionOf key opening false → (i : CallInput) → FreshAccepts m r key opening s i
+  fresh-by s e i = record { ledger = (fresh-ledger i, back); session = (λ w. same ∙ fresh-ledger i w, λ h. back (sym same ∙ h)) }
+    where
+      back : ledgerWrap m (freshLedger key opening) i .answer .number ≡ 0 → InLimits m i
+      back h =
+          let n = wrap-exactly m (freshLedger key opening) i .accepted .0 h in
+          record { metadata = n .metadata; text = n .text; tag = n .tag; out = n .out }
+
+      same : wrapAt r incremental s i .number ≡ ledgerWrap m (freshLedger key opening) i .answer .number
+      same =
+          ap (λ (s : SessionState DeckState). wrapAt r incremental s i .number) e
+          ∙ ap (λ (o : Outcome DeckState). o .number) (wrap-by-ledger f (freshLedger key opening) i)
+
+  -- messages both ways, where a tag of no bytes is refused
+  pub both-by : 1 ≤ m .tagLength → (i j : CallInput) (out out′ : List ℕ) → BothWays m key opening i j out out′
+  unfolding finishLedgers
+  both-by t i j out out′ w v a b =
+      Delivers.wrap-accepted (fresh-ledger i w)
+      (Delivers.other-arrival (inl refused)
+      (Delivers.delivered a
+      (Delivers.wrap-accepted (accepts-within (paper-laws f) (ledgerAt group (afterThere m key opening i out)) j v free)
+      (Delivers.delivered b Delivers.finished))))
+    where
+      fresh : Ledger
+      fresh = freshLedger key opening
+
+      refused : checkBefore11 m (unwrapFinds m fresh noTag) noTag ≢ 0
+      refused h =
+          let n : 0 ≡ m .tagLength = check-none m (unwrapFinds m fresh noTag) noTag h .tag in
+          omega arith
+
+      free : indexOf (ledgerAt group (afterThere m key opening i out) .history) + 686 ≤ 1048576
+      free =
+          omega (
+            arith,
+            unwrap-moves (paper-laws f) (ledgerUnwrap m fresh noTag .ledger) (delivery (sentBy m office i (freshLedgers key opening)) out),
+            unwrap-moves (paper-laws f) fresh noTag,
+          )
+
 -- ---- SANSE
 
-index-none : indexOf [] ≡ 0
+sanse-room : indexOf sanseOpens + 2058 ≤ 1048576
 unfolding indexOf
-index-none = refl
+sanse-room = omega arith
 
-fresh-ledger : (key : List ℕ) (i : CallInput) → InLimits sansePaper i → ledgerWrap sansePaper (freshLedger sansePaper key) i .answer .number ≡ 0
-unfolding indexOf
-fresh-ledger key i w = accepts-within sanse-paper-laws (freshLedger sansePaper key) i w (omega arith)
+pub fresh-accepts : (key : List ℕ) (i : CallInput) → FreshAccepts sansePaper sanse key sanseOpens (newSession key) i
+fresh-accepts key = fresh-by sanse-follows key sanseOpens sanse-room (newSession key) (new-session key)
 
--- a fresh ledger, and the session that a start gives, accept every wrap within the limits
-pub fresh-accepts : (key : List ℕ) (i : CallInput) → FreshAccepts key i
-fresh-accepts key i = record { ledger = (fresh-ledger key i, back); session = (λ w. same ∙ fresh-ledger key i w, λ h. back (sym same ∙ h)) }
-  where
-    back : ledgerWrap sansePaper (freshLedger sansePaper key) i .answer .number ≡ 0 → InLimits sansePaper i
-    back h =
-        let n = wrap-exactly sansePaper (freshLedger sansePaper key) i .accepted .0 h in
-        record { metadata = n .metadata; text = n .text; tag = n .tag; out = n .out }
-
-    same : wrapAt sanse incremental (newSession key) i .number ≡ ledgerWrap sansePaper (freshLedger sansePaper key) i .answer .number
-    same =
-        ap (λ (s : SessionState DeckState). wrapAt sanse incremental s i .number) (new-session key)
-        ∙ ap (λ (o : Outcome DeckState). o .number) (wrap-is key [] false i)
-
--- messages both ways
-pub both-ways : (key : List ℕ) (i j : CallInput) (out out′ : List ℕ) → BothWays key i j out out′
-unfolding finishLedgers
-both-ways key i j out out′ w v f g =
-    Delivers.wrap-accepted (fresh-ledger key i w)
-    (Delivers.other-arrival (inl refused)
-    (Delivers.delivered f
-    (Delivers.wrap-accepted (accepts-within sanse-paper-laws (ledgerAt group (afterThere key i out)) j v room)
-    (Delivers.delivered g Delivers.finished))))
-  where
-    refused : _≢_ {A = ℕ} 7 0
-    refused e = omega arith
-
-    fresh : Ledger
-    fresh = freshLedger sansePaper key
-
-    none : indexOf (fresh .history) ≡ 0
-    none = index-none
-
-    room : indexOf (ledgerAt group (afterThere key i out) .history) + 686 ≤ 1048576
-    room =
-        omega (
-          arith,
-          none,
-          unwrap-moves sanse-paper-laws (ledgerUnwrap sansePaper fresh noTag .ledger) (delivery (sentBy office i (freshLedgers sansePaper key)) out),
-          unwrap-moves sanse-paper-laws fresh noTag,
-        )
+pub both-ways : (key : List ℕ) (i j : CallInput) (out out′ : List ℕ) → BothWays sansePaper key sanseOpens i j out out′
+both-ways key = both-by sanse-follows key sanseOpens sanse-room (omega arith)

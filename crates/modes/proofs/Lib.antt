@@ -1,6 +1,7 @@
 -- Laws and theorems that belong to no one function.
 pub mod Papers
 pub mod Steps
+pub mod Modes
 pub mod Sessions
 pub mod Ledgers
 pub mod Entries
@@ -9,6 +10,7 @@ pub mod Converse
 pub mod Exactly
 pub mod TwoEnds
 pub mod OneCall
+pub mod Demands
 pub mod Fresh
 pub mod Edges
 pub mod Leaves

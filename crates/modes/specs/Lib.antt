@@ -7,5 +7,6 @@ pub mod Ledger
 pub mod Exactly
 pub mod OneCall
 pub mod TwoEnds
+pub mod Demands
 pub mod Fresh
 pub mod Edges

@@ -7,9 +7,11 @@ use mathlib.Core.Path.{_≡_}
 use Prim.Native.Nat.{ℕ, _≤_}
 use lib.ListN.{length, take, drop}
 use Rattle.xoofff.specs.declared.DeckState.{DeckState}
+use Rattle.xoofff.specs.Strings.{Str}
 use Rattle.modes.specs.Call.{CallInput, Side, office, group, other, Call, wrap, unwrap, sideOf}
 use Rattle.modes.specs.Mode.{HistoryRep, Mode}
 use Rattle.modes.specs.Rules.{SessionState, Outcome, Opening, wrapAt, unwrapAt}
+use Rattle.modes.specs.Paper.{sanseOpens}
 use Rattle.modes.specs.Ledger.{PaperMode, sansePaper, Ledger, Answer, Entry, wrapFinds, unwrapFinds, checkBefore11, ledgerWrap, ledgerUnwrap, freshLedger}
 use Rattle.modes.specs.OneCall.{sessionOf}
 
@@ -81,9 +83,9 @@ module _ (m : PaperMode) where
   finishLedgers [] p = p
   finishLedgers (c ∷ cs) p = finishLedgers cs (nextLedgers c p)
 
-  -- both ledgers under one key, before the first call
-  abbrev pub freshLedgers : (key : List ℕ) → Ledgers
-  freshLedgers key = record { office = freshLedger m key; group = freshLedger m key }
+-- both ledgers under one key, before the first call, with the history that both sessions open with
+abbrev pub freshLedgers : (key : List ℕ) (opening : List Str) → Ledgers
+freshLedgers key opening = record { office = freshLedger key opening; group = freshLedger key opening }
 
 -- ---- lists in which each message is delivered
 
@@ -164,24 +166,24 @@ outcomeOf e =
 abbrev pub answerOf : Outcome DeckState → Answer
 answerOf o = record { number = o .number; count = o .count; out = o .out; tag = o .tag }
 
--- demand 3 of the outcomes os of a list of calls, made at both ends from ledgers that are fresh under the key, and of the sessions q that the
--- ends finish with
-pub record ByLedgers (m : PaperMode) (key : List ℕ) (cs : List Call) (os : List (Outcome DeckState)) (q : Ends DeckState) : Type 0 where
+-- demand 3 of the outcomes os of a list of calls, made at both ends from ledgers that are fresh under the key with the history that both
+-- sessions open with, and of the sessions q that the ends finish with
+pub record ByLedgers (m : PaperMode) (key : List ℕ) (opening : List Str) (cs : List Call) (os : List (Outcome DeckState)) (q : Ends DeckState) : Type 0 where
   -- each call gives what the ledger at its end says, and leaves the session that the ledger's history then gives
-  pub same : os ≡ map outcomeOf (entries m cs (freshLedgers m key))
+  pub same : os ≡ map outcomeOf (entries m cs (freshLedgers key opening))
   -- where each message is delivered, each comes back, and each other arrival is refused
-  pub back : Delivers m nothing cs (freshLedgers m key) → Returned nothing cs (map answerOf os)
+  pub back : Delivers m nothing cs (freshLedgers key opening) → Returned nothing cs (map answerOf os)
   -- and both ends finish with the same session
-  pub level : Delivers m nothing cs (freshLedgers m key) → q .office ≡ q .group
+  pub level : Delivers m nothing cs (freshLedgers key opening) → q .office ≡ q .group
 
 -- a start is accepted: it counts 1 permutation, and its session is that of the history with no string
 pub record StartAccepted (key : List ℕ) (o : Opening) : Type 0 where
   pub number : o .number ≡ 0
   pub count : o .count ≡ 1
-  pub session : o .session ≡ sessionOf key [] false
+  pub session : o .session ≡ sessionOf key sanseOpens false
 
 -- demand 3 for SANSE, under a key of 16 to 47 bytes: both starts are accepted, and every list of calls after them is as the ledgers say
 pub record Demand3 (key : List ℕ) (cs : List Call) (first second : Opening) (os : List (Outcome DeckState)) (q : Ends DeckState) : Type 0 where
   pub office-start : StartAccepted key first
   pub group-start : StartAccepted key second
-  pub calls : ByLedgers sansePaper key cs os q
+  pub calls : ByLedgers sansePaper key sanseOpens cs os q

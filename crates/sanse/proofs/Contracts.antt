@@ -1,5 +1,5 @@
 -- What the program's functions promise: for each of the three, its clauses are just one equation with the rules, and it asks nothing of a
--- call; and the promises by the functions' own `ensures`, as `specs/Demands.antt` has them. Assumes nothing.
+-- call; and the promises by the functions' own `ensures`, as the modes' `Demands` has them. Assumes nothing.
 use mathlib.Core.List.{List}
 use mathlib.Core.Path.{_≡_, refl, sym, ap, _∙_}
 use Prim.Native.Nat.{ℕ}
@@ -17,12 +17,13 @@ use denote.Triple.Clauses.{AtExit}
 use denote.Triple.Entry.{Args, Res}
 use borrow.Fn.Kinds.{Dens, endedOf}
 use Rattle.modes.specs.Call.{CallInput}
+use Rattle.modes.specs.Demands.{Promises}
 use Rattle.modes.specs.Mode.{incremental, sanse}
 use Rattle.modes.specs.Rules.{startAt, wrapAt, unwrapAt}
 use Rattle.sanse.specs.declared.Session.{Session}
 use Rattle.sanse.specs.declared.CallResult.{CallResult}
 use Rattle.sanse.specs.Session.{stateOf, startResult, callResult, handed}
-use Rattle.sanse.specs.Demands.{Promises}
+use Rattle.sanse.specs.Demands.{sessions}
 use Rattle.sanse.proofs.start as start
 use Rattle.sanse.proofs.wrap as wrap
 use Rattle.sanse.proofs.unwrap as unwrap
@@ -112,8 +113,8 @@ pub unwrap-kept : (κs : Lfts 4) (args : Dens κs unwrap-ps) (exits : AtExit (en
 unwrap-kept κs args exits r h =
     record { κs = κs; args = args; exits = exits; isRecord = refl; isInput = refl; isOut = refl; isTag = refl; met = h }
 
-abbrev pub promises : Promises
-promises = record { starts = StartPromise; wraps = WrapPromise; unwraps = UnwrapPromise }
+abbrev pub promises : Promises sessions
+promises = record { wraps = WrapPromise; unwraps = UnwrapPromise }
 
 -- ---- what they say
 

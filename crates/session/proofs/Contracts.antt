@@ -13,8 +13,8 @@ use denote.Ref.{now}
 use denote.Triple.Clauses.{AtExit}
 use denote.Triple.Entry.{Args, Res}
 use Rattle.sanse.specs.Session.{handed}
-use Rattle.sanse.specs.Demands.{Promises}
-use Rattle.session.specs.Lent.{Started, Wrapped, Unwrapped, resultOf, lentPromises}
+use Rattle.modes.specs.Demands.{Promises}
+use Rattle.session.specs.Lent.{Started, Wrapped, Unwrapped, resultOf, lentStarts, lentPromises}
 use Rattle.session.proofs.start as start
 use Rattle.session.proofs.wrap as wrap
 use Rattle.session.proofs.unwrap as unwrap
@@ -50,7 +50,7 @@ module _ {M : Type 1} (𝓤 : URA M) (H : Heap 𝓤) (A : Atoms 𝓤) (mem : Mem
 
   -- and that promise is the one of which the demands are proved
   pub start-promises : (κs : Lfts 2) (a : Args start.signature κs) (r : Res start.signature κs) (z : AtExit start.ended κs)
-      → start.clauses 𝓤 H A mem run κs a .ensures tt r z ≡ connectives 𝓤 .⌜_⌝ (lentPromises .starts (now (a .1 .0)) (resultOf r (now (z .0))))
+      → start.clauses 𝓤 H A mem run κs a .ensures tt r z ≡ connectives 𝓤 .⌜_⌝ (lentStarts (now (a .1 .0)) (resultOf r (now (z .0))))
   start-promises κs a r z = refl
 
   pub wrap-promises : (κs : Lfts 5) (a : Args wrap.signature κs) (r : Res wrap.signature κs) (z : AtExit wrap.ended κs)

@@ -1,0 +1,80 @@
+-- Demands 1 to 3 hold of all promises, over any kind of record, that give each call's equation with the rules of a mode that follows its
+-- paper. Assumes nothing.
+use mathlib.Core.List.{List, [], _∷_}
+use mathlib.Core.Path.{_≡_, refl, sym, ap, _∙_, subst}
+use Prim.Native.Nat.{ℕ}
+use Rattle.xoofff.specs.declared.DeckState.{DeckState}
+use Rattle.modes.specs.Call.{CallInput, Side, office, group, Call, wrap, unwrap}
+use Rattle.modes.specs.Mode.{Mode, incremental, sanse}
+use Rattle.modes.specs.Rules.{SessionState, Outcome, startAt, wrapAt, unwrapAt}
+use Rattle.modes.specs.Ledger.{PaperMode}
+use Rattle.modes.specs.OneCall.{WrapClaim, UnwrapClaim}
+use Rattle.modes.specs.TwoEnds.{Ends, at, put, Runs}
+use Rattle.modes.specs.Demands.{Kind, startResult, callResult, Promises, OneCallOf, Records, recordAt, store, Run, sessionsOf, Demand3Of}
+use Rattle.modes.proofs.Modes.{Follows}
+use Rattle.modes.proofs.OneCall.{one-call-by}
+use Rattle.modes.proofs.TwoEnds.{demand-3}
+
+-- promises that give each call's equation with the rules of the mode m
+pub record ByRules (m : Mode) {k : Kind} (p : Promises k) : Type 0 where
+  pub wraps : {s : k .Record} {i : CallInput} {r : k .Result} {out tag : List ℕ} → p .wraps s i r out tag
+      → callResult k r out tag ≡ wrapAt m incremental (k .stateOf s) i
+  pub unwraps : {s : k .Record} {i : CallInput} {r : k .Result} {out tag : List ℕ} → p .unwraps s i r out tag
+      → callResult k r out tag ≡ unwrapAt m incremental (k .stateOf s) i
+
+module _ (k : Kind) where
+  at-records : (x : Side) (p : Records k) → k .stateOf (recordAt k x p) ≡ at x (sessionsOf k p)
+  at-records office p = refl
+  at-records group p = refl
+
+  store-records : (x : Side) (s : k .Record) (p : Records k) → sessionsOf k (store k x s p) ≡ put x (k .stateOf s) (sessionsOf k p)
+  store-records office s p = refl
+  store-records group s p = refl
+
+module _ {m : Mode} {k : Kind} {p : Promises k} (l : ByRules m p) where
+  -- demands 1 and 2, of one call
+  pub one-call-of : {n : PaperMode} → Follows m n → OneCallOf k n p
+  one-call-of {n} f =
+      record {
+        wraps = λ key h e s i r out tag q w.
+            subst (WrapClaim n key h e i) (sym (l .wraps w ∙ ap (λ (z : SessionState DeckState). wrapAt m incremental z i) q)) (one-call-by f .wrap-claim key h e i);
+        unwraps = λ key h e s i r out tag q w.
+            subst (UnwrapClaim n key h e i) (sym (l .unwraps w ∙ ap (λ (z : SessionState DeckState). unwrapAt m incremental z i) q)) (one-call-by f .unwrap-claim key h e i);
+      }
+
+  -- the promises' runs are runs by the rules
+  pub runs-of : {cs : List Call} {from to : Records k} {os : List (Outcome DeckState)} → Run k p cs from os to
+      → Runs m incremental cs (sessionsOf k from) os (sessionsOf k to)
+  runs-of Run.none = Runs.none
+  runs-of (Run.wrapped {cs} {from} {to} {os} {x} {i} {r} {out} {tag} w q) =
+      Runs.more (l .wraps w ∙ ap (λ (z : SessionState DeckState). wrapAt m incremental z i) (at-records k x from))
+      (subst (λ (z : Ends DeckState). Runs m incremental cs z os (sessionsOf k to)) (store-records k x (k .left r) from) (runs-of q))
+  runs-of (Run.unwrapped {cs} {from} {to} {os} {x} {i} {r} {out} {tag} w q) =
+      Runs.more (l .unwraps w ∙ ap (λ (z : SessionState DeckState). unwrapAt m incremental z i) (at-records k x from))
+      (subst (λ (z : Ends DeckState). Runs m incremental cs z os (sessionsOf k to)) (store-records k x (k .left r) from) (runs-of q))
+
+-- demand 3 of SANSE, one claim about the whole list
+pub demand-3-of : {k : Kind} {starts : (key : List ℕ) → k .Result → Type 0} {p : Promises k}
+    → ((key : List ℕ) (r : k .Result) → starts key r → startResult k r ≡ startAt key) → ByRules sanse p → Demand3Of k starts p
+demand-3-of {k} s l key h g first second a b cs os to r =
+    demand-3 key h g (startResult k first) (startResult k second) (s key first a) (s key second b) cs os (sessionsOf k to) (runs-of l r)
+
+-- ---- runs are there
+
+-- promises that some result meets, whatever a call is handed
+pub record Kept {k : Kind} (p : Promises k) : Type 0 where
+  pub wraps : (s : k .Record) (i : CallInput) → (r : k .Result) × (out : List ℕ) × (tag : List ℕ) × p .wraps s i r out tag
+  pub unwraps : (s : k .Record) (i : CallInput) → (r : k .Result) × (out : List ℕ) × (tag : List ℕ) × p .unwraps s i r out tag
+
+-- then every list of calls has a run
+pub runs-exist : {k : Kind} {p : Promises k} → Kept p → (cs : List Call) (from : Records k)
+    → (os : List (Outcome DeckState)) × (to : Records k) × Run k p cs from os to
+runs-exist {k} l [] from = ([], from, Run.none)
+runs-exist {k} l (wrap x i ∷ cs) from =
+    let w = l .wraps (recordAt k x from) i in
+    let z = runs-exist l cs (store k x (k .left (w .0)) from) in
+    (callResult k (w .0) (w .1) (w .2) ∷ z .0, z .1, Run.wrapped (w .3) (z .2))
+runs-exist {k} l (unwrap x i ∷ cs) from =
+    let w = l .unwraps (recordAt k x from) i in
+    let z = runs-exist l cs (store k x (k .left (w .0)) from) in
+    (callResult k (w .0) (w .1) (w .2) ∷ z .0, z .1, Run.unwrapped (w .3) (z .2))
