@@ -1,6 +1,6 @@
 -- The lists in which each message is delivered are just those in which, by the ledgers' answers, each comes back and each other arrival is
 -- refused: `Delivers` leaves no such list out. Assumes nothing.
-use mathlib.Core.List.{List, [], _∷_, map}
+use mathlib.Core.List.{List, [], _∷_}
 use mathlib.Core.Logic.{_≢_, _⊎_, inl, inr}
 use mathlib.Core.Path.{_≡_, refl, sym, ap, ap₂, _∙_, subst, subst₂}
 use Prim.Native.Nat.{ℕ, zero, suc, _≤_}
@@ -9,8 +9,10 @@ use lib.ListN.{length, take, drop}
 use lib.Seq.{take-at}
 use Rattle.modes.specs.Call.{CallInput, Side, other, Call, wrap, unwrap}
 use Rattle.modes.specs.Ledger.{PaperMode, Ledger, Answer, Entry, wrapFinds, unwrapFinds, checkBefore11, ledgerWrap, ledgerUnwrap}
-use Rattle.modes.specs.TwoEnds.{Ledgers, ledgerAt, nextLedgers, ledgerStep, entries, Sent, delivery, InFlight, nothing, sent, Delivers, Returned}
+use Rattle.modes.specs.TwoEnds.{Ledgers, ledgerAt, nextLedgers, entries, answers}
+use Rattle.modes.specs.Delivery.{Sent, delivery, sentBy, InFlight, nothing, sent, Delivers, Returned, DeliversExactly}
 use Rattle.modes.proofs.Entries.{PaperLaws, wrap-none, wrap-done}
+use Rattle.modes.proofs.Delivery.{returned}
 use Rattle.modes.proofs.Exactly.{check-none, unwrap-exactly}
 
 abbrev first : Answer → List Answer → Answer
@@ -35,7 +37,7 @@ module _ {m : PaperMode} (laws : PaperLaws m) where
       go (suc k) e = inl (λ q. absurd (omega (arith, e, q)))
 
   delivers-from : (t : InFlight) (cs : List Call) (p : Ledgers) (rs : List Answer) → Sized t
-      → rs ≡ map (λ (e : Entry). e .answer) (entries m cs p) → Returned t cs rs → Delivers m t cs p
+      → rs ≡ answers m cs p → Returned t cs rs → Delivers m t cs p
   unfolding entries
   delivers-from t cs p rs z q Returned.finished = Delivers.finished
   delivers-from t cs p rs z q (Returned.wrap-refused {x = x} {i = i} {cs = cs′} {a = a} {rs = rs′} h r) =
@@ -69,5 +71,6 @@ module _ {m : PaperMode} (laws : PaperLaws m) where
       Delivers.other-arrival (stopped (ledgerAt x p) i (subst (λ (a : Answer). a .number ≢ 0) e h))
       (delivers-from t cs′ (nextLedgers m (unwrap x i) p) rs′ z (ap later q) r)
 
-  pub delivers : (cs : List Call) (p : Ledgers) → Returned nothing cs (map (λ (e : Entry). e .answer) (entries m cs p)) → Delivers m nothing cs p
-  delivers cs p r = delivers-from nothing cs p _ 0 refl r
+  -- from equal ledgers, with nothing on its way
+  pub delivers-exactly : DeliversExactly m
+  delivers-exactly cs p e = (λ d. returned laws d e, λ r. delivers-from nothing cs p _ 0 refl r)

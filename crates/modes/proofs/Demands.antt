@@ -1,19 +1,30 @@
 -- Demands 1 to 3 hold of all promises, over any kind of record, that give each call's equation with the rules of a mode that follows its
--- paper. Assumes nothing.
+-- paper; and promises that some result keeps, whatever a call is handed, have a run of every list. Assumes nothing.
 use mathlib.Core.List.{List, [], _∷_}
-use mathlib.Core.Path.{_≡_, refl, sym, ap, _∙_, subst}
+use mathlib.Core.Path.{_≡_, refl, sym, ap, ap₂, _∙_, subst}
 use Prim.Native.Nat.{ℕ}
 use Rattle.xoofff.specs.declared.DeckState.{DeckState}
 use Rattle.modes.specs.Call.{CallInput, Side, office, group, Call, wrap, unwrap}
 use Rattle.modes.specs.Mode.{Mode, incremental, sanse}
 use Rattle.modes.specs.Rules.{SessionState, Outcome, startAt, wrapAt, unwrapAt}
 use Rattle.modes.specs.Ledger.{PaperMode}
+use Rattle.modes.specs.AnySession.{AnyWrap, AnyUnwrap}
 use Rattle.modes.specs.OneCall.{WrapClaim, UnwrapClaim}
+use Rattle.modes.specs.Start.{StartExactly}
 use Rattle.modes.specs.TwoEnds.{Ends, at, put, Runs}
-use Rattle.modes.specs.Demands.{Kind, startResult, callResult, Promises, OneCallOf, Records, recordAt, store, Run, sessionsOf, Demand3Of}
+use Rattle.modes.specs.Promises.{Kind, startResult, callResult, Promises, Records, recordAt, store, Run, sessionsOf}
+use Rattle.modes.specs.Demands.{Starts, StartOf, AnyCallOf, OneCallOf, ListOf, Demand3Of, RunsExist}
 use Rattle.modes.proofs.Modes.{Follows}
+use Rattle.modes.proofs.AnySession.{any-wrap, any-unwrap}
 use Rattle.modes.proofs.OneCall.{one-call-by}
-use Rattle.modes.proofs.TwoEnds.{demand-3}
+use Rattle.modes.proofs.Start.{start-exactly}
+use Rattle.modes.proofs.Demand3.{by-ledgers, demand-3}
+
+-- ---- what is asked of promises
+
+-- a start's promise that gives its equation with the rules
+abbrev pub StartByRules : (k : Kind) → Starts k → Type 0
+StartByRules k starts = (key : List ℕ) (r : k .Result) → starts key r → startResult k r ≡ startAt key
 
 -- promises that give each call's equation with the rules of the mode m
 pub record ByRules (m : Mode) {k : Kind} (p : Promises k) : Type 0 where
@@ -31,7 +42,21 @@ module _ (k : Kind) where
   store-records office s p = refl
   store-records group s p = refl
 
+-- ---- the demands
+
+-- demand 1, of a start of SANSE
+pub start-of : (k : Kind) (starts : Starts k) → StartByRules k starts → StartOf k starts
+start-of k starts s key r w = subst (StartExactly key) (sym (s key r w)) (start-exactly key)
+
 module _ {m : Mode} {k : Kind} {p : Promises k} (l : ByRules m p) where
+  -- demand 1, of any record
+  pub any-call-of : AnyCallOf k m p
+  any-call-of =
+      record {
+        wraps = λ s i r out tag w. subst (AnyWrap m incremental (k .stateOf s) i) (sym (l .wraps w)) (any-wrap m incremental (k .stateOf s) i);
+        unwraps = λ s i r out tag w. subst (AnyUnwrap m incremental (k .stateOf s) i) (sym (l .unwraps w)) (any-unwrap m incremental (k .stateOf s) i);
+      }
+
   -- demands 1 and 2, of one call
   pub one-call-of : {n : PaperMode} → Follows m n → OneCallOf k n p
   one-call-of {n} f =
@@ -53,22 +78,27 @@ module _ {m : Mode} {k : Kind} {p : Promises k} (l : ByRules m p) where
       Runs.more (l .unwraps w ∙ ap (λ (z : SessionState DeckState). unwrapAt m incremental z i) (at-records k x from))
       (subst (λ (z : Ends DeckState). Runs m incremental cs z os (sessionsOf k to)) (store-records k x (k .left r) from) (runs-of q))
 
+  -- demand 3 of any mode, from two records of one history
+  pub list-of : {n : PaperMode} → Follows m n → ListOf k n p
+  list-of f key opening from a b cs os to r =
+      by-ledgers f key opening cs os (sessionsOf k to)
+      (subst (λ (z : Ends DeckState). Runs m incremental cs z os (sessionsOf k to))
+      (ap₂ (λ (s t : SessionState DeckState). record { office = s; group = t }) a b) (runs-of r))
+
 -- demand 3 of SANSE, one claim about the whole list
-pub demand-3-of : {k : Kind} {starts : (key : List ℕ) → k .Result → Type 0} {p : Promises k}
-    → ((key : List ℕ) (r : k .Result) → starts key r → startResult k r ≡ startAt key) → ByRules sanse p → Demand3Of k starts p
+pub demand-3-of : {k : Kind} {starts : Starts k} {p : Promises k} → StartByRules k starts → ByRules sanse p → Demand3Of k starts p
 demand-3-of {k} s l key h g first second a b cs os to r =
     demand-3 key h g (startResult k first) (startResult k second) (s key first a) (s key second b) cs os (sessionsOf k to) (runs-of l r)
 
 -- ---- runs are there
 
--- promises that some result meets, whatever a call is handed
+-- promises that some result keeps, whatever a call is handed
 pub record Kept {k : Kind} (p : Promises k) : Type 0 where
   pub wraps : (s : k .Record) (i : CallInput) → (r : k .Result) × (out : List ℕ) × (tag : List ℕ) × p .wraps s i r out tag
   pub unwraps : (s : k .Record) (i : CallInput) → (r : k .Result) × (out : List ℕ) × (tag : List ℕ) × p .unwraps s i r out tag
 
 -- then every list of calls has a run
-pub runs-exist : {k : Kind} {p : Promises k} → Kept p → (cs : List Call) (from : Records k)
-    → (os : List (Outcome DeckState)) × (to : Records k) × Run k p cs from os to
+pub runs-exist : {k : Kind} {p : Promises k} → Kept p → RunsExist k p
 runs-exist {k} l [] from = ([], from, Run.none)
 runs-exist {k} l (wrap x i ∷ cs) from =
     let w = l .wraps (recordAt k x from) i in

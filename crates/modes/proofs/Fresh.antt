@@ -1,29 +1,32 @@
 -- The theorems are not empty: a ledger with room in its index, and so a fresh one, accepts every wrap within the limits; and a list with
--- messages both ways, and a refused arrival among them, is one of those in which each message is delivered. Assumes nothing.
+-- messages both ways, and one in which a message on its way is disturbed, are among those in which each message is delivered. Assumes
+-- nothing.
 use mathlib.Core.Bool.{Bool, true, false, cond}
-use mathlib.Core.List.{List}
-use mathlib.Core.Logic.{_≢_, inl}
-use mathlib.Core.Path.{_≡_, refl, sym, ap, _∙_}
+use mathlib.Core.List.{List, _∷_}
+use mathlib.Core.Logic.{_≢_, _⊎_, inl, inr}
+use mathlib.Core.Path.{_≡_, refl, sym, ap, _∙_, subst}
 use Prim.Native.Nat.{ℕ, zero, suc, _+_, _≤_}
 use native.Mathlib.Omega.{arith}
 use lib.ListN.{length}
 use Rattle.xoofff.specs.declared.DeckState.{DeckState}
 use Rattle.xoofff.specs.Strings.{Str}
 use Rattle.xoofff.specs.Deck.{indexOf}
-use Rattle.modes.specs.Call.{CallInput, office, group}
+use Rattle.modes.specs.Call.{CallInput, Side, office, group, Call, wrap, unwrap}
 use Rattle.modes.specs.Paper.{PaperResult, sanseOpens}
 use Rattle.modes.specs.Mode.{Mode, incremental, sanse}
 use Rattle.modes.specs.Rules.{SessionState, Outcome, growth, newSession, wrapAt}
 use Rattle.modes.specs.Ledger.{PaperMode, sansePaper, Ledger, equalTags, wrapFinds, unwrapFinds, checkBefore11, onCheck, accepts, refuses11, ledgerWrap, ledgerUnwrap, freshLedger}
 use Rattle.modes.specs.Exactly.{NoneBefore11}
 use Rattle.modes.specs.OneCall.{sessionOf}
-use Rattle.modes.specs.TwoEnds.{ledgerAt, finishLedgers, freshLedgers, delivery, Delivers}
-use Rattle.modes.specs.Fresh.{InLimits, FreshAccepts, noTag, sentBy, afterThere, BothWays}
+use Rattle.modes.specs.TwoEnds.{Ledgers, ledgerAt, finishLedgers, freshLedgers}
+use Rattle.modes.specs.Delivery.{delivery, sentBy, InFlight, Delivers}
+use Rattle.modes.specs.Fresh.{InLimits, FreshAccepts, noTag, afterThere, BothWays, Disturbed}
 use Rattle.modes.proofs.Modes.{Follows, sanse-follows}
 use Rattle.modes.proofs.Ledgers.{wrap-by-ledger}
-use Rattle.modes.proofs.Entries.{PaperLaws, paper-laws}
+use Rattle.modes.proofs.Entries.{PaperLaws, paper-laws, wrap-stays, unwrap-stopped}
+use Rattle.modes.proofs.Delivery.{set-same}
 use Rattle.modes.proofs.Exactly.{check-none, wrap-exactly}
-use Rattle.modes.proofs.TwoEnds.{new-session}
+use Rattle.modes.proofs.Start.{new-session}
 
 -- a call within the limits moves the index by at most 686
 growth-most : (a n : ℕ) → a ≤ 16384 → n ≤ 16384 → growth a n ≤ 686
@@ -38,10 +41,10 @@ module _ {m : PaperMode} (laws : PaperLaws m) (l : Ledger) (i : CallInput) where
   accepts-within w room =
       let g : growth (length (i .metadata)) (length (i .text)) ≤ 686 = growth-most (length (i .metadata)) (length (i .text)) (w .metadata) (w .text) in
       let e = laws .wraps-index (l .key) (l .history) (l .toggle) (i .metadata) (i .text) in
-      wrap-exactly m l i .accepted .1 (record { metadata = w .metadata; text = w .text; tag = w .tag; out = w .out; index = omega arith })
+      wrap-exactly m l i .accepted .1 (record { isOpen = λ z. z; metadata = w .metadata; text = w .text; tag = w .tag; out = w .out; index = omega arith })
 
   -- any call moves a ledger's index by at most 686
-  moves : (r : PaperResult) → indexOf (r .history) ≡ indexOf (l .history) + growth (length (i .metadata)) (length (i .text)) → NoneBefore11 m r i
+  moves : (r : PaperResult) → indexOf (r .history) ≡ indexOf (l .history) + growth (length (i .metadata)) (length (i .text)) → NoneBefore11 ⊥ (m .tagLength) (indexOf (r .history)) i
       → indexOf (r .history) ≤ indexOf (l .history) + 686
   moves r e c =
       let g : growth (length (i .metadata)) (length (i .text)) ≤ 686 = growth-most (length (i .metadata)) (length (i .text)) (c .metadata) (c .text) in
@@ -51,7 +54,7 @@ module _ {m : PaperMode} (laws : PaperLaws m) (l : Ledger) (i : CallInput) where
   unfolding ledgerWrap
   wrap-moves = go (checkBefore11 m (wrapFinds m l i) i) (check-none m (wrapFinds m l i) i)
     where
-      go : (k : ℕ) → (k ≡ 0 → NoneBefore11 m (wrapFinds m l i) i)
+      go : (k : ℕ) → (k ≡ 0 → NoneBefore11 ⊥ (m .tagLength) (indexOf (wrapFinds m l i .history)) i)
           → indexOf (onCheck m k l i (accepts m l i (wrapFinds m l i) (wrapFinds m l i .tag)) .ledger .history) ≤ indexOf (l .history) + 686
       go zero c = moves (wrapFinds m l i) (laws .wraps-index (l .key) (l .history) (l .toggle) (i .metadata) (i .text)) (c refl)
       go (suc k) c = omega arith
@@ -63,11 +66,23 @@ module _ {m : PaperMode} (laws : PaperLaws m) (l : Ledger) (i : CallInput) where
       r : PaperResult
       r = unwrapFinds m l i
 
-      go : (k : ℕ) (q : Bool) → (k ≡ 0 → NoneBefore11 m r i)
+      go : (k : ℕ) (q : Bool) → (k ≡ 0 → NoneBefore11 ⊥ (m .tagLength) (indexOf (r .history)) i)
           → indexOf (onCheck m k l i (cond q (accepts m l i r (i .tag)) (refuses11 m l i)) .ledger .history) ≤ indexOf (l .history) + 686
       go zero true c = moves r (laws .unwraps-index (l .key) (l .history) (l .toggle) (i .metadata) (i .text) (i .tag)) (c refl)
       go zero false c = omega arith
       go (suc k) q c = omega arith
+
+-- ---- refused calls leave the ledgers, and what is on its way
+
+module _ {m : PaperMode} {t : InFlight} {cs : List Call} {p : Ledgers} (x : Side) (i : CallInput) where
+  past-wrap : ledgerWrap m (ledgerAt x p) i .answer .number ≢ 0 → Delivers m t cs p → Delivers m t (wrap x i ∷ cs) p
+  past-wrap h d =
+      Delivers.wrap-refused h (subst (λ (p : Ledgers). Delivers m t cs p) (sym (set-same x _ p (wrap-stays m (ledgerAt x p) i h))) d)
+
+  past-arrival : (checkBefore11 m (unwrapFinds m (ledgerAt x p) i) i ≢ 0) ⊎ (i .tag ≢ unwrapFinds m (ledgerAt x p) i .tag)
+      → Delivers m t cs p → Delivers m t (unwrap x i ∷ cs) p
+  past-arrival h d =
+      Delivers.other-arrival h (subst (λ (p : Ledgers). Delivers m t cs p) (sym (set-same x _ p (unwrap-stopped m (ledgerAt x p) i h .1))) d)
 
 -- ---- any mode, from a history that leaves room
 
@@ -89,31 +104,59 @@ module _ {r : Mode} {m : PaperMode} (f : Follows r m) (key : List ℕ) (opening 
           ap (λ (s : SessionState DeckState). wrapAt r incremental s i .number) e
           ∙ ap (λ (o : Outcome DeckState). o .number) (wrap-by-ledger f (freshLedger key opening) i)
 
-  -- messages both ways, where a tag of no bytes is refused
-  pub both-by : 1 ≤ m .tagLength → (i j : CallInput) (out out′ : List ℕ) → BothWays m key opening i j out out′
-  unfolding finishLedgers
-  both-by t i j out out′ w v a b =
-      Delivers.wrap-accepted (fresh-ledger i w)
-      (Delivers.other-arrival (inl refused)
-      (Delivers.delivered a
-      (Delivers.wrap-accepted (accepts-within (paper-laws f) (ledgerAt group (afterThere m key opening i out)) j v free)
-      (Delivers.delivered b Delivers.finished))))
-    where
-      fresh : Ledger
-      fresh = freshLedger key opening
+  -- where a tag of no bytes is refused
+  module _ (t : 1 ≤ m .tagLength) where
+    no-tag-arrival : (l : Ledger) → checkBefore11 m (unwrapFinds m l noTag) noTag ≢ 0
+    no-tag-arrival l h =
+        let n : 0 ≡ m .tagLength = check-none m (unwrapFinds m l noTag) noTag h .tag in
+        omega arith
 
-      refused : checkBefore11 m (unwrapFinds m fresh noTag) noTag ≢ 0
-      refused h =
-          let n : 0 ≡ m .tagLength = check-none m (unwrapFinds m fresh noTag) noTag h .tag in
-          omega arith
+    no-tag-wrap : (l : Ledger) → ledgerWrap m l noTag .answer .number ≢ 0
+    no-tag-wrap l h =
+        let n : 0 ≡ m .tagLength = wrap-exactly m l noTag .accepted .0 h .tag in
+        omega arith
 
-      free : indexOf (ledgerAt group (afterThere m key opening i out) .history) + 686 ≤ 1048576
-      free =
-          omega (
-            arith,
-            unwrap-moves (paper-laws f) (ledgerUnwrap m fresh noTag .ledger) (delivery (sentBy m office i (freshLedgers key opening)) out),
-            unwrap-moves (paper-laws f) fresh noTag,
-          )
+    -- messages both ways
+    pub both-by : (i j : CallInput) (out out′ : List ℕ) → BothWays m key opening i j out out′
+    unfolding finishLedgers
+    both-by i j out out′ w v a b =
+        Delivers.wrap-accepted (fresh-ledger i w)
+        (Delivers.other-arrival (inl (no-tag-arrival fresh))
+        (Delivers.delivered a
+        (Delivers.wrap-accepted (accepts-within (paper-laws f) (ledgerAt group (afterThere m key opening i out)) j v free)
+        (Delivers.delivered b Delivers.finished))))
+      where
+        fresh : Ledger
+        fresh = freshLedger key opening
+
+        free : indexOf (ledgerAt group (afterThere m key opening i out) .history) + 686 ≤ 1048576
+        free =
+            omega (
+              arith,
+              unwrap-moves (paper-laws f) (ledgerUnwrap m fresh noTag .ledger) (delivery (sentBy m office i (freshLedgers key opening)) out),
+              unwrap-moves (paper-laws f) fresh noTag,
+            )
+
+    -- a message on its way, disturbed
+    pub disturbed-by : (i j : CallInput) (out out′ t : List ℕ) → Disturbed m key opening i j out out′ t
+    unfolding finishLedgers
+    disturbed-by i j out out′ t w v a b wrong repeat reflection =
+        Delivers.wrap-accepted (fresh-ledger i w)
+        (Delivers.other-arrival (inl (no-tag-arrival fresh))
+        (Delivers.delivered a
+        (Delivers.wrap-accepted (accepts-within (paper-laws f) (ledgerAt office (afterThere m key opening i out)) j v free)
+        (past-wrap group noTag (no-tag-wrap _)
+        (past-wrap office noTag (no-tag-wrap _)
+        (past-arrival group _ (inr wrong)
+        (past-arrival group _ (inr repeat)
+        (past-arrival office _ (inr reflection)
+        (Delivers.delivered b Delivers.finished)))))))))
+      where
+        fresh : Ledger
+        fresh = freshLedger key opening
+
+        free : indexOf (ledgerAt office (afterThere m key opening i out) .history) + 686 ≤ 1048576
+        free = omega (arith, wrap-moves (paper-laws f) fresh i)
 
 -- ---- SANSE
 
@@ -126,3 +169,6 @@ fresh-accepts key = fresh-by sanse-follows key sanseOpens sanse-room (newSession
 
 pub both-ways : (key : List ℕ) (i j : CallInput) (out out′ : List ℕ) → BothWays sansePaper key sanseOpens i j out out′
 both-ways key = both-by sanse-follows key sanseOpens sanse-room (omega arith)
+
+pub disturbed : (key : List ℕ) (i j : CallInput) (out out′ t : List ℕ) → Disturbed sansePaper key sanseOpens i j out out′ t
+disturbed key = disturbed-by sanse-follows key sanseOpens sanse-room (omega arith)

@@ -15,10 +15,12 @@ use Rattle.modes.specs.Mode.{StepResult, Mode, wholeHistory, incremental
 use Rattle.modes.specs.Rules.{SessionState, Outcome, firstCheck, metadataString, sameBytes, ifNoCheck, checkNumber, wrapSteps, unwrapSteps, accepted, wrongTag, compareTag, wrapAt, unwrapAt}
 use Rattle.modes.specs.Ledger.{PaperMode, Ledger, Entry, equalTags, wrapFinds, unwrapFinds, checkBefore11, onCheck, accepts, refuses11, ledgerWrap, ledgerUnwrap}
 use Rattle.modes.specs.OneCall.{sessionOf}
-use Rattle.modes.specs.TwoEnds.{Ends, at, put, outcome, Runs, Ledgers, ledgerAt, setLedger, ledgerStep, nextLedgers, entries, finishLedgers, outcomeOf}
+use Rattle.modes.specs.TwoEnds.{Ends, at, put, outcome, Runs, Ledgers, ledgerAt, setLedger, ledgerStep, nextLedgers, entries, finishLedgers}
+use Rattle.modes.specs.Demand3.{outcomeOf}
 use Rattle.modes.proofs.Papers.{paperOf}
 use Rattle.modes.proofs.Steps.{ModeLaws}
 use Rattle.modes.proofs.Modes.{Follows}
+use Rattle.modes.proofs.Entries.{equalTags-is}
 use Rattle.modes.proofs.Sessions.{mapOutcome, incremental-simulates, wholeHistory-grows, wrapAt-simulates, unwrapAt-simulates}
 
 -- ---- one call
@@ -29,16 +31,6 @@ toSession l = record { history = l .history; toggle = l .toggle; opened = true }
 
 abbrev toOutcome : Entry → Outcome (List Str)
 toOutcome e = record { number = e .answer .number; count = e .answer .count; session = toSession (e .ledger); out = e .answer .out; tag = e .answer .tag }
-
-equalTags-is : (s t : List ℕ) → sameBytes s t ≡ equalTags s t
-equalTags-is [] [] = refl
-equalTags-is [] (y ∷ t) = refl
-equalTags-is (x ∷ s) [] = refl
-equalTags-is (x ∷ s) (y ∷ t) = go (eqb x y) (equalTags-is s t)
-  where
-    go : (q : Bool) → sameBytes s t ≡ equalTags s t → q && sameBytes s t ≡ cond q (equalTags s t) false
-    go true h = h
-    go false h = refl
 
 module _ {m : Mode} (laws : ModeLaws m) (l : Ledger) (i : CallInput) where
   onCheck-is : (n : ℕ) (o : Outcome (List Str)) (e : Entry) → o ≡ toOutcome e

@@ -8,7 +8,9 @@ pub mod Entries
 pub mod Delivery
 pub mod Converse
 pub mod Exactly
-pub mod TwoEnds
+pub mod AnySession
+pub mod Start
+pub mod Demand3
 pub mod OneCall
 pub mod Demands
 pub mod Fresh

@@ -7,24 +7,25 @@ use native.Mathlib.Omega.{arith}
 use lib.ListN.{length, drop, replicate, length-replicate}
 use Rattle.xoofff.specs.declared.DeckState.{DeckState}
 use Rattle.xoofff.specs.Strings.{Str}
+use Rattle.xoofff.specs.Deck.{indexOf}
 use Rattle.modes.specs.Call.{CallInput}
 use Rattle.modes.specs.Mode.{Mode, incremental, sanse}
 use Rattle.modes.specs.Paper.{PaperResult}
 use Rattle.modes.specs.Rules.{Outcome, wrapAt, unwrapAt}
 use Rattle.modes.specs.Ledger.{PaperMode, sansePaper, Ledger, Entry, equalTags, checkBefore11, onCheck, accepts, refuses11, ledgerWrap, ledgerUnwrap}
 use Rattle.modes.specs.OneCall.{sessionOf, Within, Accepted, WrongTag, Refused, wrapped, unwrapped, WrapClaim, UnwrapClaim, OneCall}
-use Rattle.modes.specs.TwoEnds.{outcomeOf}
+use Rattle.modes.specs.Demand3.{outcomeOf}
 use Rattle.modes.proofs.Modes.{Follows, sanse-follows}
 use Rattle.modes.proofs.Ledgers.{wrap-by-ledger, unwrap-by-ledger}
 use Rattle.modes.proofs.Entries.{wrap-done, unwrap-same, unwrap-differs}
-use Rattle.modes.proofs.Exactly.{First, first-check, none-check}
+use Rattle.modes.proofs.Exactly.{First, ledger-first, none-check}
 
 module _ {p : Mode} {m : PaperMode} (f : Follows p m) (key : List ℕ) (h : List Str) (e : Bool) (i : CallInput) where
   abbrev ledger : Ledger
   ledger = record { key = key; history = h; toggle = e }
 
   none : (r : PaperResult) → Within m i (r .history) → checkBefore11 m r i ≡ 0
-  none r w = none-check m r i (record { metadata = w .metadata; text = w .text; tag = w .tag; out = w .out; index = w .index })
+  none r w = none-check m r i (record { isOpen = λ z. z; metadata = w .metadata; text = w .text; tag = w .tag; out = w .out; index = w .index })
 
   -- the outcome of an entry of an accepted call, and of one with number 11
   accepted-is : (r : PaperResult) (tag : List ℕ) → tag ≡ r .tag → (o : Outcome DeckState) → o ≡ outcomeOf (accepts m ledger i r tag) → Accepted m key i r o
@@ -51,7 +52,7 @@ module _ {p : Mode} {m : PaperMode} (f : Follows p m) (key : List ℕ) (h : List
   -- an entry of a call that meets a check before 11
   stopped-is : (r : PaperResult) (z : Entry) (o : Outcome DeckState) → o ≡ outcomeOf (onCheck m (checkBefore11 m r i) ledger i z)
       → (Within m i (r .history) → ⊥) → Refused (sessionOf key h e) i o
-  stopped-is r z o g n = go (checkBefore11 m r i) (first-check m r i) g
+  stopped-is r z o g n = go (checkBefore11 m r i) (ledger-first m r i) g
     where
       refused : (k : ℕ) → o ≡ outcomeOf (onCheck m (suc k) ledger i z) → (6 ≤ suc k) × (suc k ≤ 9) → Refused (sessionOf key h e) i o
       refused k g b =
@@ -63,11 +64,12 @@ module _ {p : Mode} {m : PaperMode} (f : Follows p m) (key : List ℕ) (h : List
             session = ap (λ (o : Outcome DeckState). o .session) g;
           }
 
-      go : (k : ℕ) → First m r i k → o ≡ outcomeOf (onCheck m k ledger i z) → Refused (sessionOf key h e) i o
-      go k (First.is6 a) g = refused 5 g (omega arith, omega arith)
-      go k (First.is7 a b) g = refused 6 g (omega arith, omega arith)
-      go k (First.is8 a b c) g = refused 7 g (omega arith, omega arith)
-      go k (First.is9 a b c d) g = refused 8 g (omega arith, omega arith)
+      go : (k : ℕ) → First ⊥ (m .tagLength) (indexOf (r .history)) i k → o ≡ outcomeOf (onCheck m k ledger i z) → Refused (sessionOf key h e) i o
+      go k (First.is5 z) g = absurd z
+      go k (First.is6 z a) g = refused 5 g (omega arith, omega arith)
+      go k (First.is7 z a b) g = refused 6 g (omega arith, omega arith)
+      go k (First.is8 z a b c) g = refused 7 g (omega arith, omega arith)
+      go k (First.is9 z a b c d) g = refused 8 g (omega arith, omega arith)
       go k (First.is0 c) g = absurd (n (record { metadata = c .metadata; text = c .text; tag = c .tag; out = c .out; index = c .index }))
 
   wraps : WrapClaim m key h e i (wrapAt p incremental (sessionOf key h e) i)

@@ -1,95 +1,84 @@
--- Demands 1 to 3 of functions over the records of a program, of which only promises are known: what each promises of a call, from what it
--- was handed to what it gave and left. For every kind of record, since each mode's sessions are a kind of their own. The words are those of
--- `OneCall` (one call of a session that a history gives) and `TwoEnds` (the ledgers, the lists in which each message is delivered). Assumes
--- nothing.
-use mathlib.Core.Bool.{Bool}
-use mathlib.Core.List.{List, [], _∷_}
+-- Demands 1 to 3 of functions over the records of a program, of which only promises are known (`Promises`): for every kind of record k. The
+-- words are those of `AnySession` and `Start` (demand 1), `OneCall` (one call of a session that a history gives) and `Demand3`. Last, that
+-- what they speak of is there. Assumes nothing.
+use mathlib.Core.Bool.{Bool, false}
+use mathlib.Core.List.{List}
 use mathlib.Core.Path.{_≡_}
 use Prim.Native.Nat.{ℕ, _≤_}
 use lib.ListN.{length}
 use Rattle.xoofff.specs.declared.DeckState.{DeckState}
 use Rattle.xoofff.specs.Strings.{Str}
-use Rattle.modes.specs.Call.{CallInput, Side, office, group, Call, wrap, unwrap}
-use Rattle.modes.specs.Rules.{SessionState, Outcome, Opening}
+use Rattle.modes.specs.Call.{CallInput, Call}
+use Rattle.modes.specs.Mode.{Mode, incremental}
+use Rattle.modes.specs.Rules.{Outcome}
 use Rattle.modes.specs.Ledger.{PaperMode}
+use Rattle.modes.specs.AnySession.{AnyWrap, AnyUnwrap}
 use Rattle.modes.specs.OneCall.{sessionOf, WrapClaim, UnwrapClaim}
-use Rattle.modes.specs.TwoEnds.{Ends, Demand3}
-
--- a kind of record: the records and what their functions give, the session that a record holds, and of what a function gave its number, its
--- count and the record
-pub record Kind : Type 1 where
-  pub Record : Type 0
-  pub Result : Type 0
-  pub stateOf : Record → SessionState DeckState
-  pub number : Result → ℕ
-  pub count : Result → ℕ
-  pub left : Result → Record
+use Rattle.modes.specs.Start.{StartExactly}
+use Rattle.modes.specs.Demand3.{ByLedgers, Demand3}
+use Rattle.modes.specs.Promises.{Kind, startResult, callResult, Promises, Records, sessionsOf, leftBy, Run}
 
 module _ (k : Kind) where
-  -- what start gave
-  abbrev pub startResult : k .Result → Opening
-  startResult r = record { number = k .number r; count = k .count r; session = k .stateOf (k .left r) }
+  -- what a start of SANSE may promise: of its key and what it gave
+  abbrev pub Starts : Type 1
+  Starts = (key : List ℕ) → k .Result → Type 0
 
-  -- what wrap or unwrap gave, with the output buffer and the tag as the call left them
-  abbrev pub callResult : k .Result → (out tag : List ℕ) → Outcome DeckState
-  callResult r out tag = record { number = k .number r; count = k .count r; session = k .stateOf (k .left r); out = out; tag = tag }
+  -- ---- demand 1
 
-  -- what wrap and unwrap promise of the record and what else they were handed, what they gave, and the output buffer and the tag as they left
-  -- them
-  pub record Promises : Type 1 where
-    pub wraps : k .Record → CallInput → k .Result → (out tag : List ℕ) → Type 0
-    pub unwraps : k .Record → CallInput → k .Result → (out tag : List ℕ) → Type 0
+  -- every start is accepted, or refused by 4, exactly by its key's length
+  abbrev pub StartOf : Starts → Type 0
+  StartOf starts = (key : List ℕ) (r : k .Result) → starts key r → StartExactly key (startResult k r)
 
-  -- ---- demands 1 and 2: one call
+  -- a call that is handed any record, open or not, and also one that no history gives
+  pub record AnyCallOf (m : Mode) (p : Promises k) : Type 0 where
+    pub wraps : (s : k .Record) (i : CallInput) (r : k .Result) (out tag : List ℕ) → p .wraps s i r out tag
+        → AnyWrap m incremental (k .stateOf s) i (callResult k r out tag)
+    pub unwraps : (s : k .Record) (i : CallInput) (r : k .Result) (out tag : List ℕ) → p .unwraps s i r out tag
+        → AnyUnwrap m incremental (k .stateOf s) i (callResult k r out tag)
 
-  -- a call that is handed the record of a history: within the limits it gives what the algorithm of the papers' mode m gives over the whole
-  -- history, and the record of the longer one; outside them it is refused, and alters nothing
-  pub record OneCallOf (m : PaperMode) (p : Promises) : Type 0 where
-    pub wraps : (key : List ℕ) (h : List Str) (e : Bool) (s : k .Record) (i : CallInput) (r : k .Result) (out tag : List ℕ)
-        → k .stateOf s ≡ sessionOf key h e → p .wraps s i r out tag → WrapClaim m key h e i (callResult r out tag)
-    pub unwraps : (key : List ℕ) (h : List Str) (e : Bool) (s : k .Record) (i : CallInput) (r : k .Result) (out tag : List ℕ)
-        → k .stateOf s ≡ sessionOf key h e → p .unwraps s i r out tag → UnwrapClaim m key h e i (callResult r out tag)
+  -- ---- demands 1 and 2: one call that is handed the record of a history
+
+  -- within the limits a wrap gives what the algorithm of the papers' mode m gives over the whole history, and the record of the longer one;
+  -- outside them it is refused, and alters nothing
+  abbrev pub WrapOf : PaperMode → Promises k → Type 0
+  WrapOf m p =
+      (key : List ℕ) (h : List Str) (e : Bool) (s : k .Record) (i : CallInput) (r : k .Result) (out tag : List ℕ)
+      → k .stateOf s ≡ sessionOf key h e → p .wraps s i r out tag → WrapClaim m key h e i (callResult k r out tag)
+
+  -- and so does an unwrap, which is refused by 11 where the tag differs
+  abbrev pub UnwrapOf : PaperMode → Promises k → Type 0
+  UnwrapOf m p =
+      (key : List ℕ) (h : List Str) (e : Bool) (s : k .Record) (i : CallInput) (r : k .Result) (out tag : List ℕ)
+      → k .stateOf s ≡ sessionOf key h e → p .unwraps s i r out tag → UnwrapClaim m key h e i (callResult k r out tag)
+
+  pub record OneCallOf (m : PaperMode) (p : Promises k) : Type 0 where
+    pub wraps : WrapOf m p
+    pub unwraps : UnwrapOf m p
 
   -- ---- demand 3: the calls of a list at the two ends
 
-  -- the records at the two ends
-  pub record Records : Type 0 where
-    pub office : k .Record
-    pub group : k .Record
-
-  abbrev pub recordAt : Side → Records → k .Record
-  recordAt office p = p .office
-  recordAt group p = p .group
-
-  abbrev pub store : Side → k .Record → Records → Records
-  store office s p = record { office = s; group = p .group }
-  store group s p = record { office = p .office; group = s }
-
-  -- `Run p cs from os to`: the calls cs, made in order from the records `from`, gave os and left the records `to`. Each call is handed the
-  -- record as start, or the last call at its end, left it; nothing else writes it; and nothing is known of a call but its promise
-  pub data Run (p : Promises) : List Call → Records → List (Outcome DeckState) → Records → Type 0 where
-    none : {from : Records} → Run p [] from [] from
-    wrapped : {cs : List Call} {from to : Records} {os : List (Outcome DeckState)} {x : Side} {i : CallInput} {r : k .Result} {out tag : List ℕ}
-        → p .wraps (recordAt x from) i r out tag
-        → Run p cs (store x (k .left r) from) os to
-        → Run p (wrap x i ∷ cs) from (callResult r out tag ∷ os) to
-    unwrapped : {cs : List Call} {from to : Records} {os : List (Outcome DeckState)} {x : Side} {i : CallInput} {r : k .Result} {out tag : List ℕ}
-        → p .unwraps (recordAt x from) i r out tag
-        → Run p cs (store x (k .left r) from) os to
-        → Run p (unwrap x i ∷ cs) from (callResult r out tag ∷ os) to
-
-  -- the sessions that the records hold
-  abbrev pub sessionsOf : Records → Ends DeckState
-  sessionsOf p = record { office = k .stateOf (p .office); group = k .stateOf (p .group) }
-
-  -- the records that two starts left
-  abbrev pub opened : (first second : k .Result) → Records
-  opened first second = record { office = k .left first; group = k .left second }
+  -- any mode: from two records of the history that both open with, every list of calls is as the ledgers say
+  abbrev pub ListOf : PaperMode → Promises k → Type 0
+  ListOf m p =
+      (key : List ℕ) (opening : List Str) (from : Records k)
+      → k .stateOf (from .office) ≡ sessionOf key opening false → k .stateOf (from .group) ≡ sessionOf key opening false
+      → (cs : List Call) (os : List (Outcome DeckState)) (to : Records k) → Run k p cs from os to
+      → ByLedgers m key opening cs os (sessionsOf k to)
 
   -- SANSE: two starts under one key of 16 to 47 bytes, of which `starts` is promised, and then any list of calls. Demand 3 holds of all that
   -- they gave, and of the records that they left
-  abbrev pub Demand3Of : (starts : (key : List ℕ) → k .Result → Type 0) → Promises → Type 0
+  abbrev pub Demand3Of : Starts → Promises k → Type 0
   Demand3Of starts p =
       (key : List ℕ) → 16 ≤ length key → length key ≤ 47 → (first second : k .Result) → starts key first → starts key second
-      → (cs : List Call) (os : List (Outcome DeckState)) (to : Records) → Run p cs (opened first second) os to
-      → Demand3 key cs (startResult first) (startResult second) os (sessionsOf to)
+      → (cs : List Call) (os : List (Outcome DeckState)) (to : Records k) → Run k p cs (leftBy k first second) os to
+      → Demand3 key cs (startResult k first) (startResult k second) os (sessionsOf k to)
+
+  -- ---- what the demands speak of is there
+
+  -- under every key some result keeps the promise of a start
+  abbrev pub StartsExist : Starts → Type 0
+  StartsExist starts = (key : List ℕ) → (r : k .Result) × starts key r
+
+  -- from any records every list of calls has a run
+  abbrev pub RunsExist : Promises k → Type 0
+  RunsExist p = (cs : List Call) (from : Records k) → (os : List (Outcome DeckState)) × (to : Records k) × Run k p cs from os to

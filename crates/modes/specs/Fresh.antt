@@ -1,8 +1,9 @@
 -- What demand 3 speaks of is there (document 01, "What must fall through it?"): before the first call just the wraps within the limits are
--- accepted, and there are lists with messages both ways in which each is delivered. For any mode, from any history that it opens with.
--- Assumes nothing.
+-- accepted; there are lists with messages both ways in which each is delivered; and lists in which a message is delivered though, while it is
+-- on its way, wraps are refused and a wrong tag, a repeat and a reflection arrive. For any mode, from any history that it opens with. Assumes
+-- nothing.
 use mathlib.Core.List.{List, [], _∷_, _++_}
-use mathlib.Core.Logic.{_↔_}
+use mathlib.Core.Logic.{_↔_, _≢_}
 use mathlib.Core.Path.{_≡_}
 use Prim.Native.Nat.{ℕ, _≤_}
 use lib.ListN.{length}
@@ -11,8 +12,9 @@ use Rattle.xoofff.specs.Strings.{Str}
 use Rattle.modes.specs.Call.{CallInput, Side, office, group, Call, wrap, unwrap}
 use Rattle.modes.specs.Mode.{Mode, incremental}
 use Rattle.modes.specs.Rules.{SessionState, wrapAt}
-use Rattle.modes.specs.Ledger.{PaperMode, wrapFinds, ledgerWrap, freshLedger}
-use Rattle.modes.specs.TwoEnds.{Ledgers, ledgerAt, finishLedgers, freshLedgers, Sent, delivery, nothing, Delivers}
+use Rattle.modes.specs.Ledger.{PaperMode, unwrapFinds, ledgerWrap, freshLedger}
+use Rattle.modes.specs.TwoEnds.{Ledgers, ledgerAt, nextLedgers, finishLedgers, freshLedgers}
+use Rattle.modes.specs.Delivery.{Sent, delivery, sentBy, nothing, Delivers}
 
 -- what a wrap is handed is within the limits
 pub record InLimits (m : PaperMode) (i : CallInput) : Type 0 where
@@ -28,30 +30,70 @@ pub record FreshAccepts (m : PaperMode) (r : Mode) (key : List ℕ) (opening : L
 
 -- ---- messages both ways
 
--- an arrival that is refused at every ledger: its tag has no bytes
+-- a call that is refused at every ledger: its tag has no bytes
 abbrev pub noTag : CallInput
 noTag = record { metadata = []; text = []; out = []; tag = [] }
 
-module _ (m : PaperMode) where
-  -- what a wrap at an end gave, with these ledgers
-  abbrev pub sentBy : Side → CallInput → Ledgers → Sent
-  sentBy x i p = record { from = x; input = i; cryptogram = wrapFinds m (ledgerAt x p) i .text; tag = wrapFinds m (ledgerAt x p) i .tag }
+module _ (m : PaperMode) (key : List ℕ) (opening : List Str) where
+  -- the office wraps i, an arrival without a tag reaches the group, and then what that wrap gave
+  abbrev pub there : (i : CallInput) (out : List ℕ) → List Call
+  there i out = wrap office i ∷ unwrap group noTag ∷ unwrap group (delivery (sentBy m office i (freshLedgers key opening)) out) ∷ []
 
-  module _ (key : List ℕ) (opening : List Str) where
-    -- the office wraps i, an arrival without a tag reaches the group, and then what that wrap gave
-    abbrev pub there : (i : CallInput) (out : List ℕ) → List Call
-    there i out = wrap office i ∷ unwrap group noTag ∷ unwrap group (delivery (sentBy office i (freshLedgers key opening)) out) ∷ []
+  -- the ledgers after that
+  abbrev pub afterThere : (i : CallInput) (out : List ℕ) → Ledgers
+  afterThere i out = finishLedgers m (there i out) (freshLedgers key opening)
 
-    -- the ledgers after that
-    abbrev pub afterThere : (i : CallInput) (out : List ℕ) → Ledgers
-    afterThere i out = finishLedgers m (there i out) (freshLedgers key opening)
+  -- then the group wraps j, and what it gave reaches the office
+  abbrev pub bothWays : (i j : CallInput) (out out′ : List ℕ) → List Call
+  bothWays i j out out′ = there i out ++ wrap group j ∷ unwrap office (delivery (sentBy m group j (afterThere i out)) out′) ∷ []
 
-    -- then the group wraps j, and what it gave reaches the office
-    abbrev pub bothWays : (i j : CallInput) (out out′ : List ℕ) → List Call
-    bothWays i j out out′ = there i out ++ wrap group j ∷ unwrap office (delivery (sentBy group j (afterThere i out)) out′) ∷ []
+  -- in this list each message is delivered
+  abbrev pub BothWays : (i j : CallInput) (out out′ : List ℕ) → Type 0
+  BothWays i j out out′ =
+      InLimits m i → InLimits m j → length (i .text) ≤ length out → length (j .text) ≤ length out′
+      → Delivers m nothing (bothWays i j out out′) (freshLedgers key opening)
 
-    -- in this list each message is delivered
-    abbrev pub BothWays : (i j : CallInput) (out out′ : List ℕ) → Type 0
-    BothWays i j out out′ =
-        InLimits m i → InLimits m j → length (i .text) ≤ length out → length (j .text) ≤ length out′
-        → Delivers m nothing (bothWays i j out out′) (freshLedgers key opening)
+-- ---- a message on its way, disturbed
+
+-- what a wrap gave, under another tag
+abbrev pub underTag : List ℕ → Sent → Sent
+underTag t w = record { from = w .from; input = w .input; cryptogram = w .cryptogram; tag = t }
+
+module _ (m : PaperMode) (key : List ℕ) (opening : List Str) (i j : CallInput) (out out′ t : List ℕ) where
+  -- what the office's first message gave, which is delivered, and its second
+  abbrev pub first : Sent
+  first = sentBy m office i (freshLedgers key opening)
+
+  abbrev pub second : Sent
+  second = sentBy m office j (afterThere m key opening i out)
+
+  -- the ledgers while the second is on its way
+  abbrev pub between : Ledgers
+  between = nextLedgers m (wrap office j) (afterThere m key opening i out)
+
+  -- the tag of what arrives at an end then differs from the one that the algorithm finds for it there
+  abbrev pub Differs : Side → CallInput → Type 0
+  Differs x a = a .tag ≢ unwrapFinds m (ledgerAt x between) a .tag
+
+  -- after the first message the office wraps j; a wrap is refused at each end; the group gets what j gave under the tag t, and then the first
+  -- message again; the office gets what j gave; and last the group gets it
+  abbrev pub disturbed : List Call
+  disturbed =
+      there m key opening i out
+      ++ wrap office j
+      ∷ wrap group noTag
+      ∷ wrap office noTag
+      ∷ unwrap group (delivery (underTag t second) out′)
+      ∷ unwrap group (delivery first out)
+      ∷ unwrap office (delivery second out′)
+      ∷ unwrap group (delivery second out′)
+      ∷ []
+
+  -- in this list each message is delivered, where t, the repeat's tag and the reflection's differ from those that are found
+  abbrev pub Disturbed : Type 0
+  Disturbed =
+      InLimits m i → InLimits m j → length (i .text) ≤ length out → length (j .text) ≤ length out′
+      → Differs group (delivery (underTag t second) out′)
+      → Differs group (delivery first out)
+      → Differs office (delivery second out′)
+      → Delivers m nothing disturbed (freshLedgers key opening)

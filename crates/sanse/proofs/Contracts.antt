@@ -1,5 +1,5 @@
 -- What the program's functions promise: for each of the three, its clauses are just one equation with the rules, and it asks nothing of a
--- call; and the promises by the functions' own `ensures`, as the modes' `Demands` has them. Assumes nothing.
+-- call; and the promises by the functions' own `ensures`, as the modes' `Promises` has them. Assumes nothing.
 use mathlib.Core.List.{List}
 use mathlib.Core.Path.{_≡_, refl, sym, ap, _∙_}
 use Prim.Native.Nat.{ℕ}
@@ -17,7 +17,7 @@ use denote.Triple.Clauses.{AtExit}
 use denote.Triple.Entry.{Args, Res}
 use borrow.Fn.Kinds.{Dens, endedOf}
 use Rattle.modes.specs.Call.{CallInput}
-use Rattle.modes.specs.Demands.{Promises}
+use Rattle.modes.specs.Promises.{Promises}
 use Rattle.modes.specs.Mode.{incremental, sanse}
 use Rattle.modes.specs.Rules.{startAt, wrapAt, unwrapAt}
 use Rattle.sanse.specs.declared.Session.{Session}
@@ -63,6 +63,19 @@ module _ {M : Type 1} (𝓤 : URA M) (H : Heap 𝓤) (A : Atoms 𝓤) (mem : Mem
       (callResult r (now (z .1 .1 .1 .1 .0)) (now (a .1 .1 .1 .0))
       ≡ unwrapAt sanse incremental (stateOf (a .0)) (handed (now (a .1 .0)) (now (a .1 .1 .0)) (now (a .1 .1 .1 .1 .0)) (now (a .1 .1 .1 .0))))
   unwrap-ensures κs a r z = refl
+
+  -- and that equation is the post of which the promises below speak
+  pub start-post : (κs : Lfts 1) (a : Args start.signature κs) (r : Res start.signature κs) (z : AtExit start.ended κs)
+      → start.clauses 𝓤 H A mem run κs a .ensures tt r z ≡ connectives 𝓤 .⌜_⌝ (StartPost κs a r z)
+  start-post κs a r z = refl
+
+  pub wrap-post : (κs : Lfts 4) (a : Args wrap.signature κs) (r : Res wrap.signature κs) (z : AtExit wrap.ended κs)
+      → wrap.clauses 𝓤 H A mem run κs a .ensures tt r z ≡ connectives 𝓤 .⌜_⌝ (WrapPost κs a r z)
+  wrap-post κs a r z = refl
+
+  pub unwrap-post : (κs : Lfts 4) (a : Args unwrap.signature κs) (r : Res unwrap.signature κs) (z : AtExit unwrap.ended κs)
+      → unwrap.clauses 𝓤 H A mem run κs a .ensures tt r z ≡ connectives 𝓤 .⌜_⌝ (UnwrapPost κs a r z)
+  unwrap-post κs a r z = refl
 
 -- ---- the promises: a call with some arguments, of which the function's `ensures` holds
 

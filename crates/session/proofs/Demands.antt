@@ -1,25 +1,29 @@
--- Demands 1 to 3 hold of the functions over a lent record, each known only by its promise, which is its `ensures` (`proofs/Contracts.antt`).
--- Assumes nothing.
+-- Demands 1 to 3 hold of the functions over a lent record, each known only by its promise, which is its `ensures` (`proofs/Contracts.antt`);
+-- and what they speak of is there. Assumes nothing.
 use mathlib.Core.Path.{refl}
-use mathlib.Core.List.{List}
-use Prim.Native.Nat.{ℕ}
-use Rattle.xoofff.specs.declared.DeckState.{DeckState}
-use Rattle.modes.specs.Rules.{Outcome, wrapAt, unwrapAt}
 use Rattle.modes.specs.Mode.{sanse, incremental}
+use Rattle.modes.specs.Rules.{startAt, wrapAt, unwrapAt}
 use Rattle.modes.specs.Ledger.{sansePaper}
-use Rattle.modes.specs.Demands.{OneCallOf, Demand3Of}
+use Rattle.modes.specs.Demands.{StartOf, AnyCallOf, OneCallOf, Demand3Of, StartsExist, RunsExist}
 use Rattle.modes.proofs.Modes.{sanse-follows}
-use Rattle.modes.proofs.Demands.{ByRules, Kept, one-call-of, demand-3-of}
-use Rattle.sanse.specs.declared.CallResult.{CallResult}
+use Rattle.modes.proofs.Demands.{ByRules, Kept, start-of, any-call-of, one-call-of, demand-3-of, runs-exist}
 use Rattle.sanse.specs.Session.{stateOf}
 use Rattle.sanse.specs.Demands.{sessions}
+use Rattle.sanse.proofs.Demands.{fromOpening, fromOutcome}
 use Rattle.session.specs.Lent.{lentStarts, lentPromises}
 
 -- each promise is the call's equation with the rules
 by-rules : ByRules sanse lentPromises
 by-rules = record { wraps = λ e. e; unwraps = λ e. e }
 
--- demands 1 and 2, of one call
+-- demand 1: every start, and every call of any record
+pub one-start : StartOf sessions lentStarts
+one-start = start-of sessions lentStarts (λ key r e. e)
+
+pub any-call : AnyCallOf sessions sanse lentPromises
+any-call = any-call-of by-rules
+
+-- demands 1 and 2: one call of the record of a history
 pub one-call : OneCallOf sessions sansePaper lentPromises
 one-call = one-call-of by-rules sanse-follows
 
@@ -27,19 +31,18 @@ one-call = one-call-of by-rules sanse-follows
 pub demand-3 : Demand3Of sessions lentStarts lentPromises
 demand-3 = demand-3-of (λ key r e. e) by-rules
 
--- the result in which an outcome is one
-abbrev fromOutcome : Outcome DeckState → CallResult
-fromOutcome o =
-    record {
-      number = o .number;
-      count = o .count;
-      session = record { acc = o .session .history .acc; mask = o .session .history .mask; index = o .session .history .index; toggle = o .session .toggle; opened = o .session .opened };
-    }
+-- ---- what they speak of is there
 
--- whatever a call is handed, there is a result that its promise allows; so every list of calls has a run (`runs-exist`)
-pub kept : Kept lentPromises
+-- whatever a call is handed, there is a result that its promise allows
+pub starts-exist : StartsExist sessions lentStarts
+starts-exist key = (fromOpening (startAt key), refl)
+
+kept : Kept lentPromises
 kept =
     record {
       wraps = λ s i. let o = wrapAt sanse incremental (stateOf s) i in (fromOutcome o, o .out, o .tag, refl);
       unwraps = λ s i. let o = unwrapAt sanse incremental (stateOf s) i in (fromOutcome o, o .out, o .tag, refl);
     }
+
+pub all-runs-exist : RunsExist sessions lentPromises
+all-runs-exist = runs-exist kept

@@ -7,7 +7,7 @@ use Prim.Native.Nat.{ℕ}
 use Rattle.modes.specs.Call.{CallInput}
 use Rattle.modes.specs.Mode.{sanse, incremental}
 use Rattle.modes.specs.Rules.{startAt, wrapAt, unwrapAt}
-use Rattle.modes.specs.Demands.{Promises}
+use Rattle.modes.specs.Promises.{Promises}
 use Rattle.sanse.specs.declared.Session.{Session}
 use Rattle.sanse.specs.declared.CallResult.{CallResult}
 use Rattle.sanse.specs.Session.{stateOf, startResult, callResult}

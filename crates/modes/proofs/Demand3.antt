@@ -6,24 +6,34 @@ use Prim.Native.Nat.{ℕ, _≤_}
 use lib.ListN.{length}
 use Rattle.xoofff.specs.declared.DeckState.{DeckState}
 use Rattle.xoofff.specs.Strings.{Str}
-use Rattle.xoofff.specs.Deck.{iterate, maskAt, addHistory, indexOf, accumulator}
-use Rattle.modes.specs.Call.{Call, sideOf}
+use Rattle.modes.specs.Call.{Call, wrap, unwrap, sideOf}
 use Rattle.modes.specs.Mode.{HistoryRep, Mode, incremental, sanse}
-use Rattle.modes.specs.Rules.{Outcome, Opening, newSession, startAt}
+use Rattle.modes.specs.Rules.{Outcome, Opening, startAt}
 use Rattle.modes.specs.Paper.{sanseOpens}
-use Rattle.modes.specs.Ledger.{PaperMode, Answer, Entry}
+use Rattle.modes.specs.Ledger.{PaperMode, Answer, Entry, ledgerWrap, ledgerUnwrap}
 use Rattle.modes.specs.OneCall.{sessionOf}
-use Rattle.modes.specs.TwoEnds.{Ends, put, outcome, Runs, Ledgers, entries, finishLedgers, freshLedgers, nothing, Returned, outcomeOf, answerOf, ByLedgers, StartAccepted, Demand3}
+use Rattle.modes.specs.Start.{StartAccepted}
+use Rattle.modes.specs.TwoEnds.{Ends, put, outcome, Runs, Ledgers, ledgerAt, nextLedgers, entries, finishLedgers, freshLedgers}
+use Rattle.modes.specs.Delivery.{nothing, Returned}
+use Rattle.modes.specs.Demand3.{outcomeOf, answerOf, ByChecks, ByLedgers, Demand3}
 use Rattle.modes.proofs.Modes.{Follows, sanse-follows}
 use Rattle.modes.proofs.Ledgers.{endsOf, runs-are}
 use Rattle.modes.proofs.Entries.{paper-laws}
 use Rattle.modes.proofs.Delivery.{returned, level}
-use Rattle.modes.proofs.Exactly.{start-accepted}
+use Rattle.modes.proofs.Exactly.{wrap-exactly, unwrap-exactly}
+use Rattle.modes.proofs.Start.{start-accepted}
 
 -- what the outcomes show beside the sessions are the ledgers' answers
 answers-are : (es : List Entry) → map answerOf (map outcomeOf es) ≡ map (λ (e : Entry). e .answer) es
 answers-are [] = refl
 answers-are (e ∷ es) = ap (λ (l : List Answer). e .answer ∷ l) (answers-are es)
+
+-- each call gets its number exactly by the checks, as the ledger at its end judges it
+by-checks : (m : PaperMode) (cs : List Call) (p : Ledgers) → ByChecks m cs p (map outcomeOf (entries m cs p))
+unfolding entries
+by-checks m [] p = ByChecks.none
+by-checks m (wrap x i ∷ cs) p = ByChecks.wraps (wrap-exactly m (ledgerAt x p) i) (by-checks m cs (nextLedgers m (wrap x i) p))
+by-checks m (unwrap x i ∷ cs) p = ByChecks.unwraps (unwrap-exactly m (ledgerAt x p) i) (by-checks m cs (nextLedgers m (unwrap x i) p))
 
 -- any mode that follows its paper, from the sessions of the history that it opens with
 pub by-ledgers : {r : Mode} {m : PaperMode} → Follows r m
@@ -31,6 +41,7 @@ pub by-ledgers : {r : Mode} {m : PaperMode} → Follows r m
     → Runs r incremental cs (endsOf (freshLedgers key opening)) os q → ByLedgers m key opening cs os q
 by-ledgers {r} {m} f key opening cs os q run =
     record {
+      checks = subst (ByChecks m cs fresh) (sym (z .0)) (by-checks m cs fresh);
       same = z .0;
       back = λ d.
           subst (Returned nothing cs) (sym (ap (map answerOf) (z .0) ∙ answers-are (entries m cs fresh))) (returned (paper-laws f) d refl);
@@ -56,20 +67,6 @@ runs m d (c ∷ cs) p =
 
 -- ---- SANSE with the two starts
 
--- a start's session is that of the history with no string
-pub new-session : (key : List ℕ) → newSession key ≡ sessionOf key sanseOpens false
-unfolding accumulator addHistory maskAt iterate indexOf
-new-session key = refl
-
-start-claim : (key : List ℕ) → 16 ≤ length key → length key ≤ 47 → StartAccepted key (startAt key)
-start-claim key h g =
-    let e = start-accepted key h g in
-    record {
-      number = ap (λ (o : Opening). o .number) e;
-      count = ap (λ (o : Opening). o .count) e;
-      session = ap (λ (o : Opening). o .session) e ∙ new-session key;
-    }
-
 -- demand 3: two starts under one key of 16 to 47 bytes, and any list of calls after them, all known by their equations alone
 pub demand-3 : (key : List ℕ) → 16 ≤ length key → length key ≤ 47
     → (first second : Opening) → first ≡ startAt key → second ≡ startAt key
@@ -84,10 +81,10 @@ demand-3 key h g first second e e′ cs os q r =
     }
   where
     a : StartAccepted key first
-    a = subst (StartAccepted key) (sym e) (start-claim key h g)
+    a = subst (StartAccepted key) (sym e) (start-accepted key h g)
 
     b : StartAccepted key second
-    b = subst (StartAccepted key) (sym e′) (start-claim key h g)
+    b = subst (StartAccepted key) (sym e′) (start-accepted key h g)
 
     from : _≡_ {A = Ends DeckState} (record { office = first .session; group = second .session }) (endsOf (freshLedgers key sanseOpens))
     from = λ i. record { office = a .session i; group = b .session i }
