@@ -30,8 +30,8 @@ module _ (m : Mode) {S : Type 0} (d : HistoryRep S) (s : SessionState S) (i : Ca
   unfolding wrapAt checkNumber
   any-wrap =
       let z =
-          by-first (NotOpen m d s i) (m .parameters .tagLength) (indexAfter m d s i) i (checkNumber m d s i) (wrapAt m d s i .number) check-first
-          (number (checkNumber m d s i)) in
+      by-first (NotOpen m d s i) (m .parameters .tagLength) (indexAfter m d s i) i (checkNumber m d s i) (wrapAt m d s i .number) check-first
+      (number (checkNumber m d s i)) in
       record {
         numbers = z .0;
         accepted = z .1;
@@ -59,8 +59,8 @@ module _ (m : Mode) {S : Type 0} (d : HistoryRep S) (s : SessionState S) (i : Ca
   unfolding unwrapAt checkNumber
   any-unwrap =
       let z =
-          by-tag (NotOpen m d s i) (m .parameters .tagLength) (indexAfter m d s i) i found (checkNumber m d s i) (unwrapAt m d s i .number) same check-first
-          (λ h. equalTags-true (i .tag) found (sym (equalTags-is (i .tag) found) ∙ h)) differ (number (checkNumber m d s i) same) in
+      by-tag (NotOpen m d s i) (m .parameters .tagLength) (indexAfter m d s i) i found (checkNumber m d s i) (unwrapAt m d s i .number) same check-first
+      (λ h. equalTags-true (i .tag) found (sym (equalTags-is (i .tag) found) ∙ h)) differ (number (checkNumber m d s i) same) in
       record {
         numbers = z .0;
         eleven = z .1;

@@ -1,6 +1,7 @@
--- Demands 1 to 3 hold of all promises, over any kind of record, that give each call's equation with the rules of a mode that follows its
--- paper; and promises that some result keeps, whatever a call is handed, have a run of every list. Assumes nothing.
+-- Demands 1 to 3 hold of all promises, over any kind of record, that are each call's equation with the rules of a mode that follows its
+-- paper; and such promises are kept by some result whatever a call is handed, so that every list has a run. Assumes nothing.
 use mathlib.Core.List.{List, [], _∷_}
+use mathlib.Core.Logic.{_↔_}
 use mathlib.Core.Path.{_≡_, refl, sym, ap, ap₂, _∙_, subst}
 use Prim.Native.Nat.{ℕ}
 use Rattle.xoofff.specs.declared.DeckState.{DeckState}
@@ -12,8 +13,8 @@ use Rattle.modes.specs.AnySession.{AnyWrap, AnyUnwrap}
 use Rattle.modes.specs.OneCall.{WrapClaim, UnwrapClaim}
 use Rattle.modes.specs.Start.{StartExactly}
 use Rattle.modes.specs.TwoEnds.{Ends, at, put, Runs}
-use Rattle.modes.specs.Promises.{Kind, startResult, callResult, Promises, Records, recordAt, store, Run, sessionsOf}
-use Rattle.modes.specs.Demands.{Starts, StartOf, AnyCallOf, OneCallOf, ListOf, Demand3Of, RunsExist}
+use Rattle.modes.specs.Promises.{Kind, startResult, callResult, Promises, Starts, byRules, startByRules, Records, recordAt, store, Run, sessionsOf}
+use Rattle.modes.specs.Demands.{StartOf, AnyCallOf, OneCallOf, ListOf, Demand3Of, StartsExist, RunsExist}
 use Rattle.modes.proofs.Modes.{Follows}
 use Rattle.modes.proofs.AnySession.{any-wrap, any-unwrap}
 use Rattle.modes.proofs.OneCall.{one-call-by}
@@ -22,16 +23,21 @@ use Rattle.modes.proofs.Demand3.{by-ledgers, demand-3}
 
 -- ---- what is asked of promises
 
--- a start's promise that gives its equation with the rules
-abbrev pub StartByRules : (k : Kind) → Starts k → Type 0
-StartByRules k starts = (key : List ℕ) (r : k .Result) → starts key r → startResult k r ≡ startAt key
-
--- promises that give each call's equation with the rules of the mode m
+-- that they are each call's equation with the rules of the mode m, no less and no more
 pub record ByRules (m : Mode) {k : Kind} (p : Promises k) : Type 0 where
-  pub wraps : {s : k .Record} {i : CallInput} {r : k .Result} {out tag : List ℕ} → p .wraps s i r out tag
-      → callResult k r out tag ≡ wrapAt m incremental (k .stateOf s) i
-  pub unwraps : {s : k .Record} {i : CallInput} {r : k .Result} {out tag : List ℕ} → p .unwraps s i r out tag
-      → callResult k r out tag ≡ unwrapAt m incremental (k .stateOf s) i
+  pub wraps : (s : k .Record) (i : CallInput) (r : k .Result) (out tag : List ℕ) → p .wraps s i r out tag ↔ byRules k m .wraps s i r out tag
+  pub unwraps : (s : k .Record) (i : CallInput) (r : k .Result) (out tag : List ℕ) → p .unwraps s i r out tag ↔ byRules k m .unwraps s i r out tag
+
+-- and of a start
+abbrev pub StartByRules : (k : Kind) → Starts k → Type 0
+StartByRules k starts = (key : List ℕ) (r : k .Result) → starts key r ↔ startByRules k key r
+
+-- the equations themselves are such
+pub rules-by-rules : (m : Mode) (k : Kind) → ByRules m (byRules k m)
+rules-by-rules m k = record { wraps = λ s i r out tag. (λ e. e, λ e. e); unwraps = λ s i r out tag. (λ e. e, λ e. e) }
+
+pub start-by-rules : (k : Kind) → StartByRules k (startByRules k)
+start-by-rules k key r = (λ e. e, λ e. e)
 
 module _ (k : Kind) where
   at-records : (x : Side) (p : Records k) → k .stateOf (recordAt k x p) ≡ at x (sessionsOf k p)
@@ -46,15 +52,15 @@ module _ (k : Kind) where
 
 -- demand 1, of a start of SANSE
 pub start-of : (k : Kind) (starts : Starts k) → StartByRules k starts → StartOf k starts
-start-of k starts s key r w = subst (StartExactly key) (sym (s key r w)) (start-exactly key)
+start-of k starts s key r w = subst (StartExactly key) (sym (s key r .0 w)) (start-exactly key)
 
 module _ {m : Mode} {k : Kind} {p : Promises k} (l : ByRules m p) where
   -- demand 1, of any record
   pub any-call-of : AnyCallOf k m p
   any-call-of =
       record {
-        wraps = λ s i r out tag w. subst (AnyWrap m incremental (k .stateOf s) i) (sym (l .wraps w)) (any-wrap m incremental (k .stateOf s) i);
-        unwraps = λ s i r out tag w. subst (AnyUnwrap m incremental (k .stateOf s) i) (sym (l .unwraps w)) (any-unwrap m incremental (k .stateOf s) i);
+        wraps = λ s i r out tag w. subst (AnyWrap m incremental (k .stateOf s) i) (sym (l .wraps s i r out tag .0 w)) (any-wrap m incremental (k .stateOf s) i);
+        unwraps = λ s i r out tag w. subst (AnyUnwrap m incremental (k .stateOf s) i) (sym (l .unwraps s i r out tag .0 w)) (any-unwrap m incremental (k .stateOf s) i);
       }
 
   -- demands 1 and 2, of one call
@@ -62,9 +68,9 @@ module _ {m : Mode} {k : Kind} {p : Promises k} (l : ByRules m p) where
   one-call-of {n} f =
       record {
         wraps = λ key h e s i r out tag q w.
-            subst (WrapClaim n key h e i) (sym (l .wraps w ∙ ap (λ (z : SessionState DeckState). wrapAt m incremental z i) q)) (one-call-by f .wrap-claim key h e i);
+            subst (WrapClaim n key h e i) (sym (l .wraps s i r out tag .0 w ∙ ap (λ (z : SessionState DeckState). wrapAt m incremental z i) q)) (one-call-by f .wrap-claim key h e i);
         unwraps = λ key h e s i r out tag q w.
-            subst (UnwrapClaim n key h e i) (sym (l .unwraps w ∙ ap (λ (z : SessionState DeckState). unwrapAt m incremental z i) q)) (one-call-by f .unwrap-claim key h e i);
+            subst (UnwrapClaim n key h e i) (sym (l .unwraps s i r out tag .0 w ∙ ap (λ (z : SessionState DeckState). unwrapAt m incremental z i) q)) (one-call-by f .unwrap-claim key h e i);
       }
 
   -- the promises' runs are runs by the rules
@@ -72,10 +78,10 @@ module _ {m : Mode} {k : Kind} {p : Promises k} (l : ByRules m p) where
       → Runs m incremental cs (sessionsOf k from) os (sessionsOf k to)
   runs-of Run.none = Runs.none
   runs-of (Run.wrapped {cs} {from} {to} {os} {x} {i} {r} {out} {tag} w q) =
-      Runs.more (l .wraps w ∙ ap (λ (z : SessionState DeckState). wrapAt m incremental z i) (at-records k x from))
+      Runs.more (l .wraps (recordAt k x from) i r out tag .0 w ∙ ap (λ (z : SessionState DeckState). wrapAt m incremental z i) (at-records k x from))
       (subst (λ (z : Ends DeckState). Runs m incremental cs z os (sessionsOf k to)) (store-records k x (k .left r) from) (runs-of q))
   runs-of (Run.unwrapped {cs} {from} {to} {os} {x} {i} {r} {out} {tag} w q) =
-      Runs.more (l .unwraps w ∙ ap (λ (z : SessionState DeckState). unwrapAt m incremental z i) (at-records k x from))
+      Runs.more (l .unwraps (recordAt k x from) i r out tag .0 w ∙ ap (λ (z : SessionState DeckState). unwrapAt m incremental z i) (at-records k x from))
       (subst (λ (z : Ends DeckState). Runs m incremental cs z os (sessionsOf k to)) (store-records k x (k .left r) from) (runs-of q))
 
   -- demand 3 of any mode, from two records of one history
@@ -88,9 +94,9 @@ module _ {m : Mode} {k : Kind} {p : Promises k} (l : ByRules m p) where
 -- demand 3 of SANSE, one claim about the whole list
 pub demand-3-of : {k : Kind} {starts : Starts k} {p : Promises k} → StartByRules k starts → ByRules sanse p → Demand3Of k starts p
 demand-3-of {k} s l key h g first second a b cs os to r =
-    demand-3 key h g (startResult k first) (startResult k second) (s key first a) (s key second b) cs os (sessionsOf k to) (runs-of l r)
+    demand-3 key h g (startResult k first) (startResult k second) (s key first .0 a) (s key second .0 b) cs os (sessionsOf k to) (runs-of l r)
 
--- ---- runs are there
+-- ---- what the demands speak of is there
 
 -- promises that some result keeps, whatever a call is handed
 pub record Kept {k : Kind} (p : Promises k) : Type 0 where
@@ -108,3 +114,39 @@ runs-exist {k} l (unwrap x i ∷ cs) from =
     let w = l .unwraps (recordAt k x from) i in
     let z = runs-exist l cs (store k x (k .left (w .0)) from) in
     (callResult k (w .0) (w .1) (w .2) ∷ z .0, z .1, Run.unwrapped (w .3) (z .2))
+
+-- a kind of record in which every number, count and session is some result's
+pub record Whole (k : Kind) : Type 0 where
+  pub made : (n c : ℕ) (s : SessionState DeckState) → k .Result
+  pub is : (n c : ℕ) (s : SessionState DeckState) → startResult k (made n c s) ≡ record { number = n; count = c; session = s }
+
+module _ {k : Kind} (w : Whole k) where
+  -- the result that an outcome is, and that it is one
+  made-of : (o : Outcome DeckState)
+      → (r : k .Result) × (callResult k r (o .out) (o .tag) ≡ o)
+  made-of o =
+      let e = w .is (o .number) (o .count) (o .session) in (
+        w .made (o .number) (o .count) (o .session),
+        λ j. record { number = e j .number; count = e j .count; session = e j .session; out = o .out; tag = o .tag },
+      )
+
+  -- promises that are the rules' equations are kept
+  pub kept : {m : Mode} {p : Promises k} → ByRules m p → Kept p
+  kept {m} {p} l =
+      record {
+        wraps = λ s i.
+            let o = wrapAt m incremental (k .stateOf s) i in
+            let z = made-of o in
+            (z .0, o .out, o .tag, l .wraps s i (z .0) (o .out) (o .tag) .1 (z .1));
+        unwraps = λ s i.
+            let o = unwrapAt m incremental (k .stateOf s) i in
+            let z = made-of o in
+            (z .0, o .out, o .tag, l .unwraps s i (z .0) (o .out) (o .tag) .1 (z .1));
+      }
+
+  -- and so is a start's
+  pub starts-exist : (starts : Starts k) → StartByRules k starts → StartsExist k starts
+  starts-exist starts s key =
+      let o = startAt key in
+      let r = w .made (o .number) (o .count) (o .session) in
+      (r, s key r .1 (w .is (o .number) (o .count) (o .session)))

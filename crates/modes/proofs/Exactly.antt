@@ -243,8 +243,8 @@ module _ (m : PaperMode) (l : Ledger) (i : CallInput) where
   pub unwrap-exactly : UnwrapExactly m l i (ledgerUnwrap m l i .answer .number)
   unwrap-exactly =
       let z =
-          by-tag ⊥ (m .tagLength) (indexOf (r .history)) i (r .tag) (checkBefore11 m r i) _ (equalTags (i .tag) (r .tag)) (ledger-first m r i)
-          (equalTags-true (i .tag) (r .tag)) differ unwrap-number in
+      by-tag ⊥ (m .tagLength) (indexOf (r .history)) i (r .tag) (checkBefore11 m r i) _ (equalTags (i .tag) (r .tag)) (ledger-first m r i)
+      (equalTags-true (i .tag) (r .tag)) differ unwrap-number in
       record { refused = z .0; eleven = z .1; accepted = z .2 }
     where
       r : PaperResult

@@ -25,8 +25,8 @@ module _ (key : List ℕ) where
   unfolding startAt
   start-accepted h g =
       let e : startAt key ≡ record { number = 0; count = 1; session = newSession key } =
-          ap₂ (λ (p q : Bool). cond (p && q) (record { number = 0; count = 1; session = newSession key }) (record { number = 4; count = 0; session = closed }))
-          (le-leb 16 (length key) h) (le-leb (length key) 47 g) in
+      ap₂ (λ (p q : Bool). cond (p && q) (record { number = 0; count = 1; session = newSession key }) (record { number = 4; count = 0; session = closed }))
+      (le-leb 16 (length key) h) (le-leb (length key) 47 g) in
       record {
         number = ap (λ (o : Opening). o .number) e;
         count = ap (λ (o : Opening). o .count) e;

@@ -16,17 +16,13 @@ use Rattle.modes.specs.AnySession.{AnyWrap, AnyUnwrap}
 use Rattle.modes.specs.OneCall.{sessionOf, WrapClaim, UnwrapClaim}
 use Rattle.modes.specs.Start.{StartExactly}
 use Rattle.modes.specs.Demand3.{ByLedgers, Demand3}
-use Rattle.modes.specs.Promises.{Kind, startResult, callResult, Promises, Records, sessionsOf, leftBy, Run}
+use Rattle.modes.specs.Promises.{Kind, startResult, callResult, Promises, Starts, Records, sessionsOf, leftBy, Run}
 
 module _ (k : Kind) where
-  -- what a start of SANSE may promise: of its key and what it gave
-  abbrev pub Starts : Type 1
-  Starts = (key : List ℕ) → k .Result → Type 0
-
   -- ---- demand 1
 
   -- every start is accepted, or refused by 4, exactly by its key's length
-  abbrev pub StartOf : Starts → Type 0
+  abbrev pub StartOf : Starts k → Type 0
   StartOf starts = (key : List ℕ) (r : k .Result) → starts key r → StartExactly key (startResult k r)
 
   -- a call that is handed any record, open or not, and also one that no history gives
@@ -67,7 +63,7 @@ module _ (k : Kind) where
 
   -- SANSE: two starts under one key of 16 to 47 bytes, of which `starts` is promised, and then any list of calls. Demand 3 holds of all that
   -- they gave, and of the records that they left
-  abbrev pub Demand3Of : Starts → Promises k → Type 0
+  abbrev pub Demand3Of : Starts k → Promises k → Type 0
   Demand3Of starts p =
       (key : List ℕ) → 16 ≤ length key → length key ≤ 47 → (first second : k .Result) → starts key first → starts key second
       → (cs : List Call) (os : List (Outcome DeckState)) (to : Records k) → Run k p cs (leftBy k first second) os to
@@ -76,7 +72,7 @@ module _ (k : Kind) where
   -- ---- what the demands speak of is there
 
   -- under every key some result keeps the promise of a start
-  abbrev pub StartsExist : Starts → Type 0
+  abbrev pub StartsExist : Starts k → Type 0
   StartsExist starts = (key : List ℕ) → (r : k .Result) × starts key r
 
   -- from any records every list of calls has a run

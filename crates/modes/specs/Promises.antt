@@ -2,10 +2,12 @@
 -- gave and left; and the calls of a list at the two ends, each known by its promise alone. For every kind of record, since each mode's
 -- sessions are a kind of their own. Assumes nothing.
 use mathlib.Core.List.{List, [], _∷_}
+use mathlib.Core.Path.{_≡_}
 use Prim.Native.Nat.{ℕ}
 use Rattle.xoofff.specs.declared.DeckState.{DeckState}
 use Rattle.modes.specs.Call.{CallInput, Side, office, group, Call, wrap, unwrap}
-use Rattle.modes.specs.Rules.{SessionState, Outcome, Opening}
+use Rattle.modes.specs.Mode.{Mode, incremental}
+use Rattle.modes.specs.Rules.{SessionState, Outcome, Opening, startAt, wrapAt, unwrapAt}
 use Rattle.modes.specs.TwoEnds.{Ends}
 
 -- a kind of record: the records and what their functions give, the session that a record holds, and of what a function gave its number, its
@@ -27,11 +29,29 @@ module _ (k : Kind) where
   abbrev pub callResult : k .Result → (out tag : List ℕ) → Outcome DeckState
   callResult r out tag = record { number = k .number r; count = k .count r; session = k .stateOf (k .left r); out = out; tag = tag }
 
+  -- ---- promises
+
   -- what wrap and unwrap promise of the record and what else they were handed, what they gave, and the output buffer and the tag as they left
-  -- them. A start promises of its key and what it gave: it is apart, since in other modes it is handed more
+  -- them
   pub record Promises : Type 1 where
     pub wraps : k .Record → CallInput → k .Result → (out tag : List ℕ) → Type 0
     pub unwraps : k .Record → CallInput → k .Result → (out tag : List ℕ) → Type 0
+
+  -- what a start of SANSE promises of its key and what it gave. It stands apart, since starts of other modes are handed more
+  abbrev pub Starts : Type 1
+  Starts = (key : List ℕ) → k .Result → Type 0
+
+  -- the promises that are each call's equation with the rules of the mode m, and nothing else
+  abbrev pub byRules : Mode → Promises
+  byRules m =
+      record {
+        wraps = λ s i r out tag. callResult r out tag ≡ wrapAt m incremental (k .stateOf s) i;
+        unwraps = λ s i r out tag. callResult r out tag ≡ unwrapAt m incremental (k .stateOf s) i;
+      }
+
+  -- and so of a start
+  abbrev pub startByRules : Starts
+  startByRules key r = startResult r ≡ startAt key
 
   -- ---- the calls of a list at the two ends
 

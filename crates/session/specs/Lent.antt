@@ -7,7 +7,7 @@ use Prim.Native.Nat.{ℕ}
 use Rattle.modes.specs.Call.{CallInput}
 use Rattle.modes.specs.Mode.{sanse, incremental}
 use Rattle.modes.specs.Rules.{startAt, wrapAt, unwrapAt}
-use Rattle.modes.specs.Promises.{Promises}
+use Rattle.modes.specs.Promises.{Promises, Starts, byRules, startByRules}
 use Rattle.sanse.specs.declared.Session.{Session}
 use Rattle.sanse.specs.declared.CallResult.{CallResult}
 use Rattle.sanse.specs.Session.{stateOf, startResult, callResult}
@@ -30,17 +30,10 @@ Wrapped s i r s′ out tag = callResult (resultOf r s′) out tag ≡ wrapAt san
 abbrev pub Unwrapped : (s : Session) → CallInput → Answer → (s′ : Session) → (out tag : List ℕ) → Type 0
 Unwrapped s i r s′ out tag = callResult (resultOf r s′) out tag ≡ unwrapAt sanse incremental (stateOf s) i
 
--- what a result shows beside the record
-abbrev pub answerOf : CallResult → Answer
-answerOf r = record { number = r .number; count = r .count }
-
--- the promises: in a list of calls, the record that a call leaves is the one behind the reference at its exit
-abbrev pub lentStarts : (key : List ℕ) → CallResult → Type 0
-lentStarts key r = Started key (answerOf r) (r .session)
+-- so they promise each call's equation with the rules, and nothing else: in a list of calls, the record that a call leaves is the one behind
+-- the reference at its exit
+abbrev pub lentStarts : Starts sessions
+lentStarts = startByRules sessions
 
 abbrev pub lentPromises : Promises sessions
-lentPromises =
-    record {
-      wraps = λ s i r out tag. Wrapped s i (answerOf r) (r .session) out tag;
-      unwraps = λ s i r out tag. Unwrapped s i (answerOf r) (r .session) out tag;
-    }
+lentPromises = byRules sessions sanse
