@@ -94,7 +94,7 @@ module _ (m : Mode) {S : Type 0} (d : HistoryRep S) (s : SessionState S) (i : Ca
 
       count : (k : ℕ) (q : Bool) → ifNoCheck k s i (last q) .number ≡ 0 → ifNoCheck k s i (last q) .count ≡ m .parameters .count (length (metadataString i)) (length (i .text))
       count zero true h = refl
-      count zero false h = refl
+      count zero false h = absurd (omega arith)
       count (suc k) q h = absurd (omega arith)
 
       refused : (k : ℕ) (q : Bool) → ifNoCheck k s i (last q) .number ≢ 0 → ifNoCheck k s i (last q) .number ≢ 11

@@ -84,8 +84,8 @@ module _ {m : PaperMode} (laws : PaperLaws m) where
       → Returned t cs (answers m cs p)
   unfolding entries
   returned-from Delivers.finished k = Returned.finished
-  returned-from (Delivers.wrap-refused {t = t} {x = x} {i = i} {p = p} h r) k =
-      Returned.wrap-refused h (returned-from r (subst (InStep t) (sym (set-same x _ p (wrap-stays m (ledgerAt x p) i h))) k))
+  returned-from (Delivers.wrap-refused {x = x} {i = i} {p = p} h r) k =
+      Returned.wrap-refused h (returned-from r (rw (set-same x _ p (wrap-stays m (ledgerAt x p) i h)) k))
   returned-from (Delivers.wrap-accepted {x = x} {i = i} {cs = cs} {p = p} h r) k =
       let l = ledgerAt x p in
       let e = wrap-done m l i (wrap-none m l i h) in
@@ -99,22 +99,22 @@ module _ {m : PaperMode} (laws : PaperLaws m) where
       let z = arrives w out p k f in
       Returned.comes-back (ap (λ (e : Entry). e .answer .number) (z .1) ∙ z .2) (ap (λ (e : Entry). e .answer .out) (z .1) ∙ z .3)
       (returned-from r (level-set (w .from) _ p (sym (ap (λ (e : Entry). e .ledger) (z .1) ∙ z .4))))
-  returned-from (Delivers.other-arrival {t = t} {x = x} {i = i} {p = p} h r) k =
+  returned-from (Delivers.other-arrival {x = x} {i = i} {p = p} h r) k =
       let z = unwrap-stopped m (ledgerAt x p) i h in
-      Returned.arrival-refused (z .0) (returned-from r (subst (InStep t) (sym (set-same x _ p (z .1))) k))
+      Returned.arrival-refused (z .0) (returned-from r (rw (set-same x _ p (z .1)) k))
 
   level-from : {t : InFlight} {cs : List Call} {p : Ledgers} → Delivers m t cs p → InStep t p
       → finishLedgers m cs p .office ≡ finishLedgers m cs p .group
   unfolding finishLedgers
   level-from Delivers.finished k = k
-  level-from (Delivers.wrap-refused {t = t} {x = x} {i = i} {p = p} h r) k =
-      level-from r (subst (InStep t) (sym (set-same x _ p (wrap-stays m (ledgerAt x p) i h))) k)
+  level-from (Delivers.wrap-refused {x = x} {i = i} {p = p} h r) k =
+      level-from r (rw (set-same x _ p (wrap-stays m (ledgerAt x p) i h)) k)
   level-from (Delivers.wrap-accepted {x = x} {i = i} {p = p} h r) k = level-from r (after-wrap x i p h k)
   level-from (Delivers.delivered {w = w} {out = out} {p = p} f r) k =
       let z = arrives w out p k f in
       level-from r (level-set (w .from) _ p (sym (ap (λ (e : Entry). e .ledger) (z .1) ∙ z .4)))
-  level-from (Delivers.other-arrival {t = t} {x = x} {i = i} {p = p} h r) k =
-      level-from r (subst (InStep t) (sym (set-same x _ p (unwrap-stopped m (ledgerAt x p) i h .1))) k)
+  level-from (Delivers.other-arrival {x = x} {i = i} {p = p} h r) k =
+      level-from r (rw (set-same x _ p (unwrap-stopped m (ledgerAt x p) i h .1)) k)
 
   -- from equal ledgers, with nothing on its way
   pub returned : {cs : List Call} {p : Ledgers} → Delivers m nothing cs p → p .office ≡ p .group

@@ -39,63 +39,6 @@ rules-by-rules m k = record { wraps = λ s i r out tag. (λ e. e, λ e. e); unwr
 pub start-by-rules : (k : Kind) → StartByRules k (startByRules k)
 start-by-rules k key r = (λ e. e, λ e. e)
 
-module _ (k : Kind) where
-  at-records : (x : Side) (p : Records k) → k .stateOf (recordAt k x p) ≡ at x (sessionsOf k p)
-  at-records office p = refl
-  at-records group p = refl
-
-  store-records : (x : Side) (s : k .Record) (p : Records k) → sessionsOf k (store k x s p) ≡ put x (k .stateOf s) (sessionsOf k p)
-  store-records office s p = refl
-  store-records group s p = refl
-
--- ---- the demands
-
--- demand 1, of a start of SANSE
-pub start-of : (k : Kind) (starts : Starts k) → StartByRules k starts → StartOf k starts
-start-of k starts s key r w = subst (StartExactly key) (sym (s key r .0 w)) (start-exactly key)
-
-module _ {m : Mode} {k : Kind} {p : Promises k} (l : ByRules m p) where
-  -- demand 1, of any record
-  pub any-call-of : AnyCallOf k m p
-  any-call-of =
-      record {
-        wraps = λ s i r out tag w. subst (AnyWrap m incremental (k .stateOf s) i) (sym (l .wraps s i r out tag .0 w)) (any-wrap m incremental (k .stateOf s) i);
-        unwraps = λ s i r out tag w. subst (AnyUnwrap m incremental (k .stateOf s) i) (sym (l .unwraps s i r out tag .0 w)) (any-unwrap m incremental (k .stateOf s) i);
-      }
-
-  -- demands 1 and 2, of one call
-  pub one-call-of : {n : PaperMode} → Follows m n → OneCallOf k n p
-  one-call-of {n} f =
-      record {
-        wraps = λ key h e s i r out tag q w.
-            subst (WrapClaim n key h e i) (sym (l .wraps s i r out tag .0 w ∙ ap (λ (z : SessionState DeckState). wrapAt m incremental z i) q)) (one-call-by f .wrap-claim key h e i);
-        unwraps = λ key h e s i r out tag q w.
-            subst (UnwrapClaim n key h e i) (sym (l .unwraps s i r out tag .0 w ∙ ap (λ (z : SessionState DeckState). unwrapAt m incremental z i) q)) (one-call-by f .unwrap-claim key h e i);
-      }
-
-  -- the promises' runs are runs by the rules
-  pub runs-of : {cs : List Call} {from to : Records k} {os : List (Outcome DeckState)} → Run k p cs from os to
-      → Runs m incremental cs (sessionsOf k from) os (sessionsOf k to)
-  runs-of Run.none = Runs.none
-  runs-of (Run.wrapped {cs} {from} {to} {os} {x} {i} {r} {out} {tag} w q) =
-      Runs.more (l .wraps (recordAt k x from) i r out tag .0 w ∙ ap (λ (z : SessionState DeckState). wrapAt m incremental z i) (at-records k x from))
-      (subst (λ (z : Ends DeckState). Runs m incremental cs z os (sessionsOf k to)) (store-records k x (k .left r) from) (runs-of q))
-  runs-of (Run.unwrapped {cs} {from} {to} {os} {x} {i} {r} {out} {tag} w q) =
-      Runs.more (l .unwraps (recordAt k x from) i r out tag .0 w ∙ ap (λ (z : SessionState DeckState). unwrapAt m incremental z i) (at-records k x from))
-      (subst (λ (z : Ends DeckState). Runs m incremental cs z os (sessionsOf k to)) (store-records k x (k .left r) from) (runs-of q))
-
-  -- demand 3 of any mode, from two records of one history
-  pub list-of : {n : PaperMode} → Follows m n → ListOf k n p
-  list-of f key opening from a b cs os to r =
-      by-ledgers f key opening cs os (sessionsOf k to)
-      (subst (λ (z : Ends DeckState). Runs m incremental cs z os (sessionsOf k to))
-      (ap₂ (λ (s t : SessionState DeckState). record { office = s; group = t }) a b) (runs-of r))
-
--- demand 3 of SANSE, one claim about the whole list
-pub demand-3-of : {k : Kind} {starts : Starts k} {p : Promises k} → StartByRules k starts → ByRules sanse p → Demand3Of k starts p
-demand-3-of {k} s l key h g first second a b cs os to r =
-    demand-3 key h g (startResult k first) (startResult k second) (s key first .0 a) (s key second .0 b) cs os (sessionsOf k to) (runs-of l r)
-
 -- ---- what the demands speak of is there
 
 -- promises that some result keeps, whatever a call is handed
@@ -150,3 +93,60 @@ module _ {k : Kind} (w : Whole k) where
       let o = startAt key in
       let r = w .made (o .number) (o .count) (o .session) in
       (r, s key r .1 (w .is (o .number) (o .count) (o .session)))
+
+-- ---- the demands
+
+module _ (k : Kind) where
+  at-records : (x : Side) (p : Records k) → k .stateOf (recordAt k x p) ≡ at x (sessionsOf k p)
+  at-records office p = refl
+  at-records group p = refl
+
+  store-records : (x : Side) (s : k .Record) (p : Records k) → sessionsOf k (store k x s p) ≡ put x (k .stateOf s) (sessionsOf k p)
+  store-records office s p = refl
+  store-records group s p = refl
+
+-- demand 1, of a start of SANSE
+pub start-of : (k : Kind) (starts : Starts k) → StartByRules k starts → StartOf k starts
+start-of k starts s key r w = subst (StartExactly key) (sym (s key r .0 w)) (start-exactly key)
+
+module _ {m : Mode} {k : Kind} {p : Promises k} (l : ByRules m p) where
+  -- demand 1, of any record
+  pub any-call-of : AnyCallOf k m p
+  any-call-of =
+      record {
+        wraps = λ s i r out tag w. subst (AnyWrap m incremental (k .stateOf s) i) (sym (l .wraps s i r out tag .0 w)) (any-wrap m incremental (k .stateOf s) i);
+        unwraps = λ s i r out tag w. subst (AnyUnwrap m incremental (k .stateOf s) i) (sym (l .unwraps s i r out tag .0 w)) (any-unwrap m incremental (k .stateOf s) i);
+      }
+
+  -- demands 1 and 2, of one call
+  pub one-call-of : {n : PaperMode} → Follows m n → OneCallOf k n p
+  one-call-of {n} f =
+      record {
+        wraps = λ key h e s i r out tag q w.
+            subst (WrapClaim n key h e i) (sym (l .wraps s i r out tag .0 w ∙ ap (λ (z : SessionState DeckState). wrapAt m incremental z i) q)) (one-call-by f .wrap-claim key h e i);
+        unwraps = λ key h e s i r out tag q w.
+            subst (UnwrapClaim n key h e i) (sym (l .unwraps s i r out tag .0 w ∙ ap (λ (z : SessionState DeckState). unwrapAt m incremental z i) q)) (one-call-by f .unwrap-claim key h e i);
+      }
+
+  -- the promises' runs are runs by the rules
+  pub runs-of : {cs : List Call} {from to : Records k} {os : List (Outcome DeckState)} → Run k p cs from os to
+      → Runs m incremental cs (sessionsOf k from) os (sessionsOf k to)
+  runs-of Run.none = Runs.none
+  runs-of (Run.wrapped {cs} {from} {to} {os} {x} {i} {r} {out} {tag} w q) =
+      Runs.more (l .wraps (recordAt k x from) i r out tag .0 w ∙ ap (λ (z : SessionState DeckState). wrapAt m incremental z i) (at-records k x from))
+      (subst (λ (z : Ends DeckState). Runs m incremental cs z os (sessionsOf k to)) (store-records k x (k .left r) from) (runs-of q))
+  runs-of (Run.unwrapped {cs} {from} {to} {os} {x} {i} {r} {out} {tag} w q) =
+      Runs.more (l .unwraps (recordAt k x from) i r out tag .0 w ∙ ap (λ (z : SessionState DeckState). unwrapAt m incremental z i) (at-records k x from))
+      (subst (λ (z : Ends DeckState). Runs m incremental cs z os (sessionsOf k to)) (store-records k x (k .left r) from) (runs-of q))
+
+  -- demand 3 of any mode, from two records of one history
+  pub list-of : {n : PaperMode} → Follows m n → ListOf k n p
+  list-of f key opening from a b cs os to r =
+      by-ledgers f key opening cs os (sessionsOf k to)
+      (subst (λ (z : Ends DeckState). Runs m incremental cs z os (sessionsOf k to))
+      (ap₂ (λ (s t : SessionState DeckState). record { office = s; group = t }) a b) (runs-of r))
+
+-- demand 3 of SANSE, one claim about the whole list
+pub demand-3-of : {k : Kind} {starts : Starts k} {p : Promises k} → StartByRules k starts → ByRules sanse p → Demand3Of k starts p
+demand-3-of {k} s l key h g first second a b cs os to r =
+    demand-3 key h g (startResult k first) (startResult k second) (s key first .0 a) (s key second .0 b) cs os (sessionsOf k to) (runs-of l r)
