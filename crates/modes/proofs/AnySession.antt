@@ -8,7 +8,7 @@ use native.Mathlib.Omega.{arith}
 use lib.ListN.{length, drop, replicate, length-replicate}
 use Rattle.modes.specs.Call.{CallInput}
 use Rattle.modes.specs.Mode.{HistoryRep, Mode}
-use Rattle.modes.specs.Rules.{SessionState, Outcome, growth, metadataString, sameBytes, firstCheck, ifNoCheck, checkNumber, wrapSteps, unwrapSteps, accepted, wrongTag, compareTag, wrapAt, unwrapAt}
+use Rattle.modes.specs.Rules.{SessionState, Outcome, metadataString, sameBytes, firstCheck, ifNoCheck, checkNumber, wrapSteps, unwrapSteps, accepted, wrongTag, compareTag, wrapAt, unwrapAt}
 use Rattle.modes.specs.Ledger.{equalTags}
 use Rattle.modes.specs.AnySession.{NotOpen, indexAfter, unaltered, AnyWrap, AnyUnwrap}
 use Rattle.modes.proofs.Entries.{equalTags-is, equalTags-refl, equalTags-true, equalTags-false}

@@ -2,16 +2,17 @@
 -- refused: `Delivers` leaves no such list out. Assumes nothing.
 use mathlib.Core.List.{List, [], _∷_}
 use mathlib.Core.Logic.{_≢_, _⊎_, inl, inr}
-use mathlib.Core.Path.{_≡_, refl, sym, ap, ap₂, _∙_, subst, subst₂}
+use mathlib.Core.Path.{_≡_, refl, ap, _∙_, subst, subst₂}
 use Prim.Native.Nat.{ℕ, zero, suc, _≤_}
 use native.Mathlib.Omega.{arith}
-use lib.ListN.{length, take, drop}
+use lib.ListN.{length, take}
 use lib.Seq.{take-at}
-use Rattle.modes.specs.Call.{CallInput, Side, other, Call, wrap, unwrap}
-use Rattle.modes.specs.Ledger.{PaperMode, Ledger, Answer, Entry, wrapFinds, unwrapFinds, checkBefore11, ledgerWrap, ledgerUnwrap}
+use Rattle.modes.specs.Call.{CallInput, other, Call, wrap, unwrap}
+use Rattle.modes.specs.Ledger.{PaperMode, sansePaper, Ledger, Answer, Entry, wrapFinds, unwrapFinds, checkBefore11, ledgerWrap, ledgerUnwrap}
 use Rattle.modes.specs.TwoEnds.{Ledgers, ledgerAt, nextLedgers, entries, answers}
-use Rattle.modes.specs.Delivery.{Sent, delivery, sentBy, InFlight, nothing, sent, Delivers, Returned, DeliversExactly}
-use Rattle.modes.proofs.Entries.{PaperLaws, wrap-none, wrap-done}
+use Rattle.modes.specs.Delivery.{delivery, InFlight, nothing, sent, Delivers, Returned, DeliversExactly}
+use Rattle.modes.proofs.Entries.{PaperLaws, paper-laws, wrap-none, wrap-done}
+use Rattle.modes.proofs.Modes.{sanse-follows}
 use Rattle.modes.proofs.Delivery.{returned}
 use Rattle.modes.proofs.Exactly.{check-none, unwrap-exactly}
 
@@ -74,3 +75,6 @@ module _ {m : PaperMode} (laws : PaperLaws m) where
   -- from equal ledgers, with nothing on its way
   pub delivers-exactly : DeliversExactly m
   delivers-exactly cs p e = (λ d. returned laws d e, λ r. delivers-from nothing cs p _ 0 refl r)
+
+pub sanse-delivers-exactly : DeliversExactly sansePaper
+sanse-delivers-exactly = delivers-exactly (paper-laws sanse-follows)

@@ -1,5 +1,4 @@
 -- Demand 3: for any mode that follows its paper, and for SANSE with its two starts. Assumes nothing.
-use mathlib.Core.Bool.{false}
 use mathlib.Core.List.{List, [], _∷_, map}
 use mathlib.Core.Path.{_≡_, refl, sym, ap, _∙_, subst}
 use Prim.Native.Nat.{ℕ, _≤_}
@@ -10,7 +9,7 @@ use Rattle.modes.specs.Call.{Call, wrap, unwrap, sideOf}
 use Rattle.modes.specs.Mode.{HistoryRep, Mode, incremental, sanse}
 use Rattle.modes.specs.Rules.{Outcome, Opening, startAt}
 use Rattle.modes.specs.Paper.{sanseOpens}
-use Rattle.modes.specs.Ledger.{PaperMode, Answer, Entry, ledgerWrap, ledgerUnwrap}
+use Rattle.modes.specs.Ledger.{PaperMode, Answer, Entry}
 use Rattle.modes.specs.OneCall.{sessionOf}
 use Rattle.modes.specs.Start.{StartAccepted}
 use Rattle.modes.specs.TwoEnds.{Ends, put, outcome, Runs, Ledgers, ledgerAt, nextLedgers, entries, finishLedgers, freshLedgers}

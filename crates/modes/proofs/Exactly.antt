@@ -15,7 +15,7 @@ use Rattle.modes.specs.Paper.{PaperResult}
 use Rattle.modes.specs.Rules.{firstCheck}
 use Rattle.modes.specs.Ledger.{PaperMode, Ledger, equalTags, wrapFinds, unwrapFinds, checkBefore11, onCheck, accepts, refuses11, ledgerWrap, ledgerUnwrap}
 use Rattle.modes.specs.Exactly.{Check6, Check7, Check8, Check9, NoneBefore11, Exactly5to9, WrapExactly, UnwrapExactly}
-use Rattle.modes.proofs.Entries.{equalTags-refl, equalTags-true, equalTags-false}
+use Rattle.modes.proofs.Entries.{equalTags-refl, equalTags-true}
 
 -- a number that is k, under the condition of k; and one that is not, where that condition does not hold
 is : {P : Type 0} {n k : ℕ} → n ≡ k → P → (n ≡ k) ↔ P

@@ -1,10 +1,9 @@
 -- The ledger of document 01 and the rules: for any mode that follows its paper, wrap and unwrap of the session that a ledger's history gives have the
 -- ledger's answer and leave the session that its history then gives; for one call, and for every list of calls. Assumes nothing.
-use mathlib.Core.Bool.{Bool, true, false, cond, _&&_}
-use mathlib.Core.List.{List, [], _∷_, _++_, map}
+use mathlib.Core.Bool.{Bool, true, false, cond}
+use mathlib.Core.List.{List, _∷_, _++_, map}
 use mathlib.Core.Path.{_≡_, refl, sym, ap, ap₂, _∙_}
 use Prim.Native.Nat.{ℕ, zero, suc}
-use lib.Dec.{eqb}
 use lib.ListN.{length, drop, replicate, length-replicate}
 use Rattle.xoofff.specs.declared.DeckState.{DeckState}
 use Rattle.xoofff.specs.Strings.{Str}
@@ -12,7 +11,7 @@ use Rattle.xoofff.specs.Deck.{outputMask}
 use Rattle.xoofff.specs.Incremental.{fromScratch}
 use Rattle.modes.specs.Call.{CallInput, Side, office, group, Call, wrap, unwrap, sideOf}
 use Rattle.modes.specs.Mode.{StepResult, Mode, wholeHistory, incremental}
-use Rattle.modes.specs.Rules.{SessionState, Outcome, firstCheck, metadataString, sameBytes, ifNoCheck, checkNumber, wrapSteps, unwrapSteps, accepted, wrongTag, compareTag, wrapAt, unwrapAt}
+use Rattle.modes.specs.Rules.{SessionState, Outcome, firstCheck, metadataString, ifNoCheck, checkNumber, wrapSteps, unwrapSteps, accepted, wrongTag, compareTag, wrapAt, unwrapAt}
 use Rattle.modes.specs.Ledger.{PaperMode, Ledger, Entry, equalTags, wrapFinds, unwrapFinds, checkBefore11, onCheck, accepts, refuses11, ledgerWrap, ledgerUnwrap}
 use Rattle.modes.specs.OneCall.{sessionOf}
 use Rattle.modes.specs.TwoEnds.{Ends, at, put, outcome, Runs, Ledgers, ledgerAt, setLedger, ledgerStep, nextLedgers, entries, finishLedgers}

@@ -25,8 +25,7 @@ use Rattle.modes.proofs.AnySession.{any-unwrap}
 use Rattle.xoofff.specs.declared.DeckState.{DeckState}
 use Rattle.sanse.specs.declared.Session.{Session}
 use Rattle.sanse.specs.declared.CallResult.{CallResult}
-use Rattle.sanse.specs.Session.{stateOf, startResult, callResult, handed}
-use Rattle.sanse.specs.Demands.{sessions}
+use Rattle.sanse.specs.Session.{stateOf, startResult, callResult, handed, sessions}
 use Rattle.sanse.proofs.start as start
 use Rattle.sanse.proofs.wrap as wrap
 use Rattle.sanse.proofs.unwrap as unwrap

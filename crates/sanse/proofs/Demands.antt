@@ -19,8 +19,7 @@ use Rattle.modes.proofs.Modes.{sanse-follows}
 use Rattle.modes.proofs.Demands.{ByRules, Whole, start-of, any-call-of, one-call-of, demand-3-of, runs-exist, kept, starts-exist}
 use Rattle.sanse.specs.declared.Session.{Session}
 use Rattle.sanse.specs.declared.CallResult.{CallResult}
-use Rattle.sanse.specs.Session.{stateOf, startResult, callResult}
-use Rattle.sanse.specs.Demands.{sessions}
+use Rattle.sanse.specs.Session.{stateOf, startResult, callResult, sessions}
 use Rattle.sanse.proofs.Contracts.{StartPromise, promises, start-is, wrap-is, unwrap-is}
 
 -- ---- what the demands say of these records, written out

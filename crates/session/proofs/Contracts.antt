@@ -8,12 +8,11 @@ use prog.Routine.{Routine}
 use ghost.Atoms.{Atoms}
 use contract.Lifetimes.{Lfts}
 use contract.Monad.{Fun}
-use contract.Notation.{Connectives, connectives}
+use contract.Notation.{connectives}
 use denote.Ref.{now}
 use denote.Triple.Clauses.{AtExit}
 use denote.Triple.Entry.{Args, Res}
 use Rattle.sanse.specs.Session.{handed}
-use Rattle.modes.specs.Promises.{Promises}
 use Rattle.session.specs.Lent.{Started, Wrapped, Unwrapped, resultOf, lentStarts, lentPromises}
 use Rattle.session.proofs.start as start
 use Rattle.session.proofs.wrap as wrap

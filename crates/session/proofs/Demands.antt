@@ -5,7 +5,7 @@ use Rattle.modes.specs.Ledger.{sansePaper}
 use Rattle.modes.specs.Demands.{StartOf, AnyCallOf, OneCallOf, Demand3Of, StartsExist, RunsExist}
 use Rattle.modes.proofs.Modes.{sanse-follows}
 use Rattle.modes.proofs.Demands.{ByRules, rules-by-rules, start-by-rules, start-of, any-call-of, one-call-of, demand-3-of, runs-exist, kept, starts-exist}
-use Rattle.sanse.specs.Demands.{sessions}
+use Rattle.sanse.specs.Session.{sessions}
 use Rattle.sanse.proofs.Demands.{whole}
 use Rattle.session.specs.Lent.{lentStarts, lentPromises}
 

@@ -10,8 +10,7 @@ use Rattle.modes.specs.Rules.{startAt, wrapAt, unwrapAt}
 use Rattle.modes.specs.Promises.{Promises, Starts, byRules, startByRules}
 use Rattle.sanse.specs.declared.Session.{Session}
 use Rattle.sanse.specs.declared.CallResult.{CallResult}
-use Rattle.sanse.specs.Session.{stateOf, startResult, callResult}
-use Rattle.sanse.specs.Demands.{sessions}
+use Rattle.sanse.specs.Session.{stateOf, startResult, callResult, sessions}
 use Rattle.session.specs.declared.Answer.{Answer}
 
 -- an answer, with the record as the call left it
