@@ -8,18 +8,19 @@ use Rattle.xoofff.specs.declared.DeckState.{DeckState}
 use Rattle.modes.specs.Call.{CallInput, Side, office, group, Call, wrap, unwrap}
 use Rattle.modes.specs.Mode.{Mode, incremental, sanse}
 use Rattle.modes.specs.Rules.{SessionState, Outcome, startAt, wrapAt, unwrapAt}
+use Rattle.modes.specs.Paper.{sanseOpens}
 use Rattle.modes.specs.Ledger.{PaperMode}
 use Rattle.modes.specs.AnySession.{AnyWrap, AnyUnwrap}
 use Rattle.modes.specs.OneCall.{WrapClaim, UnwrapClaim}
 use Rattle.modes.specs.Start.{StartExactly}
 use Rattle.modes.specs.TwoEnds.{Ends, at, put, Runs}
-use Rattle.modes.specs.Promises.{Kind, startResult, callResult, Promises, Starts, byRules, startByRules, Records, recordAt, store, Run, sessionsOf}
+use Rattle.modes.specs.Promises.{Kind, startResult, callResult, Promises, Starts, byRules, startByRules, Records, recordAt, store, leftBy, Run, sessionsHeld}
 use Rattle.modes.specs.Demands.{StartOf, AnyCallOf, OneCallOf, ListOf, Demand3Of, StartsExist, RunsExist}
-use Rattle.modes.proofs.Modes.{Follows}
+use Rattle.modes.proofs.Modes.{Follows, sanse-follows}
 use Rattle.modes.proofs.AnySession.{any-wrap, any-unwrap}
 use Rattle.modes.proofs.OneCall.{one-call-by}
 use Rattle.modes.proofs.Start.{start-exactly}
-use Rattle.modes.proofs.Demand3.{by-ledgers, demand-3}
+use Rattle.modes.proofs.Demand3.{by-ledgers}
 
 -- ---- what is asked of promises
 
@@ -61,14 +62,14 @@ runs-exist {k} l (unwrap x i ∷ cs) from =
 -- a kind of record in which every number, count and session is some result's
 pub record Whole (k : Kind) : Type 0 where
   pub made : (n c : ℕ) (s : SessionState DeckState) → k .Result
-  pub is : (n c : ℕ) (s : SessionState DeckState) → startResult k (made n c s) ≡ record { number = n; count = c; session = s }
+  pub same : (n c : ℕ) (s : SessionState DeckState) → startResult k (made n c s) ≡ record { number = n; count = c; session = s }
 
 module _ {k : Kind} (w : Whole k) where
   -- the result that an outcome is, and that it is one
   made-of : (o : Outcome DeckState)
       → (r : k .Result) × (callResult k r (o .out) (o .tag) ≡ o)
   made-of o =
-      let e = w .is (o .number) (o .count) (o .session) in (
+      let e = w .same (o .number) (o .count) (o .session) in (
         w .made (o .number) (o .count) (o .session),
         λ j. record { number = e j .number; count = e j .count; session = e j .session; out = o .out; tag = o .tag },
       )
@@ -92,16 +93,16 @@ module _ {k : Kind} (w : Whole k) where
   starts-exist starts s key =
       let o = startAt key in
       let r = w .made (o .number) (o .count) (o .session) in
-      (r, s key r .1 (w .is (o .number) (o .count) (o .session)))
+      (r, s key r .1 (w .same (o .number) (o .count) (o .session)))
 
 -- ---- the demands
 
 module _ (k : Kind) where
-  at-records : (x : Side) (p : Records k) → k .stateOf (recordAt k x p) ≡ at x (sessionsOf k p)
+  at-records : (x : Side) (p : Records k) → k .stateOf (recordAt k x p) ≡ at x (sessionsHeld k p)
   at-records office p = refl
   at-records group p = refl
 
-  store-records : (x : Side) (s : k .Record) (p : Records k) → sessionsOf k (store k x s p) ≡ put x (k .stateOf s) (sessionsOf k p)
+  store-records : (x : Side) (s : k .Record) (p : Records k) → sessionsHeld k (store k x s p) ≡ put x (k .stateOf s) (sessionsHeld k p)
   store-records office s p = refl
   store-records group s p = refl
 
@@ -130,23 +131,29 @@ module _ {m : Mode} {k : Kind} {p : Promises k} (l : ByRules m p) where
 
   -- the promises' runs are runs by the rules
   pub runs-of : {cs : List Call} {from to : Records k} {os : List (Outcome DeckState)} → Run k p cs from os to
-      → Runs m incremental cs (sessionsOf k from) os (sessionsOf k to)
+      → Runs m incremental cs (sessionsHeld k from) os (sessionsHeld k to)
   runs-of Run.none = Runs.none
   runs-of (Run.wrapped {cs} {from} {to} {os} {x} {i} {r} {out} {tag} w q) =
       Runs.more (l .wraps (recordAt k x from) i r out tag .0 w ∙ ap (λ (z : SessionState DeckState). wrapAt m incremental z i) (at-records k x from))
-      (subst (λ (z : Ends DeckState). Runs m incremental cs z os (sessionsOf k to)) (store-records k x (k .left r) from) (runs-of q))
+      (subst (λ (z : Ends DeckState). Runs m incremental cs z os (sessionsHeld k to)) (store-records k x (k .left r) from) (runs-of q))
   runs-of (Run.unwrapped {cs} {from} {to} {os} {x} {i} {r} {out} {tag} w q) =
       Runs.more (l .unwraps (recordAt k x from) i r out tag .0 w ∙ ap (λ (z : SessionState DeckState). unwrapAt m incremental z i) (at-records k x from))
-      (subst (λ (z : Ends DeckState). Runs m incremental cs z os (sessionsOf k to)) (store-records k x (k .left r) from) (runs-of q))
+      (subst (λ (z : Ends DeckState). Runs m incremental cs z os (sessionsHeld k to)) (store-records k x (k .left r) from) (runs-of q))
 
   -- demand 3 of any mode, from two records of one history
   pub list-of : {n : PaperMode} → Follows m n → ListOf k n p
   list-of f key opening from a b cs os to r =
-      by-ledgers f key opening cs os (sessionsOf k to)
-      (subst (λ (z : Ends DeckState). Runs m incremental cs z os (sessionsOf k to))
+      by-ledgers f key opening cs os (sessionsHeld k to)
+      (subst (λ (z : Ends DeckState). Runs m incremental cs z os (sessionsHeld k to))
       (ap₂ (λ (s t : SessionState DeckState). record { office = s; group = t }) a b) (runs-of r))
 
 -- demand 3 of SANSE, one claim about the whole list
 pub demand-3-of : {k : Kind} {starts : Starts k} {p : Promises k} → StartByRules k starts → ByRules sanse p → Demand3Of k starts p
-demand-3-of {k} s l key h g first second a b cs os to r =
-    demand-3 key h g (startResult k first) (startResult k second) (s key first .0 a) (s key second .0 b) cs os (sessionsOf k to) (runs-of l r)
+demand-3-of {k} {starts} s l key h g first second a b cs os to r =
+    let x = start-of k starts s key first a .opens h g in
+    let y = start-of k starts s key second b .opens h g in
+    record {
+      office-start = x;
+      group-start = y;
+      calls = list-of l sanse-follows key sanseOpens (leftBy k first second) (x .session) (y .session) cs os to r;
+    }

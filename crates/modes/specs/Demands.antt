@@ -16,7 +16,7 @@ use Rattle.modes.specs.AnySession.{AnyWrap, AnyUnwrap}
 use Rattle.modes.specs.OneCall.{sessionOf, WrapClaim, UnwrapClaim}
 use Rattle.modes.specs.Start.{StartExactly}
 use Rattle.modes.specs.Demand3.{ByLedgers, Demand3}
-use Rattle.modes.specs.Promises.{Kind, startResult, callResult, Promises, Starts, Records, sessionsOf, leftBy, Run}
+use Rattle.modes.specs.Promises.{Kind, startResult, callResult, Promises, Starts, Records, sessionsHeld, leftBy, Run}
 
 module _ (k : Kind) where
   -- ---- demand 1
@@ -59,7 +59,7 @@ module _ (k : Kind) where
       (key : List ℕ) (opening : List Str) (from : Records k)
       → k .stateOf (from .office) ≡ sessionOf key opening false → k .stateOf (from .group) ≡ sessionOf key opening false
       → (cs : List Call) (os : List (Outcome DeckState)) (to : Records k) → Run k p cs from os to
-      → ByLedgers m key opening cs os (sessionsOf k to)
+      → ByLedgers m key opening cs os (sessionsHeld k to)
 
   -- SANSE: two starts under one key of 16 to 47 bytes, of which `starts` is promised, and then any list of calls. Demand 3 holds of all that
   -- they gave, and of the records that they left
@@ -67,7 +67,7 @@ module _ (k : Kind) where
   Demand3Of starts p =
       (key : List ℕ) → 16 ≤ length key → length key ≤ 47 → (first second : k .Result) → starts key first → starts key second
       → (cs : List Call) (os : List (Outcome DeckState)) (to : Records k) → Run k p cs (leftBy k first second) os to
-      → Demand3 key cs (startResult k first) (startResult k second) os (sessionsOf k to)
+      → Demand3 key cs (startResult k first) (startResult k second) os (sessionsHeld k to)
 
   -- ---- what the demands speak of is there
 

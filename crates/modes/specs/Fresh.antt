@@ -61,19 +61,19 @@ underTag t w = record { from = w .from; input = w .input; cryptogram = w .crypto
 
 module _ (m : PaperMode) (key : List ℕ) (opening : List Str) (i j : CallInput) (out out′ t : List ℕ) where
   -- what the office's first message gave, which is delivered, and its second
-  abbrev pub first : Sent
-  first = sentBy m office i (freshLedgers key opening)
+  abbrev pub firstSent : Sent
+  firstSent = sentBy m office i (freshLedgers key opening)
 
-  abbrev pub second : Sent
-  second = sentBy m office j (afterThere m key opening i out)
+  abbrev pub secondSent : Sent
+  secondSent = sentBy m office j (afterThere m key opening i out)
 
   -- the ledgers while the second is on its way
-  abbrev pub between : Ledgers
-  between = nextLedgers m (wrap office j) (afterThere m key opening i out)
+  abbrev pub onTheWay : Ledgers
+  onTheWay = nextLedgers m (wrap office j) (afterThere m key opening i out)
 
   -- the tag of what arrives at an end then differs from the one that the algorithm finds for it there
   abbrev pub Differs : Side → CallInput → Type 0
-  Differs x a = a .tag ≢ unwrapFinds m (ledgerAt x between) a .tag
+  Differs x a = a .tag ≢ unwrapFinds m (ledgerAt x onTheWay) a .tag
 
   -- after the first message the office wraps j; a wrap is refused at each end; the group gets what j gave under the tag t, and then the first
   -- message again; the office gets what j gave; and last the group gets it
@@ -83,17 +83,17 @@ module _ (m : PaperMode) (key : List ℕ) (opening : List Str) (i j : CallInput)
       ++ wrap office j
       ∷ wrap group noTag
       ∷ wrap office noTag
-      ∷ unwrap group (delivery (underTag t second) out′)
-      ∷ unwrap group (delivery first out)
-      ∷ unwrap office (delivery second out′)
-      ∷ unwrap group (delivery second out′)
+      ∷ unwrap group (delivery (underTag t secondSent) out′)
+      ∷ unwrap group (delivery firstSent out)
+      ∷ unwrap office (delivery secondSent out′)
+      ∷ unwrap group (delivery secondSent out′)
       ∷ []
 
   -- in this list each message is delivered, where t, the repeat's tag and the reflection's differ from those that are found
   abbrev pub Disturbed : Type 0
   Disturbed =
       InLimits m i → InLimits m j → length (i .text) ≤ length out → length (j .text) ≤ length out′
-      → Differs group (delivery (underTag t second) out′)
-      → Differs group (delivery first out)
-      → Differs office (delivery second out′)
+      → Differs group (delivery (underTag t secondSent) out′)
+      → Differs group (delivery firstSent out)
+      → Differs office (delivery secondSent out′)
       → Delivers m nothing disturbed (freshLedgers key opening)

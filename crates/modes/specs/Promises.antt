@@ -71,8 +71,8 @@ module _ (k : Kind) where
   store group s p = record { office = p .office; group = s }
 
   -- the sessions that the records hold
-  abbrev pub sessionsOf : Records → Ends DeckState
-  sessionsOf p = record { office = k .stateOf (p .office); group = k .stateOf (p .group) }
+  abbrev pub sessionsHeld : Records → Ends DeckState
+  sessionsHeld p = record { office = k .stateOf (p .office); group = k .stateOf (p .group) }
 
   -- the records that two starts left
   abbrev pub leftBy : (first second : k .Result) → Records

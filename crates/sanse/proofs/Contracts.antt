@@ -25,7 +25,7 @@ use Rattle.modes.proofs.AnySession.{any-unwrap}
 use Rattle.xoofff.specs.declared.DeckState.{DeckState}
 use Rattle.sanse.specs.declared.Session.{Session}
 use Rattle.sanse.specs.declared.CallResult.{CallResult}
-use Rattle.sanse.specs.Session.{stateOf, startResult, callResult, handed, sessions}
+use Rattle.sanse.specs.Session.{stateOf, startResult, callResult, handed, sanseKind}
 use Rattle.sanse.proofs.start as start
 use Rattle.sanse.proofs.wrap as wrap
 use Rattle.sanse.proofs.unwrap as unwrap
@@ -81,6 +81,7 @@ module _ {M : Type 1} (𝓤 : URA M) (H : Heap 𝓤) (A : Atoms 𝓤) (mem : Mem
 
 -- ---- the promises: a call with some arguments, of which the function's `ensures` holds
 
+-- a start that was handed the key gave r
 pub record StartPromise (key : List ℕ) (r : CallResult) : Type 0 where
   pub κs : Lfts 1
   pub args : Dens κs start-ps
@@ -88,6 +89,7 @@ pub record StartPromise (key : List ℕ) (r : CallResult) : Type 0 where
   pub isKey : now (args .0) ≡ key
   pub met : StartPost κs args r exits
 
+-- a wrap that was handed the record s and i gave r, and left the output buffer and the tag
 pub record WrapPromise (s : Session) (i : CallInput) (r : CallResult) (out tag : List ℕ) : Type 0 where
   pub κs : Lfts 4
   pub args : Dens κs wrap-ps
@@ -98,7 +100,7 @@ pub record WrapPromise (s : Session) (i : CallInput) (r : CallResult) (out tag :
   pub isTag : now (exits .1 .1 .1 .1 .0) ≡ tag
   pub met : WrapPost κs args r exits
 
--- the tag of unwrap is a shared slice: no call alters it
+-- and so of an unwrap, whose tag is a shared slice: no call alters it
 pub record UnwrapPromise (s : Session) (i : CallInput) (r : CallResult) (out tag : List ℕ) : Type 0 where
   pub κs : Lfts 4
   pub args : Dens κs unwrap-ps
@@ -130,7 +132,7 @@ unwrap-kept κs args exits r h =
     record { κs = κs; args = args; exits = exits; isRecord = refl; isInput = refl; isOut = refl; isTag = refl; met = h }
 
 -- the promises of wrap and unwrap
-abbrev pub promises : Promises sessions
+abbrev pub promises : Promises sanseKind
 promises = record { wraps = WrapPromise; unwraps = UnwrapPromise }
 
 -- some reference to these bytes, and some lifetimes, one for each slice that wrap or unwrap is handed

@@ -13,35 +13,35 @@ use Rattle.modes.specs.Rules.{Outcome}
 use Rattle.modes.specs.Ledger.{sansePaper}
 use Rattle.modes.specs.OneCall.{sessionOf, WrapClaim, UnwrapClaim}
 use Rattle.modes.specs.Demand3.{Demand3}
-use Rattle.modes.specs.Promises.{Promises, Records, Run, sessionsOf}
+use Rattle.modes.specs.Promises.{Promises, Records, Run, sessionsHeld}
 use Rattle.modes.specs.Demands.{StartOf, AnyCallOf, WrapOf, UnwrapOf, OneCallOf, Demand3Of, StartsExist, RunsExist}
 use Rattle.modes.proofs.Modes.{sanse-follows}
 use Rattle.modes.proofs.Demands.{ByRules, Whole, start-of, any-call-of, one-call-of, demand-3-of, runs-exist, kept, starts-exist}
 use Rattle.sanse.specs.declared.Session.{Session}
 use Rattle.sanse.specs.declared.CallResult.{CallResult}
-use Rattle.sanse.specs.Session.{stateOf, startResult, callResult, sessions}
+use Rattle.sanse.specs.Session.{stateOf, startResult, callResult, sanseKind}
 use Rattle.sanse.proofs.Contracts.{StartPromise, promises, start-is, wrap-is, unwrap-is}
 
 -- ---- what the demands say of these records, written out
 
-pub wrap-says : (p : Promises sessions)
-    → WrapOf sessions sansePaper p
+pub wrap-says : (p : Promises sanseKind)
+    → WrapOf sanseKind sansePaper p
     ≡ ((key : List ℕ) (h : List Str) (e : Bool) (s : Session) (i : CallInput) (r : CallResult) (out tag : List ℕ)
     → stateOf s ≡ sessionOf key h e → p .wraps s i r out tag → WrapClaim sansePaper key h e i (callResult r out tag))
 wrap-says p = refl
 
-pub unwrap-says : (p : Promises sessions)
-    → UnwrapOf sessions sansePaper p
+pub unwrap-says : (p : Promises sanseKind)
+    → UnwrapOf sanseKind sansePaper p
     ≡ ((key : List ℕ) (h : List Str) (e : Bool) (s : Session) (i : CallInput) (r : CallResult) (out tag : List ℕ)
     → stateOf s ≡ sessionOf key h e → p .unwraps s i r out tag → UnwrapClaim sansePaper key h e i (callResult r out tag))
 unwrap-says p = refl
 
-pub demand-3-says : (starts : (key : List ℕ) → CallResult → Type 0) (p : Promises sessions)
-    → Demand3Of sessions starts p
+pub demand-3-says : (starts : (key : List ℕ) → CallResult → Type 0) (p : Promises sanseKind)
+    → Demand3Of sanseKind starts p
     ≡ ((key : List ℕ) → 16 ≤ length key → length key ≤ 47 → (first second : CallResult) → starts key first → starts key second
-    → (cs : List Call) (os : List (Outcome DeckState)) (to : Records sessions)
-    → Run sessions p cs (record { office = first .session; group = second .session }) os to
-    → Demand3 key cs (startResult first) (startResult second) os (sessionsOf sessions to))
+    → (cs : List Call) (os : List (Outcome DeckState)) (to : Records sanseKind)
+    → Run sanseKind p cs (record { office = first .session; group = second .session }) os to
+    → Demand3 key cs (startResult first) (startResult second) os (sessionsHeld sanseKind to))
 demand-3-says starts p = refl
 
 -- ---- the demands
@@ -51,24 +51,24 @@ program : ByRules sanse promises
 program = record { wraps = wrap-is; unwraps = unwrap-is }
 
 -- demand 1: every start, and every call of any record
-pub one-start : StartOf sessions StartPromise
-one-start = start-of sessions StartPromise start-is
+pub one-start : StartOf sanseKind StartPromise
+one-start = start-of sanseKind StartPromise start-is
 
-pub any-call : AnyCallOf sessions sanse promises
+pub any-call : AnyCallOf sanseKind sanse promises
 any-call = any-call-of program
 
 -- demands 1 and 2: one call of the record of a history
-pub one-call : OneCallOf sessions sansePaper promises
+pub one-call : OneCallOf sanseKind sansePaper promises
 one-call = one-call-of program sanse-follows
 
 -- demand 3, one claim about the whole list
-pub demand-3 : Demand3Of sessions StartPromise promises
+pub demand-3 : Demand3Of sanseKind StartPromise promises
 demand-3 = demand-3-of start-is program
 
 -- ---- what they speak of is there
 
 -- every number, count and session is some result's
-pub whole : Whole sessions
+pub whole : Whole sanseKind
 whole =
     record {
       made = λ n c s.
@@ -78,12 +78,12 @@ whole =
             count = c;
             session = record { acc = d .acc; mask = d .mask; index = d .index; toggle = s .toggle; opened = s .opened };
           };
-      is = λ n c s. refl;
+      same = λ n c s. refl;
     }
 
 -- whatever a call is handed, there are arguments and a result of which the function's `ensures` holds
-pub start-exists : StartsExist sessions StartPromise
+pub start-exists : StartsExist sanseKind StartPromise
 start-exists = starts-exist whole StartPromise start-is
 
-pub run-exists : RunsExist sessions promises
+pub run-exists : RunsExist sanseKind promises
 run-exists = runs-exist (kept whole program)

@@ -15,8 +15,8 @@ abbrev pub stateOf : Session → SessionState DeckState
 stateOf s = record { history = record { acc = s .acc; mask = s .mask; index = s .index }; toggle = s .toggle; opened = s .opened }
 
 -- the kind of record
-abbrev pub sessions : promises.Kind
-sessions =
+abbrev pub sanseKind : promises.Kind
+sanseKind =
     record {
       Record = Session;
       Result = CallResult;
@@ -28,11 +28,11 @@ sessions =
 
 -- what start gave
 abbrev pub startResult : CallResult → Opening
-startResult = promises.startResult sessions
+startResult = promises.startResult sanseKind
 
 -- what wrap or unwrap gave, with the output buffer and the tag as the call left them
 abbrev pub callResult : CallResult → (out tag : List ℕ) → Outcome DeckState
-callResult = promises.callResult sessions
+callResult = promises.callResult sanseKind
 
 -- what wrap or unwrap was handed beside the record
 abbrev pub handed : (metadata text out tag : List ℕ) → CallInput

@@ -5,32 +5,32 @@ use Rattle.modes.specs.Ledger.{sansePaper}
 use Rattle.modes.specs.Demands.{StartOf, AnyCallOf, OneCallOf, Demand3Of, StartsExist, RunsExist}
 use Rattle.modes.proofs.Modes.{sanse-follows}
 use Rattle.modes.proofs.Demands.{ByRules, rules-by-rules, start-by-rules, start-of, any-call-of, one-call-of, demand-3-of, runs-exist, kept, starts-exist}
-use Rattle.sanse.specs.Session.{sessions}
+use Rattle.sanse.specs.Session.{sanseKind}
 use Rattle.sanse.proofs.Demands.{whole}
 use Rattle.session.specs.Lent.{lentStarts, lentPromises}
 
 -- each promise is just the call's equation with the rules
 lent : ByRules sanse lentPromises
-lent = rules-by-rules sanse sessions
+lent = rules-by-rules sanse sanseKind
 
 -- demand 1: every start, and every call of any record
-pub one-start : StartOf sessions lentStarts
-one-start = start-of sessions lentStarts (start-by-rules sessions)
+pub one-start : StartOf sanseKind lentStarts
+one-start = start-of sanseKind lentStarts (start-by-rules sanseKind)
 
-pub any-call : AnyCallOf sessions sanse lentPromises
+pub any-call : AnyCallOf sanseKind sanse lentPromises
 any-call = any-call-of lent
 
 -- demands 1 and 2: one call of the record of a history
-pub one-call : OneCallOf sessions sansePaper lentPromises
+pub one-call : OneCallOf sanseKind sansePaper lentPromises
 one-call = one-call-of lent sanse-follows
 
 -- demand 3, one claim about the whole list: each call is lent the record that the last call at its end left
-pub demand-3 : Demand3Of sessions lentStarts lentPromises
-demand-3 = demand-3-of (start-by-rules sessions) lent
+pub demand-3 : Demand3Of sanseKind lentStarts lentPromises
+demand-3 = demand-3-of (start-by-rules sanseKind) lent
 
 -- whatever a call is handed, there is a result that its promise allows
-pub start-exists : StartsExist sessions lentStarts
-start-exists = starts-exist whole lentStarts (start-by-rules sessions)
+pub start-exists : StartsExist sanseKind lentStarts
+start-exists = starts-exist whole lentStarts (start-by-rules sanseKind)
 
-pub run-exists : RunsExist sessions lentPromises
+pub run-exists : RunsExist sanseKind lentPromises
 run-exists = runs-exist (kept whole lent)

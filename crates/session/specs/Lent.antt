@@ -10,7 +10,7 @@ use Rattle.modes.specs.Rules.{startAt, wrapAt, unwrapAt}
 use Rattle.modes.specs.Promises.{Promises, Starts, byRules, startByRules}
 use Rattle.sanse.specs.declared.Session.{Session}
 use Rattle.sanse.specs.declared.CallResult.{CallResult}
-use Rattle.sanse.specs.Session.{stateOf, startResult, callResult, sessions}
+use Rattle.sanse.specs.Session.{stateOf, startResult, callResult, sanseKind}
 use Rattle.session.specs.declared.Answer.{Answer}
 
 -- an answer, with the record as the call left it
@@ -31,8 +31,8 @@ Unwrapped s i r s′ out tag = callResult (resultOf r s′) out tag ≡ unwrapAt
 
 -- so they promise each call's equation with the rules, and nothing else: in a list of calls, the record that a call leaves is the one behind
 -- the reference at its exit
-abbrev pub lentStarts : Starts sessions
-lentStarts = startByRules sessions
+abbrev pub lentStarts : Starts sanseKind
+lentStarts = startByRules sanseKind
 
-abbrev pub lentPromises : Promises sessions
-lentPromises = byRules sessions sanse
+abbrev pub lentPromises : Promises sanseKind
+lentPromises = byRules sanseKind sanse
