@@ -49,12 +49,12 @@ pub record Kept {k : Kind} (p : Promises k) : Type 0 where
 
 -- then every list of calls has a run
 pub runs-exist : {k : Kind} {p : Promises k} → Kept p → RunsExist k p
-runs-exist {k} l [] from = ([], from, Run.none)
-runs-exist {k} l (wrap x i ∷ cs) from =
+runs-exist {k} {p} l [] from = ([], from, Run.none)
+runs-exist {k} {p} l (wrap x i ∷ cs) from =
     let w = l .wraps (recordAt k x from) i in
     let z = runs-exist l cs (store k x (k .left (w .0)) from) in
     (callResult k (w .0) (w .1) (w .2) ∷ z .0, z .1, Run.wrapped (w .3) (z .2))
-runs-exist {k} l (unwrap x i ∷ cs) from =
+runs-exist {k} {p} l (unwrap x i ∷ cs) from =
     let w = l .unwraps (recordAt k x from) i in
     let z = runs-exist l cs (store k x (k .left (w .0)) from) in
     (callResult k (w .0) (w .1) (w .2) ∷ z .0, z .1, Run.unwrapped (w .3) (z .2))

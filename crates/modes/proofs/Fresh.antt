@@ -39,9 +39,9 @@ module _ {m : PaperMode} (laws : PaperLaws m) (l : Ledger) (i : CallInput) where
   -- a ledger with room accepts it
   pub accepts-within : InLimits m i → indexOf (l .history) + 686 ≤ 1048576 → ledgerWrap m l i .answer .number ≡ 0
   accepts-within w room =
-      let g : growth (length (i .metadata)) (length (i .text)) ≤ 686 = growth-most (length (i .metadata)) (length (i .text)) (w .metadata) (w .text) in
+      let g : growth (length (i .metadata)) (length (i .text)) ≤ 686 = growth-most (length (i .metadata)) (length (i .text)) (omega arith) (omega arith) in
       let e = laws .wraps-index (l .key) (l .history) (l .toggle) (i .metadata) (i .text) in
-      wrap-exactly m l i .accepted .1 (record { isOpen = λ z. z; metadata = w .metadata; text = w .text; tag = w .tag; out = w .out; index = omega arith })
+      wrap-exactly m l i .accepted .1 (record { isOpen = λ z. z; metadata = omega arith; text = omega arith; tag = omega arith; out = omega arith; index = omega arith })
 
   -- any call moves a ledger's index by at most 686
   moves : (r : PaperResult) → indexOf (r .history) ≡ indexOf (l .history) + growth (length (i .metadata)) (length (i .text)) → NoneBefore11 ⊥ (m .tagLength) (indexOf (r .history)) i
