@@ -13,7 +13,7 @@ use Rattle.modes.specs.Mode.{Mode, incremental, sanse}
 use Rattle.modes.specs.Paper.{PaperResult}
 use Rattle.modes.specs.Rules.{Outcome, wrapAt, unwrapAt}
 use Rattle.modes.specs.Ledger.{PaperMode, sansePaper, Ledger, Entry, equalTags, checkBefore11, onCheck, accepts, refuses11, ledgerWrap, ledgerUnwrap}
-use Rattle.modes.specs.OneCall.{sessionOf, Within, Accepted, WrongTag, Refused, wrapped, unwrapped, WrapClaim, UnwrapClaim, OneCall}
+use Rattle.modes.specs.OneCall.{sessionOf, Within, Accepted, WrongTag, Refused, wrapArrives, unwrapArrives, WrapClaim, UnwrapClaim, OneCall}
 use Rattle.modes.specs.Demand3.{outcomeOf}
 use Rattle.modes.proofs.Modes.{Follows, sanse-follows}
 use Rattle.modes.proofs.Ledgers.{wrap-by-ledger, unwrap-by-ledger}
@@ -77,15 +77,15 @@ module _ {p : Mode} {m : PaperMode} (f : Follows p m) (key : List ℕ) (h : List
   wraps =
       record {
         accepted = λ w.
-            let r : PaperResult = wrapped m key h e i in
+            let r : PaperResult = wrapArrives m key h e i in
             accepted-is r (r .tag) refl _ (wrap-by-ledger f ledger i ∙ ap outcomeOf (wrap-done m ledger i (none r w)));
-        refused = stopped-is (wrapped m key h e i) (accepts m ledger i (wrapped m key h e i) (wrapped m key h e i .tag)) _ (wrap-by-ledger f ledger i);
+        refused = stopped-is (wrapArrives m key h e i) (accepts m ledger i (wrapArrives m key h e i) (wrapArrives m key h e i .tag)) _ (wrap-by-ledger f ledger i);
       }
 
   unwraps : UnwrapClaim m key h e i (unwrapAt p incremental (sessionOf key h e) i)
   unfolding ledgerUnwrap
   unwraps =
-      let r : PaperResult = unwrapped m key h e i in
+      let r : PaperResult = unwrapArrives m key h e i in
       record {
         accepted = λ w t. accepted-is r (i .tag) t _ (unwrap-by-ledger f ledger i ∙ ap outcomeOf (unwrap-same m ledger i (none r w) t));
         wrong-tag = λ w t. refused-is _ (unwrap-by-ledger f ledger i ∙ ap outcomeOf (unwrap-differs m ledger i (none r w) t));

@@ -48,12 +48,12 @@ module _ (m : PaperMode) where
     pub index : indexOf after ≤ 1048576
 
   -- where the algorithm arrives for what a wrap is handed
-  abbrev pub wrapped : (key : List ℕ) → List Str → Bool → CallInput → PaperResult
-  wrapped key h e i = m .wraps key h e (i .metadata) (i .text)
+  abbrev pub wrapArrives : (key : List ℕ) → List Str → Bool → CallInput → PaperResult
+  wrapArrives key h e i = m .wraps key h e (i .metadata) (i .text)
 
   -- and for what an unwrap is handed
-  abbrev pub unwrapped : (key : List ℕ) → List Str → Bool → CallInput → PaperResult
-  unwrapped key h e i = m .unwraps key h e (i .metadata) (i .text) (i .tag)
+  abbrev pub unwrapArrives : (key : List ℕ) → List Str → Bool → CallInput → PaperResult
+  unwrapArrives key h e i = m .unwraps key h e (i .metadata) (i .text) (i .tag)
 
   -- ---- the claims, of the outcome o of one call
 
@@ -83,15 +83,15 @@ module _ (m : PaperMode) where
 
   -- a wrap of the session that the history h and e give: within the limits it is accepted, with C and T of the algorithm
   pub record WrapClaim (key : List ℕ) (h : List Str) (e : Bool) (i : CallInput) (o : Outcome DeckState) : Type 0 where
-    pub accepted : Within i (wrapped key h e i .history) → Accepted key i (wrapped key h e i) o
-    pub refused : (Within i (wrapped key h e i .history) → ⊥) → Refused (sessionOf key h e) i o
+    pub accepted : Within i (wrapArrives key h e i .history) → Accepted key i (wrapArrives key h e i) o
+    pub refused : (Within i (wrapArrives key h e i .history) → ⊥) → Refused (sessionOf key h e) i o
 
   -- an unwrap of it: within the limits it is accepted, with P of the algorithm, where the tag handed in is the algorithm's, and refused by 11
   -- where it is not
   pub record UnwrapClaim (key : List ℕ) (h : List Str) (e : Bool) (i : CallInput) (o : Outcome DeckState) : Type 0 where
-    pub accepted : Within i (unwrapped key h e i .history) → i .tag ≡ unwrapped key h e i .tag → Accepted key i (unwrapped key h e i) o
-    pub wrong-tag : Within i (unwrapped key h e i .history) → i .tag ≢ unwrapped key h e i .tag → WrongTag (sessionOf key h e) i o
-    pub refused : (Within i (unwrapped key h e i .history) → ⊥) → Refused (sessionOf key h e) i o
+    pub accepted : Within i (unwrapArrives key h e i .history) → i .tag ≡ unwrapArrives key h e i .tag → Accepted key i (unwrapArrives key h e i) o
+    pub wrong-tag : Within i (unwrapArrives key h e i .history) → i .tag ≢ unwrapArrives key h e i .tag → WrongTag (sessionOf key h e) i o
+    pub refused : (Within i (unwrapArrives key h e i .history) → ⊥) → Refused (sessionOf key h e) i o
 
   -- demands 1 and 2 of two functions from a session and what a call is handed to its outcome
   pub record OneCall (wraps unwraps : SessionState DeckState → CallInput → Outcome DeckState) : Type 0 where
