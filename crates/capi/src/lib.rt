@@ -7,10 +7,10 @@ ghost use Rattle.session.specs.Lent.{Started, Wrapped, Unwrapped};
 ghost use Rattle.groups.specs.Groups.{newDay};
 ghost use Rattle.office.specs.Table.{sessionsOf, tableResult, openingResult, wrapGroupAt, unwrapGroupAt, openGroupAt, NearlyFullIs};
 ghost use Rattle.envelope.specs.Read.{readParts};
-ghost use Rattle.envelope.specs.Write.{writeAnswer, writeBuffer};
+ghost use Rattle.envelope_write.specs.Write.{writeAnswer, writeBuffer};
 ghost use Rattle.capi.specs.Found.{narrowed, widened};
 use envelope::Parts;
-use envelope::WriteResult;
+use envelope_write::WriteResult;
 use groups::Day;
 use groups::GroupAnswer;
 use office::NearlyFull;
@@ -175,5 +175,5 @@ pub extern "C" fn pevghazo_write_envelope(
     ensures { λ r. ⌜ (r ≡ writeAnswer group (now (metadata .entry)) (now (cryptogram .entry)) (now (tag .entry)) (now (out .entry)))
         × (now (out .exit) ≡ writeBuffer group (now (metadata .entry)) (now (cryptogram .entry)) (now (tag .entry)) (now (out .entry))) ⌝ }
 {
-    envelope::write_envelope(group, metadata, cryptogram, tag, out)
+    envelope_write::write_envelope(group, metadata, cryptogram, tag, out)
 }

@@ -4,7 +4,7 @@ use mathlib.Core.Bool.{Bool, true, false, cond}
 use mathlib.Core.List.{List}
 use Prim.Native.Nat.{ℕ, zero, suc, _≤_}
 use native.Mathlib.Omega.{arith}
-use Rattle.xoofff.specs.declared.DeckState.{DeckState}
+use Rattle.deck.specs.declared.DeckState.{DeckState}
 use Rattle.modes.specs.Call.{CallInput}
 use Rattle.modes.specs.Mode.{sanse, incremental}
 use Rattle.modes.specs.Rules.{SessionState, Outcome, Opening, checkNumber, countOf, ifNoCheck, sameBytes, accepted, wrongTag, compareTag, wrapSteps, unwrapSteps, wrapAt, unwrapAt, keyFits, startAt, newSession, closed}

@@ -8,7 +8,7 @@ use native.Mathlib.Omega.{arith}
 use lib.Dec.{leb}
 use lib.ListN.{length}
 use borrow.Author.Tests.{ltb-false, le-leb, lt-leb}
-use Rattle.xoofff.specs.declared.DeckState.{DeckState}
+use Rattle.deck.specs.declared.DeckState.{DeckState}
 use Rattle.modes.specs.Call.{CallInput}
 use Rattle.modes.specs.Mode.{sanse, incremental, sanseCount}
 use Rattle.modes.specs.Rules.{SessionState, Outcome, Opening, growth, firstCheck, checkNumber, countOf, metadataString, ifNoCheck, wrapAt, unwrapAt, startAt}

@@ -4,7 +4,7 @@ use mathlib.Core.Bool.{Bool, not, cond}
 use mathlib.Core.List.{List}
 use Prim.Native.Nat.{ℕ, zero, suc, _+_}
 use lib.Dec.{ltb}
-use Rattle.xoofff.specs.declared.DeckState.{DeckState}
+use Rattle.deck.specs.declared.DeckState.{DeckState}
 use Rattle.modes.specs.Call.{CallInput}
 use Rattle.modes.specs.Mode.{sanse, incremental}
 use Rattle.modes.specs.Rules.{SessionState, Outcome, Opening, ifNoCheck, checkNumber, countOf, wrapAt, unwrapAt, keyFits, startAt}

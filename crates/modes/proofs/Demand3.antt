@@ -3,8 +3,8 @@ use mathlib.Core.List.{List, [], _∷_, map}
 use mathlib.Core.Path.{_≡_, refl, sym, ap, _∙_, subst}
 use Prim.Native.Nat.{ℕ, _≤_}
 use lib.ListN.{length}
-use Rattle.xoofff.specs.declared.DeckState.{DeckState}
-use Rattle.xoofff.specs.Strings.{Str}
+use Rattle.deck.specs.declared.DeckState.{DeckState}
+use Rattle.deck.specs.Strings.{Str}
 use Rattle.modes.specs.Call.{Call, wrap, unwrap, sideOf}
 use Rattle.modes.specs.Mode.{HistoryRep, Mode, incremental, sanse}
 use Rattle.modes.specs.Rules.{Outcome, Opening, startAt}

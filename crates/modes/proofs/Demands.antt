@@ -4,7 +4,7 @@ use mathlib.Core.List.{List, [], _∷_}
 use mathlib.Core.Logic.{_↔_}
 use mathlib.Core.Path.{_≡_, refl, sym, ap, ap₂, _∙_, subst}
 use Prim.Native.Nat.{ℕ}
-use Rattle.xoofff.specs.declared.DeckState.{DeckState}
+use Rattle.deck.specs.declared.DeckState.{DeckState}
 use Rattle.modes.specs.Call.{CallInput, Side, office, group, Call, wrap, unwrap}
 use Rattle.modes.specs.Mode.{Mode, incremental, sanse}
 use Rattle.modes.specs.Rules.{SessionState, Outcome, startAt, wrapAt, unwrapAt}

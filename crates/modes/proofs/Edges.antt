@@ -8,14 +8,14 @@ use lib.ListN.{length, getD}
 use lib.Seq.{getD-append-seam}
 use Rattle.word.specs.Word.{bit, ofBits}
 use Rattle.word.proofs.Bit.{word-ext}
-use Rattle.xoodoo.specs.Edges.{Hold}
-use Rattle.xoodoo.specs.State.{lanes}
-use Rattle.xoodoo.specs.Rolling.{rollIn, rollOut}
-use Rattle.xoofff.specs.Strings.{bitsOf, padded}
-use Rattle.xoofff.specs.Leaves.{closingByte}
-use Rattle.xoofff.proofs.Closing.{closing-lt}
-use Rattle.xoofff.proofs.Strings.{padded-byteBit}
-use Rattle.modes.specs.Mode.{sanseCount, framed}
+use Rattle.rolling.specs.Edges.{Hold}
+use Rattle.state.specs.State.{lanes}
+use Rattle.rolling.specs.Rolling.{rollIn, rollOut}
+use Rattle.deck.specs.Strings.{bitsOf, padded, framed}
+use Rattle.deck.specs.Closing.{closingByte}
+use Rattle.deck.proofs.Closing.{closing-lt}
+use Rattle.deck.proofs.Strings.{padded-byteBit}
+use Rattle.modes.specs.Mode.{sanseCount}
 use Rattle.modes.specs.Rules.{growth, startAt}
 use Rattle.modes.specs.Edges.{edgeRows, paddedByte, BytesAfter}
 

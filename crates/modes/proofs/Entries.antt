@@ -9,8 +9,8 @@ use native.Mathlib.Omega.{arith}
 use borrow.Author.Tests.{le-ltb, eq-eqb, eqb-true}
 use lib.Dec.{ltb, eqb}
 use lib.ListN.{length}
-use Rattle.xoofff.specs.Strings.{Str}
-use Rattle.xoofff.specs.Deck.{indexOf}
+use Rattle.deck.specs.Strings.{Str}
+use Rattle.deck.specs.Deck.{indexOf}
 use Rattle.modes.specs.Call.{CallInput, Side}
 use Rattle.modes.specs.Mode.{Mode, wholeHistory}
 use Rattle.modes.specs.Paper.{PaperResult}

@@ -6,11 +6,12 @@ use mathlib.Core.Path.{_≡_, refl}
 use Prim.Native.Nat.{ℕ, zero, suc, _+_}
 use native.Mathlib.Omega.{arith}
 use lib.ListN.{length}
-use Rattle.xoofff.specs.Strings.{blocks}
-use Rattle.xoofff.specs.Leaves.{closingByte, closedBy, outputBlocks}
-use Rattle.xoofff.proofs.Closing.{closedBy-closing}
-use Rattle.xoofff.proofs.Strings.{blocks-is}
-use Rattle.modes.specs.Mode.{framed, isEmpty, sanseParameters, sanseCount, ceiling48}
+use Rattle.deck.specs.Strings.{blocks, framed}
+use Rattle.deck.specs.Closing.{closingByte, closedBy}
+use Rattle.xoofff.specs.Leaves.{outputBlocks}
+use Rattle.deck.proofs.Closing.{closedBy-closing}
+use Rattle.deck.proofs.Strings.{blocks-is}
+use Rattle.modes.specs.Mode.{isEmpty, sanseParameters, sanseCount, ceiling48}
 
 -- ---- closing bytes
 

@@ -5,10 +5,10 @@ use mathlib.Core.List.{List, _∷_, _++_, map}
 use mathlib.Core.Path.{_≡_, refl, sym, ap, ap₂, _∙_}
 use Prim.Native.Nat.{ℕ, zero, suc}
 use lib.ListN.{length, drop, replicate, length-replicate}
-use Rattle.xoofff.specs.declared.DeckState.{DeckState}
-use Rattle.xoofff.specs.Strings.{Str}
-use Rattle.xoofff.specs.Deck.{outputMask}
-use Rattle.xoofff.specs.Incremental.{fromScratch}
+use Rattle.deck.specs.declared.DeckState.{DeckState}
+use Rattle.deck.specs.Strings.{Str}
+use Rattle.deck.specs.Deck.{outputMask}
+use Rattle.deck.specs.Incremental.{fromScratch}
 use Rattle.modes.specs.Call.{CallInput, Side, office, group, Call, wrap, unwrap, sideOf}
 use Rattle.modes.specs.Mode.{StepResult, Mode, wholeHistory, incremental}
 use Rattle.modes.specs.Rules.{SessionState, Outcome, firstCheck, metadataString, ifNoCheck, checkNumber, wrapSteps, unwrapSteps, accepted, wrongTag, compareTag, wrapAt, unwrapAt}

@@ -5,9 +5,9 @@ use mathlib.Core.Path.{_≡_, refl, sym, ap, _∙_, subst}
 use Prim.Native.Nat.{ℕ, suc, _≤_}
 use native.Mathlib.Omega.{arith}
 use lib.ListN.{length, drop, replicate, length-replicate}
-use Rattle.xoofff.specs.declared.DeckState.{DeckState}
-use Rattle.xoofff.specs.Strings.{Str}
-use Rattle.xoofff.specs.Deck.{indexOf}
+use Rattle.deck.specs.declared.DeckState.{DeckState}
+use Rattle.deck.specs.Strings.{Str}
+use Rattle.deck.specs.Deck.{indexOf}
 use Rattle.modes.specs.Call.{CallInput}
 use Rattle.modes.specs.Mode.{Mode, incremental, sanse}
 use Rattle.modes.specs.Paper.{PaperResult}

@@ -10,8 +10,8 @@ use lib.Dec.{eqb, eqb·suc-zero}
 use lib.ListN.{length, replicate}
 use Rattle.word.specs.Lists.{tabulate, sum}
 use Rattle.word.proofs.Lists.{cons, tabulate-ext, tabulate-length, sum-comm, sum-zero}
-use Rattle.xoofff.specs.Strings.{Str}
-use Rattle.xoofff.specs.Deck.{run, deck}
+use Rattle.deck.specs.Strings.{Str}
+use Rattle.deck.specs.Deck.{run, deck}
 use Rattle.modes.specs.Mode.{Mode, StepResult, wholeHistory, withA, sivBody, sivWrap, sivUnwrap, sanse, sanseParameters, sanseCount, ceiling48}
 use Rattle.modes.specs.Paper.{PaperResult, plusFrom, _⊞_, first32, newest, some, afterA, sanseWrap, sanseUnwrap}
 use Rattle.modes.specs.Ledger.{PaperMode, sansePaper, sansePermutations}

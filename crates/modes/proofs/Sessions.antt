@@ -5,10 +5,10 @@ use mathlib.Core.List.{List}
 use mathlib.Core.Path.{_≡_, refl, ap, ap₂, _∙_}
 use Prim.Native.Nat.{ℕ, zero, suc, _+_}
 use lib.ListN.{length}
-use Rattle.xoofff.specs.Deck.{indexOf, indexGrowth}
-use Rattle.xoofff.specs.Incremental.{append, fromScratch}
-use Rattle.xoofff.proofs.Strings.{blocks-is}
-use Rattle.xoofff.proofs.Incremental.{indexOf-more, fromScratch-more, output-fromScratch}
+use Rattle.deck.specs.Deck.{indexOf, indexGrowth}
+use Rattle.deck.specs.Incremental.{append, fromScratch}
+use Rattle.deck.proofs.Strings.{blocks-is}
+use Rattle.deck.proofs.Incremental.{indexOf-more, fromScratch-more, output-fromScratch}
 use Rattle.modes.specs.Call.{CallInput}
 use Rattle.modes.specs.Mode.{HistoryRep, StepResult, Mode, wholeHistory, incremental}
 use Rattle.modes.specs.Rules.{SessionState, Outcome, firstCheck, growth, metadataString, sameBytes, ifNoCheck, checkNumber, unwrapSteps, accepted, wrongTag, compareTag, wrapAt, unwrapAt}

@@ -9,7 +9,7 @@ use native.Mathlib.Omega.{arith}
 use borrow.Author.Tests.{leb-true, leb-false, le-leb, lt-leb}
 use lib.Dec.{leb}
 use lib.ListN.{length}
-use Rattle.xoofff.specs.Deck.{iterate, maskAt, addHistory, indexOf, accumulator}
+use Rattle.deck.specs.Deck.{iterate, maskAt, addHistory, indexOf, accumulator}
 use Rattle.modes.specs.Paper.{sanseOpens}
 use Rattle.modes.specs.Rules.{Opening, closed, newSession, keyFits, startAt}
 use Rattle.modes.specs.OneCall.{sessionOf}

@@ -8,9 +8,9 @@ use native.Mathlib.Omega.{arith}
 use lib.ListN.{length}
 use Rattle.word.specs.Lists.{tabulate, sum}
 use Rattle.word.proofs.Lists.{tabulate-length, sum-length, sum-undone}
-use Rattle.xoofff.specs.Strings.{Str, b}
-use Rattle.xoofff.specs.Deck.{run}
-use Rattle.modes.specs.Mode.{HistoryRep, StepResult, Mode, Parameters, framed, withA, withText, tagOf, addKeystream, stepResult, sivBody, sivWrap, sivUnwrap, siv, sanse, sanseParameters}
+use Rattle.deck.specs.Strings.{Str, b, framed}
+use Rattle.deck.specs.Deck.{run}
+use Rattle.modes.specs.Mode.{HistoryRep, StepResult, Mode, Parameters, withA, withText, tagOf, addKeystream, stepResult, sivBody, sivWrap, sivUnwrap, siv, sanse, sanseParameters}
 use Rattle.modes.specs.Rules.{growth}
 
 -- ---- one way to hold a history seen through another

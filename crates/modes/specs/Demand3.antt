@@ -3,8 +3,8 @@
 use mathlib.Core.List.{List, [], _∷_, map}
 use mathlib.Core.Path.{_≡_}
 use Prim.Native.Nat.{ℕ}
-use Rattle.xoofff.specs.declared.DeckState.{DeckState}
-use Rattle.xoofff.specs.Strings.{Str}
+use Rattle.deck.specs.declared.DeckState.{DeckState}
+use Rattle.deck.specs.Strings.{Str}
 use Rattle.modes.specs.Call.{CallInput, Side, Call, wrap, unwrap}
 use Rattle.modes.specs.Rules.{Outcome, Opening}
 use Rattle.modes.specs.Paper.{sanseOpens}

@@ -6,8 +6,8 @@ use mathlib.Core.List.{List}
 use mathlib.Core.Path.{_≡_}
 use Prim.Native.Nat.{ℕ, _≤_}
 use lib.ListN.{length}
-use Rattle.xoofff.specs.declared.DeckState.{DeckState}
-use Rattle.xoofff.specs.Strings.{Str}
+use Rattle.deck.specs.declared.DeckState.{DeckState}
+use Rattle.deck.specs.Strings.{Str}
 use Rattle.modes.specs.Call.{CallInput, Call}
 use Rattle.modes.specs.Mode.{Mode, incremental}
 use Rattle.modes.specs.Rules.{Outcome}

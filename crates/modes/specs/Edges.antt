@@ -6,10 +6,10 @@ use mathlib.Core.Path.{_≡_}
 use Prim.Native.Nat.{ℕ, _+_, _*_}
 use lib.ListN.{length, getD, replicate}
 use Rattle.word.specs.Word.{ofBits}
-use Rattle.xoodoo.specs.Edges.{Row, rollingRows}
-use Rattle.xoofff.specs.Strings.{Str, b, bitsOf, padded}
-use Rattle.xoofff.specs.Leaves.{closingByte}
-use Rattle.modes.specs.Mode.{sanseCount, sanseParameters, framed}
+use Rattle.rolling.specs.Edges.{Row, rollingRows}
+use Rattle.deck.specs.Strings.{Str, b, bitsOf, padded, framed}
+use Rattle.deck.specs.Closing.{closingByte}
+use Rattle.modes.specs.Mode.{sanseCount, sanseParameters}
 use Rattle.modes.specs.Rules.{growth, startAt}
 
 -- ---- the table

@@ -5,10 +5,10 @@ use mathlib.Core.List.{List, [], _∷_, _++_}
 use Prim.Native.Nat.{ℕ, zero, suc, _+_, _/_}
 use lib.ListN.{length}
 use Rattle.word.specs.Lists.{sum}
-use Rattle.xoofff.specs.declared.DeckState.{DeckState}
-use Rattle.xoofff.specs.Strings.{Str, b}
-use Rattle.xoofff.specs.Deck.{run, deck, indexOf}
-use Rattle.xoofff.specs.Incremental.{append, output}
+use Rattle.deck.specs.declared.DeckState.{DeckState}
+use Rattle.deck.specs.Strings.{Str, b, framed}
+use Rattle.deck.specs.Deck.{run, deck, indexOf}
+use Rattle.deck.specs.Incremental.{append, output}
 
 -- ---- histories
 
@@ -25,10 +25,6 @@ wholeHistory key = record { append = λ h s. h ++ s ∷ []; keystream = deck key
 -- the accumulator, the mask and the index
 abbrev pub incremental : HistoryRep DeckState
 incremental = record { append = append; keystream = output; index = λ d. d .index }
-
--- bytes and the frame bits after them
-abbrev pub framed : List ℕ → List Bool → Str
-framed x f = record { bytes = x; frame = f }
 
 -- ---- modes
 

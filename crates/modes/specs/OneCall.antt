@@ -7,9 +7,9 @@ use mathlib.Core.Logic.{_≢_}
 use mathlib.Core.Path.{_≡_}
 use Prim.Native.Nat.{ℕ, _≤_}
 use lib.ListN.{length, drop, replicate}
-use Rattle.xoofff.specs.declared.DeckState.{DeckState}
-use Rattle.xoofff.specs.Strings.{Str}
-use Rattle.xoofff.specs.Deck.{keyMask, maskAt, accumulator, indexOf}
+use Rattle.deck.specs.declared.DeckState.{DeckState}
+use Rattle.deck.specs.Strings.{Str}
+use Rattle.deck.specs.Deck.{keyMask, maskAt, accumulator, indexOf}
 use Rattle.modes.specs.Call.{CallInput}
 use Rattle.modes.specs.Paper.{PaperResult}
 use Rattle.modes.specs.Ledger.{PaperMode}

@@ -8,8 +8,8 @@ use Prim.Native.Nat.{ℕ, suc}
 use lib.Bits.{bitXor}
 use lib.Dec.{ltb, eqb}
 use lib.ListN.{length, replicate}
-use Rattle.xoofff.specs.Strings.{Str}
-use Rattle.xoofff.specs.Deck.{deck}
+use Rattle.deck.specs.Strings.{Str}
+use Rattle.deck.specs.Deck.{deck}
 
 -- bytes plus as much of an output as they are long, the output from byte i on: byte by byte, exclusive or
 abbrev pub plusFrom : ℕ → List ℕ → (ℕ → ℕ) → List ℕ

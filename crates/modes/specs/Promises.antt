@@ -4,7 +4,7 @@
 use mathlib.Core.List.{List, [], _∷_}
 use mathlib.Core.Path.{_≡_}
 use Prim.Native.Nat.{ℕ}
-use Rattle.xoofff.specs.declared.DeckState.{DeckState}
+use Rattle.deck.specs.declared.DeckState.{DeckState}
 use Rattle.modes.specs.Call.{CallInput, Side, office, group, Call, wrap, unwrap}
 use Rattle.modes.specs.Mode.{Mode, incremental}
 use Rattle.modes.specs.Rules.{SessionState, Outcome, Opening, startAt, wrapAt, unwrapAt}

@@ -3,7 +3,7 @@
 use mathlib.Core.List.{List, [], _∷_, map}
 use mathlib.Core.Path.{_≡_}
 use Prim.Native.Nat.{ℕ}
-use Rattle.xoofff.specs.Strings.{Str}
+use Rattle.deck.specs.Strings.{Str}
 use Rattle.modes.specs.Call.{Side, office, group, Call, wrap, unwrap, sideOf}
 use Rattle.modes.specs.Mode.{HistoryRep, Mode}
 use Rattle.modes.specs.Rules.{SessionState, Outcome, wrapAt, unwrapAt}

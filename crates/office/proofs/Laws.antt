@@ -6,8 +6,8 @@ use Prim.Native.Nat.{ℕ, zero, suc, _<_, _≤_, _*_, _^_}
 use native.Mathlib.Omega.{arith}
 use lib.Dec.{T as Holds, ltb, eqb, eqb→eq, nltb→le}
 use lib.ListN.{length, getD, set, length-map, List·getD-map}
-use Rattle.xoofff.specs.declared.DeckState.{DeckState}
-use Rattle.xoofff.specs.Deck.{zeros}
+use Rattle.deck.specs.declared.DeckState.{DeckState}
+use Rattle.state.specs.State.{zeros}
 use Rattle.modes.specs.Rules.{SessionState}
 use Rattle.sanse.specs.declared.Session.{Session}
 use Rattle.sanse.specs.Session.{stateOf, handed}

@@ -12,16 +12,18 @@ use lib.Seq.{take-at, drop-at}
 use borrow.Author.Tests.{le-leb}
 use Rattle.word.specs.Lists.{sum}
 use Rattle.word.proofs.Lists.{tabulate-length, sum-length}
-use Rattle.xoofff.specs.declared.DeckState.{DeckState}
+use Rattle.deck.specs.declared.DeckState.{DeckState}
 use Rattle.xoofff.specs.declared.Compressed.{Compressed}
-use Rattle.xoofff.specs.Strings.{Str, b, blocks}
-use Rattle.xoofff.specs.Deck.{run, zeros, keyMask}
-use Rattle.xoofff.specs.Incremental.{append, output}
-use Rattle.xoofff.specs.Leaves.{closingByte, closedBy, compressed, outputBlocks}
-use Rattle.xoofff.proofs.Closing.{closedBy-closing}
-use Rattle.xoofff.proofs.Strings.{blocks-is, closed-blocks}
+use Rattle.deck.specs.Strings.{Str, b, blocks, framed}
+use Rattle.deck.specs.Deck.{run, keyMask}
+use Rattle.state.specs.State.{zeros}
+use Rattle.deck.specs.Incremental.{append, output}
+use Rattle.deck.specs.Closing.{closingByte, closedBy}
+use Rattle.xoofff.specs.Leaves.{compressed, outputBlocks}
+use Rattle.deck.proofs.Closing.{closedBy-closing}
+use Rattle.deck.proofs.Strings.{blocks-is, closed-blocks}
 use Rattle.xoofff.proofs.Leaves.{blocks-most}
-use Rattle.modes.specs.Mode.{framed, isEmpty, incremental, withA, withText, sivBody, sivWrap, sivUnwrap, sanse, sanseParameters, sanseCount}
+use Rattle.modes.specs.Mode.{isEmpty, incremental, withA, withText, sivBody, sivWrap, sivUnwrap, sanse, sanseParameters, sanseCount}
 use Rattle.modes.specs.Rules.{Outcome, Opening, growth, firstCheck, checkNumber, metadataString, written, sameBytes, accepted, wrongTag, compareTag, ifNoCheck, wrapSteps, unwrapSteps, wrapAt, unwrapAt, startAt, newSession, closed}
 use Rattle.modes.proofs.Sessions.{incremental-grows}
 use Rattle.steps.specs.Steps.{compressedIf, outputCount}

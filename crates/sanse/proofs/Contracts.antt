@@ -22,7 +22,7 @@ use Rattle.modes.specs.Promises.{Promises}
 use Rattle.modes.specs.Mode.{incremental, sanse}
 use Rattle.modes.specs.Rules.{Outcome, startAt, wrapAt, unwrapAt}
 use Rattle.modes.proofs.AnySession.{any-unwrap}
-use Rattle.xoofff.specs.declared.DeckState.{DeckState}
+use Rattle.deck.specs.declared.DeckState.{DeckState}
 use Rattle.sanse.specs.declared.Session.{Session}
 use Rattle.sanse.specs.declared.CallResult.{CallResult}
 use Rattle.sanse.specs.Session.{stateOf, startResult, callResult, handed, sanseKind}

@@ -3,7 +3,7 @@
 -- their `ensures`, and `proofs/Contracts.antt` that these ask nothing of a call. Assumes nothing.
 use mathlib.Core.List.{List}
 use Prim.Native.Nat.{ℕ}
-use Rattle.xoofff.specs.declared.DeckState.{DeckState}
+use Rattle.deck.specs.declared.DeckState.{DeckState}
 use Rattle.modes.specs.Call.{CallInput}
 use Rattle.modes.specs.Rules.{SessionState, Outcome, Opening}
 use Rattle.modes.specs.Promises as promises

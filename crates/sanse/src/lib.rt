@@ -5,15 +5,15 @@ ghost use mathlib.Core.List.{[], _∷_};
 ghost use Prim.Native.Nat.{_+_, _≤_, _<_};
 ghost use lib.ListN.{length};
 ghost use Rattle.word.specs.Lists.{sum};
-ghost use Rattle.xoofff.specs.Strings.{b};
-ghost use Rattle.xoofff.specs.Deck.{run};
-ghost use Rattle.xoofff.specs.Incremental.{append, output};
-ghost use Rattle.xoofff.specs.Leaves.{closingByte, closedBy};
+ghost use Rattle.deck.specs.Strings.{b};
+ghost use Rattle.deck.specs.Deck.{run};
+ghost use Rattle.deck.specs.Incremental.{append, output};
+ghost use Rattle.deck.specs.Closing.{closingByte, closedBy};
 ghost use Rattle.modes.specs.Mode.{sanse, incremental, isEmpty};
 ghost use Rattle.modes.specs.Rules.{growth, firstCheck, written, wrapAt, unwrapAt, startAt};
 ghost use Rattle.steps.specs.Steps.{outputCount};
 ghost use Rattle.sanse.specs.Session.{stateOf, startResult, callResult, handed};
-use xoofff::DeckState;
+use deck::DeckState;
 
 // A session: the accumulator, the mask at the index, the input index, e, and whether it is open.
 #[repr(C)]

@@ -4,9 +4,9 @@ use native.Mathlib.Omega.{arith}
 use lib.ListN.{length}
 use denote.Ref.{now}
 use borrow.Author.Needs.{needs}
-use Rattle.xoofff.specs.Strings.{b}
-use Rattle.xoofff.specs.Incremental.{append, output}
-use Rattle.xoofff.specs.Leaves.{closedBy}
+use Rattle.deck.specs.Strings.{b}
+use Rattle.deck.specs.Incremental.{append, output}
+use Rattle.deck.specs.Closing.{closedBy}
 use Rattle.steps.specs.Steps.{outputCount}
 use Rattle.sanse.proofs.Calls.{body-none, body-most, body-done}
 use Rattle.sanse.proofs.add_body.Statement.{statement}

@@ -2,7 +2,7 @@
 use mathlib.Core.Path.{sym, ap}
 use mathlib.Core.Bool.{Bool, false}
 use mathlib.Core.List.{[], _∷_}
-use Rattle.xoofff.specs.Leaves.{closingByte}
+use Rattle.deck.specs.Closing.{closingByte}
 use Rattle.sanse.proofs.closing_a.Statement.{statement}
 use Rattle.sanse.proofs.closing_a.Tie as tie
 

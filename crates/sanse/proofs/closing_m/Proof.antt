@@ -2,7 +2,7 @@
 use mathlib.Core.Path.{sym, ap}
 use mathlib.Core.Bool.{Bool, true, false}
 use mathlib.Core.List.{[], _∷_}
-use Rattle.xoofff.specs.Leaves.{closingByte}
+use Rattle.deck.specs.Closing.{closingByte}
 use Rattle.sanse.proofs.closing_m.Statement.{statement}
 use Rattle.sanse.proofs.closing_m.Tie as tie
 

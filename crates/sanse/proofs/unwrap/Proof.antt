@@ -6,10 +6,10 @@ use native.Mathlib.Omega.{arith}
 use lib.ListN.{length, take}
 use denote.Ref.{now}
 use borrow.Author.Needs.{needs}
-use Rattle.xoofff.specs.declared.DeckState.{DeckState}
-use Rattle.xoofff.specs.Incremental.{append, output}
-use Rattle.xoofff.specs.Leaves.{closedBy}
-use Rattle.xoofff.proofs.Closing.{closing-pos}
+use Rattle.deck.specs.declared.DeckState.{DeckState}
+use Rattle.deck.specs.Incremental.{append, output}
+use Rattle.deck.specs.Closing.{closedBy}
+use Rattle.deck.proofs.Closing.{closing-pos}
 use Rattle.modes.specs.Mode.{isEmpty}
 use Rattle.modes.specs.Rules.{Outcome, growth}
 use Rattle.steps.specs.Steps.{compressedIf}
