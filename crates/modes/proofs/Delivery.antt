@@ -1,13 +1,14 @@
 -- Lists in which each message is delivered, at the ledgers: each message comes back, each other arrival is refused, and both ledgers finish
 -- equal. Assumes nothing.
-use mathlib.Core.List.{List, _++_, map}
-use mathlib.Core.Path.{_≡_, refl, sym, ap, ap₂, _∙_, subst, subst₂}
+use mathlib.Core.List.{List, _++_}
+use mathlib.Core.Path.{_≡_, refl, sym, ap, ap₂, _∙_, subst₂}
 use Prim.Native.Nat.{ℕ, _≤_}
 use lib.ListN.{length, take, drop}
 use lib.Seq.{take-at}
 use Rattle.modes.specs.Call.{CallInput, Side, office, group, other, Call, wrap}
 use Rattle.modes.specs.Ledger.{PaperMode, Ledger, Entry, wrapFinds, checkBefore11, accepts, ledgerWrap, ledgerUnwrap}
-use Rattle.modes.specs.TwoEnds.{Ledgers, ledgerAt, setLedger, nextLedgers, entries, finishLedgers, Sent, delivery, InFlight, nothing, sent, Delivers, Returned}
+use Rattle.modes.specs.TwoEnds.{Ledgers, ledgerAt, setLedger, nextLedgers, entries, answers, finishLedgers}
+use Rattle.modes.specs.Delivery.{Sent, delivery, sentBy, InFlight, nothing, sent, Delivers, Returned}
 use Rattle.modes.proofs.Entries.{PaperLaws, restoredPaper, wrap-none, wrap-done, wrap-stays, unwrap-stopped, unwrap-done}
 
 -- ---- both ledgers
@@ -21,7 +22,7 @@ at-set-other office l p = refl
 at-set-other group l p = refl
 
 -- a call that leaves the ledger leaves both
-set-same : (x : Side) (l : Ledger) (p : Ledgers) → l ≡ ledgerAt x p → setLedger x l p ≡ p
+pub set-same : (x : Side) (l : Ledger) (p : Ledgers) → l ≡ ledgerAt x p → setLedger x l p ≡ p
 set-same office l p h = ap (λ (r : Ledger). setLedger office r p) h
 set-same group l p h = ap (λ (r : Ledger). setLedger group r p) h
 
@@ -49,8 +50,7 @@ module _ {m : PaperMode} (laws : PaperLaws m) where
   InStep (sent w) p = Ahead w p
 
   after-wrap : (x : Side) (i : CallInput) (p : Ledgers) → ledgerWrap m (ledgerAt x p) i .answer .number ≡ 0 → p .office ≡ p .group
-      → Ahead (record { from = x; input = i; cryptogram = wrapFinds m (ledgerAt x p) i .text; tag = wrapFinds m (ledgerAt x p) i .tag })
-      (nextLedgers m (wrap x i) p)
+      → Ahead (sentBy m x i p) (nextLedgers m (wrap x i) p)
   after-wrap x i p h e =
       record {
         behind = ledgerAt x p;
@@ -81,16 +81,16 @@ module _ {m : PaperMode} (laws : PaperLaws m) where
       )
 
   returned-from : {t : InFlight} {cs : List Call} {p : Ledgers} → Delivers m t cs p → InStep t p
-      → Returned t cs (map (λ (e : Entry). e .answer) (entries m cs p))
+      → Returned t cs (answers m cs p)
   unfolding entries
   returned-from Delivers.finished k = Returned.finished
-  returned-from (Delivers.wrap-refused {t = t} {x = x} {i = i} {p = p} h r) k =
-      Returned.wrap-refused h (returned-from r (subst (InStep t) (sym (set-same x _ p (wrap-stays m (ledgerAt x p) i h))) k))
+  returned-from (Delivers.wrap-refused {x = x} {i = i} {p = p} h r) k =
+      Returned.wrap-refused h (returned-from r (rw (set-same x _ p (wrap-stays m (ledgerAt x p) i h)) k))
   returned-from (Delivers.wrap-accepted {x = x} {i = i} {cs = cs} {p = p} h r) k =
       let l = ledgerAt x p in
       let e = wrap-done m l i (wrap-none m l i h) in
       Returned.wrap-accepted h
-      (subst₂ (λ (c u : List ℕ). Returned (sent (record { from = x; input = i; cryptogram = c; tag = u })) cs (map (λ (e : Entry). e .answer) (entries m cs (nextLedgers m (wrap x i) p))))
+      (subst₂ (λ (c u : List ℕ). Returned (sent (record { from = x; input = i; cryptogram = c; tag = u })) cs (answers m cs (nextLedgers m (wrap x i) p)))
       (sym (ap (λ (e : Entry). take (length (i .text)) (e .answer .out)) e
       ∙ take-at (wrapFinds m l i .text) _ (length (i .text)) (laws .wraps-length (l .key) (l .history) (l .toggle) (i .metadata) (i .text))))
       (sym (ap (λ (e : Entry). e .answer .tag) e))
@@ -99,26 +99,26 @@ module _ {m : PaperMode} (laws : PaperLaws m) where
       let z = arrives w out p k f in
       Returned.comes-back (ap (λ (e : Entry). e .answer .number) (z .1) ∙ z .2) (ap (λ (e : Entry). e .answer .out) (z .1) ∙ z .3)
       (returned-from r (level-set (w .from) _ p (sym (ap (λ (e : Entry). e .ledger) (z .1) ∙ z .4))))
-  returned-from (Delivers.other-arrival {t = t} {x = x} {i = i} {p = p} h r) k =
+  returned-from (Delivers.other-arrival {x = x} {i = i} {p = p} h r) k =
       let z = unwrap-stopped m (ledgerAt x p) i h in
-      Returned.arrival-refused (z .0) (returned-from r (subst (InStep t) (sym (set-same x _ p (z .1))) k))
+      Returned.arrival-refused (z .0) (returned-from r (rw (set-same x _ p (z .1)) k))
 
   level-from : {t : InFlight} {cs : List Call} {p : Ledgers} → Delivers m t cs p → InStep t p
       → finishLedgers m cs p .office ≡ finishLedgers m cs p .group
   unfolding finishLedgers
   level-from Delivers.finished k = k
-  level-from (Delivers.wrap-refused {t = t} {x = x} {i = i} {p = p} h r) k =
-      level-from r (subst (InStep t) (sym (set-same x _ p (wrap-stays m (ledgerAt x p) i h))) k)
+  level-from (Delivers.wrap-refused {x = x} {i = i} {p = p} h r) k =
+      level-from r (rw (set-same x _ p (wrap-stays m (ledgerAt x p) i h)) k)
   level-from (Delivers.wrap-accepted {x = x} {i = i} {p = p} h r) k = level-from r (after-wrap x i p h k)
   level-from (Delivers.delivered {w = w} {out = out} {p = p} f r) k =
       let z = arrives w out p k f in
       level-from r (level-set (w .from) _ p (sym (ap (λ (e : Entry). e .ledger) (z .1) ∙ z .4)))
-  level-from (Delivers.other-arrival {t = t} {x = x} {i = i} {p = p} h r) k =
-      level-from r (subst (InStep t) (sym (set-same x _ p (unwrap-stopped m (ledgerAt x p) i h .1))) k)
+  level-from (Delivers.other-arrival {x = x} {i = i} {p = p} h r) k =
+      level-from r (rw (set-same x _ p (unwrap-stopped m (ledgerAt x p) i h .1)) k)
 
   -- from equal ledgers, with nothing on its way
   pub returned : {cs : List Call} {p : Ledgers} → Delivers m nothing cs p → p .office ≡ p .group
-      → Returned nothing cs (map (λ (e : Entry). e .answer) (entries m cs p))
+      → Returned nothing cs (answers m cs p)
   returned d k = returned-from d k
 
   pub level : {cs : List Call} {p : Ledgers} → Delivers m nothing cs p → p .office ≡ p .group

@@ -1,6 +1,6 @@
 -- One call at a ledger, for any mode of which unwrap gives back what wrap took (`PaperLaws`): what is accepted, what is refused, and that
 -- what a wrap gave comes back. Assumes nothing.
-use mathlib.Core.Bool.{Bool, true, false, not, _||_, cond}
+use mathlib.Core.Bool.{Bool, true, false, not, _||_, _&&_, cond}
 use mathlib.Core.List.{List, [], _∷_}
 use mathlib.Core.Logic.{_≢_, _⊎_, inl, inr}
 use mathlib.Core.Path.{_≡_, refl, sym, ap, ap₂, _∙_, subst}
@@ -14,11 +14,12 @@ use Rattle.deck.specs.Deck.{indexOf}
 use Rattle.modes.specs.Call.{CallInput, Side}
 use Rattle.modes.specs.Mode.{Mode, wholeHistory}
 use Rattle.modes.specs.Paper.{PaperResult}
-use Rattle.modes.specs.Rules.{growth}
-use Rattle.modes.specs.Ledger.{PaperMode, sansePaper, Ledger, equalTags, wrapFinds, unwrapFinds, checkBefore11, onCheck, accepts, refuses11, ledgerWrap, ledgerUnwrap}
-use Rattle.modes.specs.TwoEnds.{delivery}
-use Rattle.modes.proofs.Papers.{toPaper, paperOf, sanse-paper}
-use Rattle.modes.proofs.Steps.{ModeLaws, sanse-laws}
+use Rattle.modes.specs.Rules.{growth, sameBytes}
+use Rattle.modes.specs.Ledger.{PaperMode, Ledger, equalTags, wrapFinds, unwrapFinds, checkBefore11, onCheck, accepts, refuses11, ledgerWrap, ledgerUnwrap}
+use Rattle.modes.specs.Delivery.{delivery}
+use Rattle.modes.proofs.Papers.{toPaper, paperOf}
+use Rattle.modes.proofs.Steps.{ModeLaws}
+use Rattle.modes.proofs.Modes.{Follows}
 use Rattle.modes.proofs.Sessions.{wholeHistory-grows}
 
 -- ---- what is asked of a mode
@@ -37,19 +38,19 @@ pub record PaperLaws (m : PaperMode) : Type 0 where
   pub unwraps-index : (key : List ℕ) (h : List Str) (e : Bool) (a c t : List ℕ)
       → indexOf (m .unwraps key h e a c t .history) ≡ indexOf h + growth (length a) (length c)
 
-pub paper-laws : {m : Mode} → ModeLaws m → PaperLaws (paperOf m)
+own-laws : {r : Mode} → ModeLaws r → PaperLaws (paperOf r)
 unfolding paperOf
-paper-laws {m} laws =
+own-laws {r} laws =
     record {
-      undone = λ key h e a p. ap (toPaper m e) (laws .undone (wholeHistory key) h e a p);
+      undone = λ key h e a p. ap (toPaper r e) (laws .undone (wholeHistory key) h e a p);
       wraps-length = λ key. laws .wraps-length (wholeHistory key);
       wraps-tag = λ key. laws .wraps-tag (wholeHistory key);
       wraps-index = λ key. laws .wraps-index (wholeHistory key) (wholeHistory-grows key);
       unwraps-index = λ key. laws .unwraps-index (wholeHistory key) (wholeHistory-grows key);
     }
 
-pub sanse-paper-laws : PaperLaws sansePaper
-sanse-paper-laws = subst PaperLaws sanse-paper (paper-laws sanse-laws)
+pub paper-laws : {r : Mode} {m : PaperMode} → Follows r m → PaperLaws m
+paper-laws f = subst PaperLaws (f .paper) (own-laws (f .laws))
 
 -- ---- tags
 
@@ -73,6 +74,17 @@ equalTags-false s t h = go (equalTags s t) refl
     go : (q : Bool) → equalTags s t ≡ q → q ≡ false
     go true e = absurd (h (equalTags-true s t e))
     go false e = refl
+
+-- the rules' comparison is the ledger's
+pub equalTags-is : (s t : List ℕ) → sameBytes s t ≡ equalTags s t
+equalTags-is [] [] = refl
+equalTags-is [] (y ∷ t) = refl
+equalTags-is (x ∷ s) [] = refl
+equalTags-is (x ∷ s) (y ∷ t) = go (eqb x y) (equalTags-is s t)
+  where
+    go : (q : Bool) → sameBytes s t ≡ equalTags s t → q && sameBytes s t ≡ cond q (equalTags s t) false
+    go true h = h
+    go false h = refl
 
 -- ---- one call at a ledger
 

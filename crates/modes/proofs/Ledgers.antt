@@ -1,10 +1,9 @@
--- The ledger of document 01 and the rules: for any lawful mode, wrap and unwrap of the session that a ledger's history gives have the
+-- The ledger of document 01 and the rules: for any mode that follows its paper, wrap and unwrap of the session that a ledger's history gives have the
 -- ledger's answer and leave the session that its history then gives; for one call, and for every list of calls. Assumes nothing.
-use mathlib.Core.Bool.{Bool, true, false, cond, _&&_}
-use mathlib.Core.List.{List, [], _∷_, _++_, map}
+use mathlib.Core.Bool.{Bool, true, false, cond}
+use mathlib.Core.List.{List, _∷_, _++_, map}
 use mathlib.Core.Path.{_≡_, refl, sym, ap, ap₂, _∙_}
 use Prim.Native.Nat.{ℕ, zero, suc}
-use lib.Dec.{eqb}
 use lib.ListN.{length, drop, replicate, length-replicate}
 use Rattle.deck.specs.declared.DeckState.{DeckState}
 use Rattle.deck.specs.Strings.{Str}
@@ -12,12 +11,15 @@ use Rattle.deck.specs.Deck.{outputMask}
 use Rattle.deck.specs.Incremental.{fromScratch}
 use Rattle.modes.specs.Call.{CallInput, Side, office, group, Call, wrap, unwrap, sideOf}
 use Rattle.modes.specs.Mode.{StepResult, Mode, wholeHistory, incremental}
-use Rattle.modes.specs.Rules.{SessionState, Outcome, firstCheck, metadataString, sameBytes, ifNoCheck, checkNumber, wrapSteps, unwrapSteps, accepted, wrongTag, compareTag, wrapAt, unwrapAt}
-use Rattle.modes.specs.Ledger.{Ledger, Entry, equalTags, wrapFinds, unwrapFinds, checkBefore11, onCheck, accepts, refuses11, ledgerWrap, ledgerUnwrap}
+use Rattle.modes.specs.Rules.{SessionState, Outcome, firstCheck, metadataString, ifNoCheck, checkNumber, wrapSteps, unwrapSteps, accepted, wrongTag, compareTag, wrapAt, unwrapAt}
+use Rattle.modes.specs.Ledger.{PaperMode, Ledger, Entry, equalTags, wrapFinds, unwrapFinds, checkBefore11, onCheck, accepts, refuses11, ledgerWrap, ledgerUnwrap}
 use Rattle.modes.specs.OneCall.{sessionOf}
-use Rattle.modes.specs.TwoEnds.{Ends, at, put, outcome, Runs, Ledgers, ledgerAt, setLedger, ledgerStep, nextLedgers, entries, finishLedgers, outcomeOf}
+use Rattle.modes.specs.TwoEnds.{Ends, at, put, outcome, Runs, Ledgers, ledgerAt, setLedger, ledgerStep, nextLedgers, entries, finishLedgers}
+use Rattle.modes.specs.Demand3.{outcomeOf}
 use Rattle.modes.proofs.Papers.{paperOf}
 use Rattle.modes.proofs.Steps.{ModeLaws}
+use Rattle.modes.proofs.Modes.{Follows}
+use Rattle.modes.proofs.Entries.{equalTags-is}
 use Rattle.modes.proofs.Sessions.{mapOutcome, incremental-simulates, wholeHistory-grows, wrapAt-simulates, unwrapAt-simulates}
 
 -- ---- one call
@@ -28,16 +30,6 @@ toSession l = record { history = l .history; toggle = l .toggle; opened = true }
 
 abbrev toOutcome : Entry → Outcome (List Str)
 toOutcome e = record { number = e .answer .number; count = e .answer .count; session = toSession (e .ledger); out = e .answer .out; tag = e .answer .tag }
-
-equalTags-is : (s t : List ℕ) → sameBytes s t ≡ equalTags s t
-equalTags-is [] [] = refl
-equalTags-is [] (y ∷ t) = refl
-equalTags-is (x ∷ s) [] = refl
-equalTags-is (x ∷ s) (y ∷ t) = go (eqb x y) (equalTags-is s t)
-  where
-    go : (q : Bool) → sameBytes s t ≡ equalTags s t → q && sameBytes s t ≡ cond q (equalTags s t) false
-    go true h = h
-    go false h = refl
 
 module _ {m : Mode} (laws : ModeLaws m) (l : Ledger) (i : CallInput) where
   onCheck-is : (n : ℕ) (o : Outcome (List Str)) (e : Entry) → o ≡ toOutcome e
@@ -112,17 +104,24 @@ module _ {m : Mode} (laws : ModeLaws m) (l : Ledger) (i : CallInput) where
   under-key e h = ap (λ (key : List ℕ). mapOutcome (fromScratch key) (toOutcome e)) (sym h)
 
   -- the session of the history, by the rules: the ledger's answer, and the session of the ledger after the call
-  pub wrap-by-ledger : wrapAt m incremental (sessionOf (l .key) (l .history) (l .toggle)) i ≡ outcomeOf (ledgerWrap (paperOf m) l i)
+  wrap-by-own : wrapAt m incremental (sessionOf (l .key) (l .history) (l .toggle)) i ≡ outcomeOf (ledgerWrap (paperOf m) l i)
   unfolding fromScratch outputMask
-  wrap-by-ledger =
+  wrap-by-own =
       wrapAt-simulates laws (incremental-simulates (l .key)) (toSession l) i ∙ ap (mapOutcome (fromScratch (l .key))) wrap-entry
       ∙ under-key (ledgerWrap (paperOf m) l i) wrap-key
 
-  pub unwrap-by-ledger : unwrapAt m incremental (sessionOf (l .key) (l .history) (l .toggle)) i ≡ outcomeOf (ledgerUnwrap (paperOf m) l i)
+  unwrap-by-own : unwrapAt m incremental (sessionOf (l .key) (l .history) (l .toggle)) i ≡ outcomeOf (ledgerUnwrap (paperOf m) l i)
   unfolding fromScratch outputMask
-  unwrap-by-ledger =
+  unwrap-by-own =
       unwrapAt-simulates laws (incremental-simulates (l .key)) (toSession l) i ∙ ap (mapOutcome (fromScratch (l .key))) unwrap-entry
       ∙ under-key (ledgerUnwrap (paperOf m) l i) unwrap-key
+
+module _ {r : Mode} {m : PaperMode} (f : Follows r m) (l : Ledger) (i : CallInput) where
+  pub wrap-by-ledger : wrapAt r incremental (sessionOf (l .key) (l .history) (l .toggle)) i ≡ outcomeOf (ledgerWrap m l i)
+  wrap-by-ledger = wrap-by-own (f .laws) l i ∙ ap (λ (m : PaperMode). outcomeOf (ledgerWrap m l i)) (f .paper)
+
+  pub unwrap-by-ledger : unwrapAt r incremental (sessionOf (l .key) (l .history) (l .toggle)) i ≡ outcomeOf (ledgerUnwrap m l i)
+  unwrap-by-ledger = unwrap-by-own (f .laws) l i ∙ ap (λ (m : PaperMode). outcomeOf (ledgerUnwrap m l i)) (f .paper)
 
 -- ---- every list of calls
 
@@ -142,19 +141,19 @@ put-endsOf : (x : Side) (l : Ledger) (p : Ledgers) → put x (sessionOf (l .key)
 put-endsOf office l p = refl
 put-endsOf group l p = refl
 
-module _ {m : Mode} (laws : ModeLaws m) where
-  outcome-is : (c : Call) (p : Ledgers) → outcome m incremental c (endsOf p) ≡ outcomeOf (ledgerStep (paperOf m) c p)
-  outcome-is (wrap x i) p = ap (λ (s : SessionState DeckState). wrapAt m incremental s i) (at-endsOf x p) ∙ wrap-by-ledger laws (ledgerAt x p) i
-  outcome-is (unwrap x i) p = ap (λ (s : SessionState DeckState). unwrapAt m incremental s i) (at-endsOf x p) ∙ unwrap-by-ledger laws (ledgerAt x p) i
+module _ {r : Mode} {m : PaperMode} (f : Follows r m) where
+  outcome-is : (c : Call) (p : Ledgers) → outcome r incremental c (endsOf p) ≡ outcomeOf (ledgerStep m c p)
+  outcome-is (wrap x i) p = ap (λ (s : SessionState DeckState). wrapAt r incremental s i) (at-endsOf x p) ∙ wrap-by-ledger f (ledgerAt x p) i
+  outcome-is (unwrap x i) p = ap (λ (s : SessionState DeckState). unwrapAt r incremental s i) (at-endsOf x p) ∙ unwrap-by-ledger f (ledgerAt x p) i
 
   -- a run from the sessions of ledgers has the ledgers' answers, and leaves the sessions of the ledgers after it
-  pub runs-are : {cs : List Call} {s q : Ends DeckState} {os : List (Outcome DeckState)} → Runs m incremental cs s os q
-      → (p : Ledgers) → s ≡ endsOf p → (os ≡ map outcomeOf (entries (paperOf m) cs p)) × (q ≡ endsOf (finishLedgers (paperOf m) cs p))
+  pub runs-are : {cs : List Call} {s q : Ends DeckState} {os : List (Outcome DeckState)} → Runs r incremental cs s os q
+      → (p : Ledgers) → s ≡ endsOf p → (os ≡ map outcomeOf (entries m cs p)) × (q ≡ endsOf (finishLedgers m cs p))
   unfolding entries finishLedgers
   runs-are Runs.none p h = (refl, h)
-  runs-are (Runs.more {c = c} {o = o} e r) p h =
-      let g : o ≡ outcomeOf (ledgerStep (paperOf m) c p) = e ∙ ap (outcome m incremental c) h ∙ outcome-is c p in
-      let z = runs-are r (nextLedgers (paperOf m) c p)
+  runs-are (Runs.more {c = c} {o = o} e z) p h =
+      let g : o ≡ outcomeOf (ledgerStep m c p) = e ∙ ap (outcome r incremental c) h ∙ outcome-is c p in
+      let y = runs-are z (nextLedgers m c p)
       (ap₂ (λ (o : Outcome DeckState) (s : Ends DeckState). put (sideOf c) (o .session) s) g h
-      ∙ put-endsOf (sideOf c) (ledgerStep (paperOf m) c p .ledger) p) in
-      (ap₂ {C = List (Outcome DeckState)} (λ o os. o ∷ os) g (z .0), z .1)
+      ∙ put-endsOf (sideOf c) (ledgerStep m c p .ledger) p) in
+      (ap₂ {C = List (Outcome DeckState)} (λ o os. o ∷ os) g (y .0), y .1)

@@ -26,7 +26,6 @@ unfoldable pub paperOf : Mode → PaperMode
 paperOf m =
     record {
       tagLength = m .parameters .tagLength;
-      opens = m .parameters .opens;
       count = m .parameters .count;
       wraps = λ key h e a x. toPaper m e (m .wraps (wholeHistory key) h e a x);
       unwraps = λ key h e a c t. toPaper m e (m .unwraps (wholeHistory key) h e a c t);
@@ -106,7 +105,6 @@ unfolding paperOf
 sanse-paper =
     λ i. record {
       tagLength = 32;
-      opens = [];
       count = λ A M. count-is A M i;
       wraps = λ key h e a x. sanse-wraps key h e a x i;
       unwraps = λ key h e a c t. sanse-unwraps key h e a c t i;

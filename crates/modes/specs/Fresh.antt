@@ -1,14 +1,20 @@
--- What demand 3 speaks of is there (document 01, "What must fall through it?"): before the first call every wrap within the limits is
--- accepted, and there are lists with messages both ways in which each is delivered. Assumes nothing.
+-- What demand 3 speaks of is there (document 01, "What must fall through it?"): before the first call just the wraps within the limits are
+-- accepted; there are lists with messages both ways in which each is delivered; and lists in which a message is delivered though, while it is
+-- on its way, wraps are refused and a wrong tag, a repeat and a reflection arrive. For any mode, from any history that it opens with. Assumes
+-- nothing.
 use mathlib.Core.List.{List, [], _∷_, _++_}
+use mathlib.Core.Logic.{_↔_, _≢_}
 use mathlib.Core.Path.{_≡_}
 use Prim.Native.Nat.{ℕ, _≤_}
 use lib.ListN.{length}
+use Rattle.deck.specs.declared.DeckState.{DeckState}
+use Rattle.deck.specs.Strings.{Str}
 use Rattle.modes.specs.Call.{CallInput, Side, office, group, Call, wrap, unwrap}
-use Rattle.modes.specs.Mode.{incremental, sanse}
-use Rattle.modes.specs.Rules.{newSession, wrapAt}
-use Rattle.modes.specs.Ledger.{PaperMode, sansePaper, wrapFinds, ledgerWrap, freshLedger}
-use Rattle.modes.specs.TwoEnds.{Ledgers, ledgerAt, finishLedgers, freshLedgers, Sent, delivery, nothing, Delivers}
+use Rattle.modes.specs.Mode.{Mode, incremental}
+use Rattle.modes.specs.Rules.{SessionState, wrapAt}
+use Rattle.modes.specs.Ledger.{PaperMode, unwrapFinds, ledgerWrap, freshLedger}
+use Rattle.modes.specs.TwoEnds.{Ledgers, ledgerAt, nextLedgers, finishLedgers, freshLedgers}
+use Rattle.modes.specs.Delivery.{Sent, delivery, sentBy, nothing, Delivers}
 
 -- what a wrap is handed is within the limits
 pub record InLimits (m : PaperMode) (i : CallInput) : Type 0 where
@@ -17,35 +23,77 @@ pub record InLimits (m : PaperMode) (i : CallInput) : Type 0 where
   pub tag : length (i .tag) ≡ m .tagLength
   pub out : length (i .text) ≤ length (i .out)
 
--- a fresh ledger accepts it, and so does the session that a start gives
-pub record FreshAccepts (key : List ℕ) (i : CallInput) : Type 0 where
-  pub ledger : InLimits sansePaper i → ledgerWrap sansePaper (freshLedger sansePaper key) i .answer .number ≡ 0
-  pub session : InLimits sansePaper i → wrapAt sanse incremental (newSession key) i .number ≡ 0
+-- a fresh ledger of the papers' mode m accepts just these, and so does the session s that a start gives, in the program's mode r
+pub record FreshAccepts (m : PaperMode) (r : Mode) (key : List ℕ) (opening : List Str) (s : SessionState DeckState) (i : CallInput) : Type 0 where
+  pub ledger : InLimits m i ↔ (ledgerWrap m (freshLedger key opening) i .answer .number ≡ 0)
+  pub session : InLimits m i ↔ (wrapAt r incremental s i .number ≡ 0)
 
 -- ---- messages both ways
 
--- an arrival that is refused at every ledger: its tag has no bytes
+-- a call that is refused at every ledger: its tag has no bytes
 abbrev pub noTag : CallInput
 noTag = record { metadata = []; text = []; out = []; tag = [] }
 
--- what a wrap at an end gave, with these ledgers
-abbrev pub sentBy : Side → CallInput → Ledgers → Sent
-sentBy x i p = record { from = x; input = i; cryptogram = wrapFinds sansePaper (ledgerAt x p) i .text; tag = wrapFinds sansePaper (ledgerAt x p) i .tag }
+module _ (m : PaperMode) (key : List ℕ) (opening : List Str) where
+  -- the office wraps i, an arrival without a tag reaches the group, and then what that wrap gave
+  abbrev pub there : (i : CallInput) (out : List ℕ) → List Call
+  there i out = wrap office i ∷ unwrap group noTag ∷ unwrap group (delivery (sentBy m office i (freshLedgers key opening)) out) ∷ []
 
--- the office wraps i, an arrival without a tag reaches the group, and then what that wrap gave
-abbrev pub there : (key : List ℕ) (i : CallInput) (out : List ℕ) → List Call
-there key i out = wrap office i ∷ unwrap group noTag ∷ unwrap group (delivery (sentBy office i (freshLedgers sansePaper key)) out) ∷ []
+  -- the ledgers after that
+  abbrev pub afterThere : (i : CallInput) (out : List ℕ) → Ledgers
+  afterThere i out = finishLedgers m (there i out) (freshLedgers key opening)
 
--- the ledgers after that
-abbrev pub afterThere : (key : List ℕ) (i : CallInput) (out : List ℕ) → Ledgers
-afterThere key i out = finishLedgers sansePaper (there key i out) (freshLedgers sansePaper key)
+  -- then the group wraps j, and what it gave reaches the office
+  abbrev pub bothWays : (i j : CallInput) (out out′ : List ℕ) → List Call
+  bothWays i j out out′ = there i out ++ wrap group j ∷ unwrap office (delivery (sentBy m group j (afterThere i out)) out′) ∷ []
 
--- then the group wraps j, and what it gave reaches the office
-abbrev pub bothWays : (key : List ℕ) (i j : CallInput) (out out′ : List ℕ) → List Call
-bothWays key i j out out′ = there key i out ++ wrap group j ∷ unwrap office (delivery (sentBy group j (afterThere key i out)) out′) ∷ []
+  -- in this list each message is delivered
+  abbrev pub BothWays : (i j : CallInput) (out out′ : List ℕ) → Type 0
+  BothWays i j out out′ =
+      InLimits m i → InLimits m j → length (i .text) ≤ length out → length (j .text) ≤ length out′
+      → Delivers m nothing (bothWays i j out out′) (freshLedgers key opening)
 
--- in this list each message is delivered
-abbrev pub BothWays : (key : List ℕ) (i j : CallInput) (out out′ : List ℕ) → Type 0
-BothWays key i j out out′ =
-    InLimits sansePaper i → InLimits sansePaper j → length (i .text) ≤ length out → length (j .text) ≤ length out′
-    → Delivers sansePaper nothing (bothWays key i j out out′) (freshLedgers sansePaper key)
+-- ---- a message on its way, disturbed
+
+-- what a wrap gave, under another tag
+abbrev pub underTag : List ℕ → Sent → Sent
+underTag t w = record { from = w .from; input = w .input; cryptogram = w .cryptogram; tag = t }
+
+module _ (m : PaperMode) (key : List ℕ) (opening : List Str) (i j : CallInput) (out out′ t : List ℕ) where
+  -- what the office's first message gave, which is delivered, and its second
+  abbrev pub firstSent : Sent
+  firstSent = sentBy m office i (freshLedgers key opening)
+
+  abbrev pub secondSent : Sent
+  secondSent = sentBy m office j (afterThere m key opening i out)
+
+  -- the ledgers while the second is on its way
+  abbrev pub onTheWay : Ledgers
+  onTheWay = nextLedgers m (wrap office j) (afterThere m key opening i out)
+
+  -- the tag of what arrives at an end then differs from the one that the algorithm finds for it there
+  abbrev pub Differs : Side → CallInput → Type 0
+  Differs x a = a .tag ≢ unwrapFinds m (ledgerAt x onTheWay) a .tag
+
+  -- after the first message the office wraps j; a wrap is refused at each end; the group gets what j gave under the tag t, and then the first
+  -- message again; the office gets what j gave; and last the group gets it
+  abbrev pub disturbed : List Call
+  disturbed =
+      there m key opening i out
+      ++ wrap office j
+      ∷ wrap group noTag
+      ∷ wrap office noTag
+      ∷ unwrap group (delivery (underTag t secondSent) out′)
+      ∷ unwrap group (delivery firstSent out)
+      ∷ unwrap office (delivery secondSent out′)
+      ∷ unwrap group (delivery secondSent out′)
+      ∷ []
+
+  -- in this list each message is delivered, where t, the repeat's tag and the reflection's differ from those that are found
+  abbrev pub Disturbed : Type 0
+  Disturbed =
+      InLimits m i → InLimits m j → length (i .text) ≤ length out → length (j .text) ≤ length out′
+      → Differs group (delivery (underTag t secondSent) out′)
+      → Differs group (delivery firstSent out)
+      → Differs office (delivery secondSent out′)
+      → Delivers m nothing disturbed (freshLedgers key opening)

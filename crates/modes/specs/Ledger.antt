@@ -10,13 +10,12 @@ use lib.ListN.{length, drop, replicate}
 use Rattle.deck.specs.Strings.{Str}
 use Rattle.deck.specs.Deck.{indexOf}
 use Rattle.modes.specs.Call.{CallInput}
-use Rattle.modes.specs.Paper.{PaperResult, sanseWrap, sanseUnwrap, sanseOpens}
+use Rattle.modes.specs.Paper.{PaperResult, sanseWrap, sanseUnwrap}
 
--- a mode as the papers give it: its tag's length in bytes, the history that it opens with, its count by the byte lengths of A and M, and its
--- algorithms at key, history and e
+-- a mode as the papers give it: its tag's length in bytes, its count by the byte lengths of A and M, and its algorithms at key, history and
+-- e
 pub record PaperMode : Type 0 where
   pub tagLength : ℕ
-  pub opens : List Str
   pub count : (A M : ℕ) → ℕ
   pub wraps : (key : List ℕ) → List Str → Bool → (A P : List ℕ) → PaperResult
   pub unwraps : (key : List ℕ) → List Str → Bool → (A C T : List ℕ) → PaperResult
@@ -31,13 +30,17 @@ sansePermutations A M =
 
 -- SANSE as 003 and document 01 give it
 abbrev pub sansePaper : PaperMode
-sansePaper = record { tagLength = 32; opens = sanseOpens; count = sansePermutations; wraps = sanseWrap; unwraps = sanseUnwrap }
+sansePaper = record { tagLength = 32; count = sansePermutations; wraps = sanseWrap; unwraps = sanseUnwrap }
 
 -- what a ledger holds
 pub record Ledger : Type 0 where
   pub key : List ℕ
   pub history : List Str
   pub toggle : Bool
+
+-- a ledger under a key before its first call, with the history that its session opens with
+abbrev pub freshLedger : (key : List ℕ) (opening : List Str) → Ledger
+freshLedger key opening = record { key = key; history = opening; toggle = false }
 
 -- what a call gives beside the session: its number (0: accepted), its count, and the output buffer and the tag buffer after it
 pub record Answer : Type 0 where
@@ -117,7 +120,3 @@ module _ (m : PaperMode) where
   ledgerUnwrap l i =
       let r : PaperResult = unwrapFinds l i in
       onCheck (checkBefore11 r i) l i (cond (equalTags (i .tag) (r .tag)) (accepts l i r (i .tag)) (refuses11 l i))
-
-  -- a ledger under a key before its first call
-  abbrev pub freshLedger : (key : List ℕ) → Ledger
-  freshLedger key = record { key = key; history = m .opens; toggle = false }

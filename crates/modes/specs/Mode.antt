@@ -29,8 +29,7 @@ incremental = record { append = append; keystream = output; index = λ d. d .ind
 -- ---- modes
 
 -- what modes of the same steps differ in: the frame bits after A, after the text that enters the history, and after a tag that does, each
--- at e; the tag's length in bytes; the output byte from which keystream is taken; the counts, by the lengths of A and M; how e changes; and
--- the history that a session opens with
+-- at e; the tag's length in bytes; the output byte from which keystream is taken; the counts, by the lengths of A and M; and how e changes
 pub record Parameters : Type 0 where
   pub frameA : Bool → List Bool
   pub frameM : Bool → List Bool
@@ -39,7 +38,6 @@ pub record Parameters : Type 0 where
   pub offset : ℕ
   pub count : (a m : ℕ) → ℕ
   pub nextToggle : Bool → Bool
-  pub opens : List Str
 
 -- what the steps of wrap or unwrap find: the history after them; the body, which is the cryptogram for wrap and the message for unwrap; and
 -- the tag
@@ -121,7 +119,7 @@ unfoldable pub sanseCount : (a m : ℕ) → ℕ
 sanseCount a zero = b a + 2
 sanseCount a (suc m) = blocksOfA a + b (suc m) + 4 + ceiling48 (suc m)
 
--- its frame bits: A, 0, e; M, 0, 1, e; T, 1, 1, e. Its tags have 32 bytes, e toggles, and a session opens with no string
+-- its frame bits: A, 0, e; M, 0, 1, e; T, 1, 1, e. Its tags have 32 bytes, and e toggles
 abbrev pub sanseParameters : Parameters
 sanseParameters =
     record {
@@ -132,7 +130,6 @@ sanseParameters =
       offset = 0;
       count = sanseCount;
       nextToggle = not;
-      opens = [];
     }
 
 -- Xoofff-SANSE

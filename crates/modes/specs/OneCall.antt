@@ -1,6 +1,6 @@
--- Demand 2, one call: for every key, history and e, the session that this history gives, wrapped or unwrapped, gives what Algorithm 3 of 003
--- gives over the whole history, and the session of the longer history; and demand 1 of it: every other call is refused and alters nothing.
--- First what the words mean, then the two claims. `sanseWrap` and `sanseUnwrap` are the algorithm as printed. Assumes nothing.
+-- Demands 1 and 2, one call, for any mode m of the papers: for every key, history and e, the session that this history gives, wrapped or
+-- unwrapped, gives what the mode's algorithm as printed gives over the whole history, and the session of the longer history; every other call
+-- is refused and alters nothing. First what the words mean, then the two claims. Assumes nothing.
 use mathlib.Core.Bool.{Bool, true}
 use mathlib.Core.List.{List, _++_}
 use mathlib.Core.Logic.{_≢_}
@@ -11,8 +11,8 @@ use Rattle.deck.specs.declared.DeckState.{DeckState}
 use Rattle.deck.specs.Strings.{Str}
 use Rattle.deck.specs.Deck.{keyMask, maskAt, accumulator, indexOf}
 use Rattle.modes.specs.Call.{CallInput}
-use Rattle.modes.specs.Paper.{PaperResult, sanseWrap, sanseUnwrap}
-use Rattle.modes.specs.Ledger.{sansePermutations}
+use Rattle.modes.specs.Paper.{PaperResult}
+use Rattle.modes.specs.Ledger.{PaperMode}
 use Rattle.modes.specs.Rules.{SessionState, Outcome}
 
 -- ---- the words
@@ -26,43 +26,9 @@ sessionOf key h e =
       opened = true;
     }
 
--- a call within the limits: what it is handed, and the index after the history that it would leave
-pub record Within (i : CallInput) (after : List Str) : Type 0 where
-  pub metadata : length (i .metadata) ≤ 16384
-  pub text : length (i .text) ≤ 16384
-  pub tag : length (i .tag) ≡ 32
-  pub out : length (i .text) ≤ length (i .out)
-  pub index : indexOf after ≤ 1048576
-
 -- bytes at the start of a buffer, and the buffer's own bytes after them
 abbrev pub startsWith : List ℕ → (buffer : List ℕ) → List ℕ
 startsWith x buffer = x ++ drop (length x) buffer
-
--- ---- the claims, of the outcome o of one call
-
--- an accepted call for which the algorithm arrives at r
-pub record Accepted (key : List ℕ) (i : CallInput) (r : PaperResult) (o : Outcome DeckState) : Type 0 where
-  -- it meets no check
-  pub number : o .number ≡ 0
-  -- document 01's count: b(A) + 2 for empty M, otherwise a + b(M) + 4 + ceiling (M / 48)
-  pub count : o .count ≡ sansePermutations (length (i .metadata)) (length (i .text))
-  -- the cryptogram, or the message, stands at the output buffer's start; the bytes beyond it are kept
-  pub out : o .out ≡ startsWith (r .text) (i .out)
-  -- the tag: what a wrap gives is the algorithm's; the tag handed to an unwrap is not altered, and equals the algorithm's
-  pub tag : o .tag ≡ r .tag
-  -- the session is that of the longer history, with e changed
-  pub session : o .session ≡ sessionOf key (r .history) (r .toggle)
-
--- an unwrap whose tag differs from the algorithm's
-pub record WrongTag (s : SessionState DeckState) (i : CallInput) (o : Outcome DeckState) : Type 0 where
-  pub number : o .number ≡ 11
-  -- a wrong tag costs the same
-  pub count : o .count ≡ sansePermutations (length (i .metadata)) (length (i .text))
-  -- no byte of a message is handed out: as many zeros as it has, and the bytes beyond them are kept
-  pub out : o .out ≡ startsWith (replicate (length (i .text)) 0) (i .out)
-  pub tag : o .tag ≡ i .tag
-  -- the session is left as it was
-  pub session : o .session ≡ s
 
 -- a call outside the limits: refused by a number from 6 to 9 with count 0, and nothing is altered
 pub record Refused (s : SessionState DeckState) (i : CallInput) (o : Outcome DeckState) : Type 0 where
@@ -72,27 +38,62 @@ pub record Refused (s : SessionState DeckState) (i : CallInput) (o : Outcome Dec
   pub tag : o .tag ≡ i .tag
   pub session : o .session ≡ s
 
--- where the algorithm arrives for what a wrap is handed
-abbrev pub wrapped : (key : List ℕ) → List Str → Bool → CallInput → PaperResult
-wrapped key h e i = sanseWrap key h e (i .metadata) (i .text)
+module _ (m : PaperMode) where
+  -- a call within the limits: what it is handed, and the index after the history that it would leave
+  pub record Within (i : CallInput) (after : List Str) : Type 0 where
+    pub metadata : length (i .metadata) ≤ 16384
+    pub text : length (i .text) ≤ 16384
+    pub tag : length (i .tag) ≡ m .tagLength
+    pub out : length (i .text) ≤ length (i .out)
+    pub index : indexOf after ≤ 1048576
 
--- and for what an unwrap is handed
-abbrev pub unwrapped : (key : List ℕ) → List Str → Bool → CallInput → PaperResult
-unwrapped key h e i = sanseUnwrap key h e (i .metadata) (i .text) (i .tag)
+  -- where the algorithm arrives for what a wrap is handed
+  abbrev pub wrapArrives : (key : List ℕ) → List Str → Bool → CallInput → PaperResult
+  wrapArrives key h e i = m .wraps key h e (i .metadata) (i .text)
 
--- a wrap of the session that the history h and e give: within the limits it is accepted, with C and T of the algorithm
-pub record WrapClaim (key : List ℕ) (h : List Str) (e : Bool) (i : CallInput) (o : Outcome DeckState) : Type 0 where
-  pub accepted : Within i (wrapped key h e i .history) → Accepted key i (wrapped key h e i) o
-  pub refused : (Within i (wrapped key h e i .history) → ⊥) → Refused (sessionOf key h e) i o
+  -- and for what an unwrap is handed
+  abbrev pub unwrapArrives : (key : List ℕ) → List Str → Bool → CallInput → PaperResult
+  unwrapArrives key h e i = m .unwraps key h e (i .metadata) (i .text) (i .tag)
 
--- an unwrap of it: within the limits it is accepted, with P of the algorithm, where the tag handed in is the algorithm's, and refused by 11
--- where it is not
-pub record UnwrapClaim (key : List ℕ) (h : List Str) (e : Bool) (i : CallInput) (o : Outcome DeckState) : Type 0 where
-  pub accepted : Within i (unwrapped key h e i .history) → i .tag ≡ unwrapped key h e i .tag → Accepted key i (unwrapped key h e i) o
-  pub wrong-tag : Within i (unwrapped key h e i .history) → i .tag ≢ unwrapped key h e i .tag → WrongTag (sessionOf key h e) i o
-  pub refused : (Within i (unwrapped key h e i .history) → ⊥) → Refused (sessionOf key h e) i o
+  -- ---- the claims, of the outcome o of one call
 
--- demands 1 and 2 of two functions from a session and what a call is handed to its outcome
-pub record OneCall (wraps unwraps : SessionState DeckState → CallInput → Outcome DeckState) : Type 0 where
-  pub wrap-claim : (key : List ℕ) (h : List Str) (e : Bool) (i : CallInput) → WrapClaim key h e i (wraps (sessionOf key h e) i)
-  pub unwrap-claim : (key : List ℕ) (h : List Str) (e : Bool) (i : CallInput) → UnwrapClaim key h e i (unwraps (sessionOf key h e) i)
+  -- an accepted call for which the algorithm arrives at r
+  pub record Accepted (key : List ℕ) (i : CallInput) (r : PaperResult) (o : Outcome DeckState) : Type 0 where
+    -- it meets no check
+    pub number : o .number ≡ 0
+    -- the mode's count
+    pub count : o .count ≡ m .count (length (i .metadata)) (length (i .text))
+    -- the cryptogram, or the message, stands at the output buffer's start; the bytes beyond it are kept
+    pub out : o .out ≡ startsWith (r .text) (i .out)
+    -- the tag: what a wrap gives is the algorithm's; the tag handed to an unwrap is not altered, and equals the algorithm's
+    pub tag : o .tag ≡ r .tag
+    -- the session is that of the longer history, with e changed
+    pub session : o .session ≡ sessionOf key (r .history) (r .toggle)
+
+  -- an unwrap whose tag differs from the algorithm's
+  pub record WrongTag (s : SessionState DeckState) (i : CallInput) (o : Outcome DeckState) : Type 0 where
+    pub number : o .number ≡ 11
+    -- a wrong tag costs the same
+    pub count : o .count ≡ m .count (length (i .metadata)) (length (i .text))
+    -- no byte of a message is handed out: as many zeros as it has, and the bytes beyond them are kept
+    pub out : o .out ≡ startsWith (replicate (length (i .text)) 0) (i .out)
+    pub tag : o .tag ≡ i .tag
+    -- the session is left as it was
+    pub session : o .session ≡ s
+
+  -- a wrap of the session that the history h and e give: within the limits it is accepted, with C and T of the algorithm
+  pub record WrapClaim (key : List ℕ) (h : List Str) (e : Bool) (i : CallInput) (o : Outcome DeckState) : Type 0 where
+    pub accepted : Within i (wrapArrives key h e i .history) → Accepted key i (wrapArrives key h e i) o
+    pub refused : (Within i (wrapArrives key h e i .history) → ⊥) → Refused (sessionOf key h e) i o
+
+  -- an unwrap of it: within the limits it is accepted, with P of the algorithm, where the tag handed in is the algorithm's, and refused by 11
+  -- where it is not
+  pub record UnwrapClaim (key : List ℕ) (h : List Str) (e : Bool) (i : CallInput) (o : Outcome DeckState) : Type 0 where
+    pub accepted : Within i (unwrapArrives key h e i .history) → i .tag ≡ unwrapArrives key h e i .tag → Accepted key i (unwrapArrives key h e i) o
+    pub wrong-tag : Within i (unwrapArrives key h e i .history) → i .tag ≢ unwrapArrives key h e i .tag → WrongTag (sessionOf key h e) i o
+    pub refused : (Within i (unwrapArrives key h e i .history) → ⊥) → Refused (sessionOf key h e) i o
+
+  -- demands 1 and 2 of two functions from a session and what a call is handed to its outcome
+  pub record OneCall (wraps unwraps : SessionState DeckState → CallInput → Outcome DeckState) : Type 0 where
+    pub wrap-claim : (key : List ℕ) (h : List Str) (e : Bool) (i : CallInput) → WrapClaim key h e i (wraps (sessionOf key h e) i)
+    pub unwrap-claim : (key : List ℕ) (h : List Str) (e : Bool) (i : CallInput) → UnwrapClaim key h e i (unwraps (sessionOf key h e) i)

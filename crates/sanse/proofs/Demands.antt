@@ -1,72 +1,89 @@
--- Demands 1 to 3 hold of all promises that give each call's equation with the rules; and so of the program's start, wrap and unwrap, known
--- by their `ensures` alone. Assumes nothing.
+-- Demands 1 to 3 hold of the program's start, wrap and unwrap, known by their `ensures` alone; what they say, written out; and that what they
+-- speak of is there. Assumes nothing.
+use mathlib.Core.Bool.{Bool}
 use mathlib.Core.List.{List}
-use mathlib.Core.Path.{_≡_, refl, sym, ap, _∙_, subst}
-use Prim.Native.Nat.{ℕ}
+use mathlib.Core.Path.{_≡_, refl}
+use Prim.Native.Nat.{ℕ, _≤_}
+use lib.ListN.{length}
 use Rattle.deck.specs.declared.DeckState.{DeckState}
-use Rattle.modes.specs.Call.{CallInput, Side, office, group, Call, wrap, unwrap}
-use Rattle.modes.specs.Mode.{incremental, sanse}
-use Rattle.modes.specs.Rules.{SessionState, Outcome, startAt, wrapAt, unwrapAt}
-use Rattle.modes.specs.OneCall.{WrapClaim, UnwrapClaim}
-use Rattle.modes.specs.TwoEnds.{Ends, at, put, Runs}
-use Rattle.modes.proofs.OneCall as call
-use Rattle.modes.proofs.TwoEnds as modes
+use Rattle.deck.specs.Strings.{Str}
+use Rattle.modes.specs.Call.{CallInput, Call}
+use Rattle.modes.specs.Mode.{sanse}
+use Rattle.modes.specs.Rules.{Outcome}
+use Rattle.modes.specs.Ledger.{sansePaper}
+use Rattle.modes.specs.OneCall.{sessionOf, WrapClaim, UnwrapClaim}
+use Rattle.modes.specs.Demand3.{Demand3}
+use Rattle.modes.specs.Promises.{Promises, Records, Run, sessionsHeld}
+use Rattle.modes.specs.Demands.{StartOf, AnyCallOf, WrapOf, UnwrapOf, OneCallOf, Demand3Of, StartsExist, RunsExist}
+use Rattle.modes.proofs.Modes.{sanse-follows}
+use Rattle.modes.proofs.Demands.{ByRules, Whole, start-of, any-call-of, one-call-of, demand-3-of, runs-exist, kept, starts-exist}
 use Rattle.sanse.specs.declared.Session.{Session}
 use Rattle.sanse.specs.declared.CallResult.{CallResult}
-use Rattle.sanse.specs.Session.{stateOf, startResult, callResult}
-use Rattle.sanse.specs.Demands.{Promises, Records, recordAt, store, Run, sessionsOf, OneCallOf, Demand3Of}
-use Rattle.sanse.proofs.Contracts.{promises, start-is, wrap-is, unwrap-is}
+use Rattle.sanse.specs.Session.{stateOf, startResult, callResult, sanseKind}
+use Rattle.sanse.proofs.Contracts.{StartPromise, promises, start-is, wrap-is, unwrap-is}
 
--- promises that give each call's equation with the rules
-pub record ByRules (p : Promises) : Type 0 where
-  pub starts : {key : List ℕ} {r : CallResult} → p .starts key r → startResult r ≡ startAt key
-  pub wraps : {s : Session} {i : CallInput} {r : CallResult} {out tag : List ℕ} → p .wraps s i r out tag
-      → callResult r out tag ≡ wrapAt sanse incremental (stateOf s) i
-  pub unwraps : {s : Session} {i : CallInput} {r : CallResult} {out tag : List ℕ} → p .unwraps s i r out tag
-      → callResult r out tag ≡ unwrapAt sanse incremental (stateOf s) i
+-- ---- what the demands say of these records, written out
 
-at-records : (x : Side) (p : Records) → stateOf (recordAt x p) ≡ at x (sessionsOf p)
-at-records office p = refl
-at-records group p = refl
+pub wrap-says : (p : Promises sanseKind)
+    → WrapOf sanseKind sansePaper p
+    ≡ ((key : List ℕ) (h : List Str) (e : Bool) (s : Session) (i : CallInput) (r : CallResult) (out tag : List ℕ)
+    → stateOf s ≡ sessionOf key h e → p .wraps s i r out tag → WrapClaim sansePaper key h e i (callResult r out tag))
+wrap-says p = refl
 
-store-records : (x : Side) (s : Session) (p : Records) → sessionsOf (store x s p) ≡ put x (stateOf s) (sessionsOf p)
-store-records office s p = refl
-store-records group s p = refl
+pub unwrap-says : (p : Promises sanseKind)
+    → UnwrapOf sanseKind sansePaper p
+    ≡ ((key : List ℕ) (h : List Str) (e : Bool) (s : Session) (i : CallInput) (r : CallResult) (out tag : List ℕ)
+    → stateOf s ≡ sessionOf key h e → p .unwraps s i r out tag → UnwrapClaim sansePaper key h e i (callResult r out tag))
+unwrap-says p = refl
 
-module _ {p : Promises} (l : ByRules p) where
-  -- demands 1 and 2, of one call
-  pub one-call-of : OneCallOf p
-  one-call-of =
-      record {
-        wraps = λ key h e s i r out tag q w.
-            subst (WrapClaim key h e i) (sym (l .wraps w ∙ ap (λ (z : SessionState DeckState). wrapAt sanse incremental z i) q)) (call.one-call .wrap-claim key h e i);
-        unwraps = λ key h e s i r out tag q w.
-            subst (UnwrapClaim key h e i) (sym (l .unwraps w ∙ ap (λ (z : SessionState DeckState). unwrapAt sanse incremental z i) q)) (call.one-call .unwrap-claim key h e i);
-      }
+pub demand-3-says : (starts : (key : List ℕ) → CallResult → Type 0) (p : Promises sanseKind)
+    → Demand3Of sanseKind starts p
+    ≡ ((key : List ℕ) → 16 ≤ length key → length key ≤ 47 → (first second : CallResult) → starts key first → starts key second
+    → (cs : List Call) (os : List (Outcome DeckState)) (to : Records sanseKind)
+    → Run sanseKind p cs (record { office = first .session; group = second .session }) os to
+    → Demand3 key cs (startResult first) (startResult second) os (sessionsHeld sanseKind to))
+demand-3-says starts p = refl
 
-  -- the promises' runs are runs by the rules
-  runs-of : {cs : List Call} {from to : Records} {os : List (Outcome DeckState)} → Run p cs from os to
-      → Runs sanse incremental cs (sessionsOf from) os (sessionsOf to)
-  runs-of Run.none = Runs.none
-  runs-of (Run.wrapped {cs} {from} {to} {os} {x} {i} {r} {out} {tag} w q) =
-      Runs.more (l .wraps w ∙ ap (λ (z : SessionState DeckState). wrapAt sanse incremental z i) (at-records x from))
-      (subst (λ (z : Ends DeckState). Runs sanse incremental cs z os (sessionsOf to)) (store-records x (r .session) from) (runs-of q))
-  runs-of (Run.unwrapped {cs} {from} {to} {os} {x} {i} {r} {out} {tag} w q) =
-      Runs.more (l .unwraps w ∙ ap (λ (z : SessionState DeckState). unwrapAt sanse incremental z i) (at-records x from))
-      (subst (λ (z : Ends DeckState). Runs sanse incremental cs z os (sessionsOf to)) (store-records x (r .session) from) (runs-of q))
+-- ---- the demands
 
-  -- demand 3, one claim about the whole list
-  pub demand-3-of : Demand3Of p
-  demand-3-of key h g first second a b cs os to r =
-      modes.demand-3 key h g (startResult first) (startResult second) (l .starts a) (l .starts b) cs os (sessionsOf to) (runs-of r)
+-- each promise is just the call's equation with the rules
+program : ByRules sanse promises
+program = record { wraps = wrap-is; unwraps = unwrap-is }
 
--- ---- the program's functions
+-- demand 1: every start, and every call of any record
+pub one-start : StartOf sanseKind StartPromise
+one-start = start-of sanseKind StartPromise start-is
 
-program : ByRules promises
-program = record { starts = start-is; wraps = wrap-is; unwraps = unwrap-is }
+pub any-call : AnyCallOf sanseKind sanse promises
+any-call = any-call-of program
 
-pub one-call : OneCallOf promises
-one-call = one-call-of program
+-- demands 1 and 2: one call of the record of a history
+pub one-call : OneCallOf sanseKind sansePaper promises
+one-call = one-call-of program sanse-follows
 
-pub demand-3 : Demand3Of promises
-demand-3 = demand-3-of program
+-- demand 3, one claim about the whole list
+pub demand-3 : Demand3Of sanseKind StartPromise promises
+demand-3 = demand-3-of start-is program
+
+-- ---- what they speak of is there
+
+-- every number, count and session is some result's
+pub whole : Whole sanseKind
+whole =
+    record {
+      made = λ n c s.
+          let d = s .history in
+          record {
+            number = n;
+            count = c;
+            session = record { acc = d .acc; mask = d .mask; index = d .index; toggle = s .toggle; opened = s .opened };
+          };
+      same = λ n c s. refl;
+    }
+
+-- whatever a call is handed, there are arguments and a result of which the function's `ensures` holds
+pub start-exists : StartsExist sanseKind StartPromise
+start-exists = starts-exist whole StartPromise start-is
+
+pub run-exists : RunsExist sanseKind promises
+run-exists = runs-exist (kept whole program)

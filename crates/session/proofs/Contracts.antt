@@ -8,12 +8,12 @@ use prog.Routine.{Routine}
 use ghost.Atoms.{Atoms}
 use contract.Lifetimes.{Lfts}
 use contract.Monad.{Fun}
-use contract.Notation.{Connectives, connectives}
+use contract.Notation.{connectives}
 use denote.Ref.{now}
 use denote.Triple.Clauses.{AtExit}
 use denote.Triple.Entry.{Args, Res}
 use Rattle.sanse.specs.Session.{handed}
-use Rattle.session.specs.Lent.{Started, Wrapped, Unwrapped}
+use Rattle.session.specs.Lent.{Started, Wrapped, Unwrapped, resultOf, lentStarts, lentPromises}
 use Rattle.session.proofs.start as start
 use Rattle.session.proofs.wrap as wrap
 use Rattle.session.proofs.unwrap as unwrap
@@ -46,3 +46,22 @@ module _ {M : Type 1} (𝓤 : URA M) (H : Heap 𝓤) (A : Atoms 𝓤) (mem : Mem
       (Unwrapped (now (a .0)) (handed (now (a .1 .0)) (now (a .1 .1 .0)) (now (a .1 .1 .1 .1 .0)) (now (a .1 .1 .1 .0))) r (now (z .0))
       (now (z .1 .1 .1 .1 .0)) (now (a .1 .1 .1 .0)))
   unwrap-ensures κs a r z = refl
+
+  -- and that promise is the one of which the demands are proved
+  pub start-promises : (κs : Lfts 2) (a : Args start.signature κs) (r : Res start.signature κs) (z : AtExit start.ended κs)
+      → start.clauses 𝓤 H A mem run κs a .ensures tt r z ≡ connectives 𝓤 .⌜_⌝ (lentStarts (now (a .1 .0)) (resultOf r (now (z .0))))
+  start-promises κs a r z = refl
+
+  pub wrap-promises : (κs : Lfts 5) (a : Args wrap.signature κs) (r : Res wrap.signature κs) (z : AtExit wrap.ended κs)
+      → wrap.clauses 𝓤 H A mem run κs a .ensures tt r z
+      ≡ connectives 𝓤 .⌜_⌝
+      (lentPromises .wraps (now (a .0)) (handed (now (a .1 .0)) (now (a .1 .1 .0)) (now (a .1 .1 .1 .0)) (now (a .1 .1 .1 .1 .0)))
+      (resultOf r (now (z .0))) (now (z .1 .1 .1 .0)) (now (z .1 .1 .1 .1 .0)))
+  wrap-promises κs a r z = refl
+
+  pub unwrap-promises : (κs : Lfts 5) (a : Args unwrap.signature κs) (r : Res unwrap.signature κs) (z : AtExit unwrap.ended κs)
+      → unwrap.clauses 𝓤 H A mem run κs a .ensures tt r z
+      ≡ connectives 𝓤 .⌜_⌝
+      (lentPromises .unwraps (now (a .0)) (handed (now (a .1 .0)) (now (a .1 .1 .0)) (now (a .1 .1 .1 .1 .0)) (now (a .1 .1 .1 .0)))
+      (resultOf r (now (z .0))) (now (z .1 .1 .1 .1 .0)) (now (a .1 .1 .1 .0)))
+  unwrap-promises κs a r z = refl

@@ -1,16 +1,16 @@
 -- The promises of start, wrap and unwrap over a lent record (document 01, "A session is one record, lent to wrap and unwrap and altered by
 -- them"): the same equations with the rules as the functions by value have, of the record at entry and at exit. Demands 1 to 3 are those of
--- `sanse`'s `Demands`, of these promises. Assumes nothing.
+-- the modes' `Demands`, of these promises. Assumes nothing.
 use mathlib.Core.List.{List}
 use mathlib.Core.Path.{_≡_}
 use Prim.Native.Nat.{ℕ}
 use Rattle.modes.specs.Call.{CallInput}
 use Rattle.modes.specs.Mode.{sanse, incremental}
 use Rattle.modes.specs.Rules.{startAt, wrapAt, unwrapAt}
+use Rattle.modes.specs.Promises.{Promises, Starts, byRules, startByRules}
 use Rattle.sanse.specs.declared.Session.{Session}
 use Rattle.sanse.specs.declared.CallResult.{CallResult}
-use Rattle.sanse.specs.Session.{stateOf, startResult, callResult}
-use Rattle.sanse.specs.Demands.{Promises}
+use Rattle.sanse.specs.Session.{stateOf, startResult, callResult, sanseKind}
 use Rattle.session.specs.declared.Answer.{Answer}
 
 -- an answer, with the record as the call left it
@@ -29,15 +29,10 @@ Wrapped s i r s′ out tag = callResult (resultOf r s′) out tag ≡ wrapAt san
 abbrev pub Unwrapped : (s : Session) → CallInput → Answer → (s′ : Session) → (out tag : List ℕ) → Type 0
 Unwrapped s i r s′ out tag = callResult (resultOf r s′) out tag ≡ unwrapAt sanse incremental (stateOf s) i
 
--- what a result shows beside the record
-abbrev pub answerOf : CallResult → Answer
-answerOf r = record { number = r .number; count = r .count }
+-- so they promise each call's equation with the rules, and nothing else: in a list of calls, the record that a call leaves is the one behind
+-- the reference at its exit
+abbrev pub lentStarts : Starts sanseKind
+lentStarts = startByRules sanseKind
 
--- the three promises: in a list of calls, the record that a call leaves is the one behind the reference at its exit
-abbrev pub lentPromises : Promises
-lentPromises =
-    record {
-      starts = λ key r. Started key (answerOf r) (r .session);
-      wraps = λ s i r out tag. Wrapped s i (answerOf r) (r .session) out tag;
-      unwraps = λ s i r out tag. Unwrapped s i (answerOf r) (r .session) out tag;
-    }
+abbrev pub lentPromises : Promises sanseKind
+lentPromises = byRules sanseKind sanse
