@@ -2,8 +2,8 @@
 use mathlib.Core.List.{List}
 use Prim.Native.Nat.{ℕ}
 use Rattle.deck.specs.declared.DeckState.{DeckState}
-use Rattle.xoofff.specs.declared.Compressed.{Compressed}
 use Rattle.deck.specs.Closing.{closedBy}
+use Rattle.xoofff.specs.declared.Compressed.{Compressed}
 use Rattle.xoofff.specs.Leaves.{compressed}
 
 -- the state after it

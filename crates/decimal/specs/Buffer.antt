@@ -1,4 +1,4 @@
--- A buffer after a run of bytes was written to it, as the contracts of writers say it.
+-- A buffer after a run of bytes was written to it, as the contracts of writers say it. Assumes nothing.
 use Prim.Native.Nat.{ℕ, _+_}
 use mathlib.Core.List.{List, _++_}
 use lib.ListN.{length, take, drop}

@@ -1,6 +1,6 @@
 -- Decimal numbers in bytes, as document 01 has them in "Envelope": decimal without leading zeros, zero being `0`.
 -- First what the bytes of a number are; then what a reader finds who looks for a number up to a maximum and the byte that ends it.
--- proofs/Reading.antt shows that the reader finds exactly the numbers that are spelled so.
+-- proofs/Reading.antt shows that the reader finds exactly the numbers that are spelled so. Assumes nothing.
 use Prim.Native.Nat.{ℕ, suc, zero, _+_, _-_, _*_, _/_, _%_, _≤_}
 use mathlib.Core.Path.{_≡_}
 use mathlib.Core.Bool.{Bool, true, false, cond}

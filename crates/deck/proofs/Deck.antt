@@ -9,16 +9,16 @@ use native.Mathlib.Omega.{arith}
 use lib.ListN.{length}
 use Rattle.word.specs.Lists.{sum}
 use Rattle.word.proofs.Lists.{sum-length}
-use Rattle.xoodoo.specs.Xoodoo.{perm}
-use Rattle.rolling.specs.Rolling.{rollIn}
 use Rattle.state.specs.Bytes.{fromBytes}
-use Rattle.xoodoo.proofs.Facts.{perm-length}
-use Rattle.rolling.proofs.Facts.{rollIn-length}
+use Rattle.state.specs.State.{zeros}
 use Rattle.state.proofs.Facts.{fromString-length, stateByte-lt}
+use Rattle.xoodoo.specs.Xoodoo.{perm}
+use Rattle.xoodoo.proofs.Facts.{perm-length}
+use Rattle.rolling.specs.Rolling.{rollIn}
+use Rattle.rolling.proofs.Facts.{rollIn-length}
 use Rattle.deck.specs.Strings.{Str, blocks, block, b, framed}
 use Rattle.deck.specs.Closing.{closedBy, frameBits}
 use Rattle.deck.specs.Deck.{iterate, keyMask, maskAt, addBlocks, addHistory, indexGrowth, indexOf, accumulator, outputMask, outputByte}
-use Rattle.state.specs.State.{zeros}
 use Rattle.deck.proofs.Strings.{closed-blocks, block-front, block-behind, blocks-front}
 
 -- ---- rolling

@@ -8,13 +8,13 @@ use native.Mathlib.Nat.{add-zero, add-assoc, zero-add}
 use native.Mathlib.Omega.{arith}
 use lib.ListN.{length}
 use Rattle.word.specs.Lists.{sum}
+use Rattle.state.specs.Bytes.{fromBytes}
+use Rattle.state.specs.State.{zeros}
 use Rattle.xoodoo.specs.Xoodoo.{perm}
 use Rattle.rolling.specs.Rolling.{rollIn}
-use Rattle.state.specs.Bytes.{fromBytes}
 use Rattle.deck.specs.Strings.{Str, blocks, framed}
 use Rattle.deck.specs.declared.DeckState.{DeckState}
 use Rattle.deck.specs.Deck.{iterate, keyMask, maskAt, addBlocks, addHistory, indexOf, indexGrowth, accumulator, outputMask, deck}
-use Rattle.state.specs.State.{zeros}
 use Rattle.deck.specs.Incremental.{append, output, fromScratch}
 use Rattle.deck.proofs.Strings.{blocks-front}
 use Rattle.deck.proofs.Deck.{addBlocks-from, addBlocks-front, maskAt-add, iterate-add}

@@ -3,10 +3,10 @@
 use mathlib.Core.List.{List, [], _∷_}
 use Prim.Native.Nat.{ℕ, zero, suc, _+_, _/_, _%_}
 use Rattle.word.specs.Lists.{tabulate, sum}
-use Rattle.xoodoo.specs.Xoodoo.{perm}
-use Rattle.rolling.specs.Rolling.{rollIn, rollOut}
 use Rattle.state.specs.State.{zeros}
 use Rattle.state.specs.Bytes.{stateByte}
+use Rattle.xoodoo.specs.Xoodoo.{perm}
+use Rattle.rolling.specs.Rolling.{rollIn, rollOut}
 use Rattle.deck.specs.Strings.{Str, block, blocks}
 
 -- f done n times

@@ -1,5 +1,5 @@
 -- The layout of an envelope: document 01, "Envelope" (limits of lengths: "Counts and limits"). A header is a thing of its own, a function of its
--- letter, its group and its two lengths.
+-- letter, its group and its two lengths. Assumes nothing.
 use Prim.Native.Nat.{ℕ, _≤_}
 use mathlib.Core.Path.{_≡_}
 use mathlib.Core.Bool.{cond}

@@ -1,5 +1,5 @@
 -- What a reader finds in a run of bytes, which may be any bytes and of which more may follow the envelope: document 01, "Envelope", and numbers 1
--- and 2 of "What stops a call". proofs/Reading.antt shows that this is exactly what the layout says.
+-- and 2 of "What stops a call". proofs/Reading.antt shows that this is exactly what the layout says. Assumes nothing.
 use Prim.Native.Nat.{ℕ, _+_, _-_}
 use mathlib.Core.Bool.{cond}
 use mathlib.Core.List.{List}

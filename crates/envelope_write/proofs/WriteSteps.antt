@@ -9,8 +9,8 @@ use Rattle.decimal.specs.Buffer.{writtenAt}
 use Rattle.decimal.proofs.Laws.{decimal-within}
 use Rattle.decimal.proofs.Buffers.{writtenAt-join, writtenAt-pair}
 use Rattle.envelope.specs.Layout.{comma, maxGroup, maxLength, tagLength, field, header, envelope}
-use Rattle.envelope_write.specs.Write.{writeNumber}
 use Rattle.envelope.proofs.Layouts.{header-length, field-length, tag-bound}
+use Rattle.envelope_write.specs.Write.{writeNumber}
 
 module _ (letter group alen mlen tlen room : ℕ) where
   pub number-3 : maxGroup < group → writeNumber letter group alen mlen tlen room ≡ 3

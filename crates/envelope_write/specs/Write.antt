@@ -1,4 +1,4 @@
--- What a writer makes: document 01, "Envelope", and numbers 3, 6, 7 and 8 of "What stops a call".
+-- What a writer makes: document 01, "Envelope", and numbers 3, 6, 7 and 8 of "What stops a call". Assumes nothing.
 use Prim.Native.Nat.{ℕ, _+_}
 use mathlib.Core.Bool.{cond}
 use mathlib.Core.List.{List}

@@ -9,8 +9,8 @@ use lib.Dec.{ltb, eqb}
 use lib.ListN.{length}
 use borrow.Author.Tests.{ltb-false, eqb-true}
 use Rattle.deck.specs.declared.DeckState.{DeckState}
-use Rattle.xoofff.specs.declared.Compressed.{Compressed}
 use Rattle.deck.specs.Strings.{Str}
+use Rattle.xoofff.specs.declared.Compressed.{Compressed}
 use Rattle.xoofff.specs.Leaves.{compressed}
 use Rattle.modes.specs.Mode.{isEmpty}
 use Rattle.modes.specs.Rules.{growth, firstCheck, longest, highestIndex}

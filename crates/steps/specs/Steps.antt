@@ -3,8 +3,8 @@
 use mathlib.Core.Bool.{Bool, cond}
 use Prim.Native.Nat.{ℕ, _+_}
 use Rattle.deck.specs.declared.DeckState.{DeckState}
-use Rattle.xoofff.specs.declared.Compressed.{Compressed}
 use Rattle.deck.specs.Strings.{Str}
+use Rattle.xoofff.specs.declared.Compressed.{Compressed}
 use Rattle.xoofff.specs.Leaves.{compressed, outputBlocks}
 
 -- one more string where a test says so; otherwise the history as it was, at no cost

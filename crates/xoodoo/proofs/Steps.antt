@@ -13,8 +13,8 @@ use Rattle.word.specs.Word.{bit, rotateLeft, _⊕_}
 use Rattle.word.proofs.Lists.{Words}
 use Rattle.word.proofs.Bit.{Is, is-eq, is-own, is-more, is-zero, is-xor, is-and, is-not}
 use Rattle.state.specs.State.{State, plane, shift, bits, lane, on}
-use Rattle.xoodoo.specs.Xoodoo.{P, theta, rhoWest, C, iota, B, chi, rhoEast, round, rounds}
 use Rattle.state.proofs.Lanes.{Agree, Local, shifted, next, twelve, lanes-are}
+use Rattle.xoodoo.specs.Xoodoo.{P, theta, rhoWest, C, iota, B, chi, rhoEast, round, rounds}
 
 -- one lane of chi
 pub is-chi : {a b c : ℕ} → a < 2 ^ 32 → b < 2 ^ 32 → c < 2 ^ 32 → Is 32 (bitXor a (bitAnd ((2 ^ 32 - 1) - b) c)) (λ z. bit a z ⊕ (not (bit b z) && bit c z))

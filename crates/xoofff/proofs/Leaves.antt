@@ -10,17 +10,17 @@ use lib.ListN.{length, getD, set, replicate, getD-replicate, length-set, length-
 use lib.Seq.{getD-set-same, getD-set-other, getD-append-seam, ext-getD}
 use Rattle.word.specs.Lists.{tabulate, sum}
 use Rattle.word.proofs.Lists.{Filled, filled-more, tabulate-is, tabulate-at, tabulate-length, sum-at, sum-length}
+use Rattle.state.specs.Bytes.{toBytes}
 use Rattle.xoodoo.specs.Xoodoo.{perm}
 use Rattle.rolling.specs.Rolling.{rollIn, rollOut}
-use Rattle.state.specs.Bytes.{toBytes}
 use Rattle.deck.specs.declared.DeckState.{DeckState}
-use Rattle.xoofff.specs.declared.Compressed.{Compressed}
 use Rattle.deck.specs.Strings.{Str, block, blocks}
 use Rattle.deck.specs.Deck.{iterate, maskAt, addBlocks, indexGrowth, outputByte, run}
 use Rattle.deck.specs.Incremental.{append}
-use Rattle.xoofff.specs.Leaves.{Added, outputBlocks, compressed}
 use Rattle.deck.proofs.Deck.{iterate-more, maskAt-more, addBlocks-more}
 use Rattle.deck.proofs.Output.{outputByte-block}
+use Rattle.xoofff.specs.declared.Compressed.{Compressed}
+use Rattle.xoofff.specs.Leaves.{Added, outputBlocks, compressed}
 
 -- ---- the bytes of a block
 
