@@ -47,6 +47,7 @@ module _ (k : Kind) where
       (key : List ℕ) (h : List Str) (e : Bool) (s : k .Record) (i : CallInput) (r : k .Result) (out tag : List ℕ)
       → k .stateOf s ≡ sessionOf key h e → p .unwraps s i r out tag → UnwrapClaim m key h e i (callResult k r out tag)
 
+  -- both
   pub record OneCallOf (m : PaperMode) (p : Promises k) : Type 0 where
     pub wraps : WrapOf m p
     pub unwraps : UnwrapOf m p

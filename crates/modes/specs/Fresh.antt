@@ -60,10 +60,11 @@ abbrev pub underTag : List ℕ → Sent → Sent
 underTag t w = record { from = w .from; input = w .input; cryptogram = w .cryptogram; tag = t }
 
 module _ (m : PaperMode) (key : List ℕ) (opening : List Str) (i j : CallInput) (out out′ t : List ℕ) where
-  -- what the office's first message gave, which is delivered, and its second
+  -- what the office's first wrap gave, which is delivered
   abbrev pub firstSent : Sent
   firstSent = sentBy m office i (freshLedgers key opening)
 
+  -- what its second gave
   abbrev pub secondSent : Sent
   secondSent = sentBy m office j (afterThere m key opening i out)
 

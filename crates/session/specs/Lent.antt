@@ -29,10 +29,10 @@ Wrapped s i r s′ out tag = callResult (resultOf r s′) out tag ≡ wrapAt san
 abbrev pub Unwrapped : (s : Session) → CallInput → Answer → (s′ : Session) → (out tag : List ℕ) → Type 0
 Unwrapped s i r s′ out tag = callResult (resultOf r s′) out tag ≡ unwrapAt sanse incremental (stateOf s) i
 
--- so they promise each call's equation with the rules, and nothing else: in a list of calls, the record that a call leaves is the one behind
--- the reference at its exit
+-- so start promises its equation with the rules, and nothing else: the record that a call leaves is the one behind the reference at its exit
 abbrev pub lentStarts : Starts sanseKind
 lentStarts = startByRules sanseKind
 
+-- and of wrap and unwrap
 abbrev pub lentPromises : Promises sanseKind
 lentPromises = byRules sanseKind sanse
