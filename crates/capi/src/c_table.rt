@@ -80,15 +80,7 @@ pub extern "C" fn pevghazo_unwrap_group(
         ≡ unwrapGroupAt day (tableOf (now (table .entry))) group
         (handed (now (metadata .entry)) (now (cryptogram .entry)) (now (out .entry)) (now (tag .entry))) ⌝ }
 {
-    office::unwrap_group(
-        table,
-        group as usize,
-        day,
-        metadata,
-        cryptogram,
-        tag,
-        out,
-    )
+    office::unwrap_group(table, group as usize, day, metadata, cryptogram, tag, out)
 }
 
 // The table's answer, with the group in 32 bits.
