@@ -21,6 +21,7 @@ use Rattle.modes.specs.OneCall.{sessionOf}
 use Rattle.modes.specs.TwoEnds.{Ledgers, ledgerAt, finishLedgers, freshLedgers}
 use Rattle.modes.specs.Delivery.{delivery, sentBy, InFlight, Delivers}
 use Rattle.modes.specs.Fresh.{InLimits, FreshAccepts, noTag, afterThere, BothWays, Disturbed}
+use Rattle.modes.proofs.Sessions.{growth-most}
 use Rattle.modes.proofs.Modes.{Follows, sanse-follows}
 use Rattle.modes.proofs.Ledgers.{wrap-by-ledger}
 use Rattle.modes.proofs.Entries.{PaperLaws, paper-laws, wrap-stays, unwrap-stopped}
@@ -29,17 +30,14 @@ use Rattle.modes.proofs.Exactly.{check-none, wrap-exactly}
 use Rattle.modes.proofs.Start.{new-session}
 
 -- a call within the limits moves the index by at most 686
-growth-most : (a n : ℕ) → a ≤ 16384 → n ≤ 16384 → growth a n ≤ 686
-unfolding growth
-growth-most a zero h g = omega arith
-growth-most zero (suc n) h g = omega arith
-growth-most (suc a) (suc n) h g = omega arith
+growth-within : (a n : ℕ) → a ≤ 16384 → n ≤ 16384 → growth a n ≤ 686
+growth-within a n h g = omega (arith, growth-most a n)
 
 module _ {m : PaperMode} (laws : PaperLaws m) (l : Ledger) (i : CallInput) where
   -- a ledger with room accepts it
   pub accepts-within : InLimits m i → indexOf (l .history) + 686 ≤ 1048576 → ledgerWrap m l i .answer .number ≡ 0
   accepts-within w room =
-      let g : growth (length (i .metadata)) (length (i .text)) ≤ 686 = growth-most (length (i .metadata)) (length (i .text)) (omega arith) (omega arith) in
+      let g : growth (length (i .metadata)) (length (i .text)) ≤ 686 = growth-within (length (i .metadata)) (length (i .text)) (omega arith) (omega arith) in
       let e = laws .wraps-index (l .key) (l .history) (l .toggle) (i .metadata) (i .text) in
       wrap-exactly m l i .accepted .1 (record { isOpen = λ z. z; metadata = omega arith; text = omega arith; tag = omega arith; out = omega arith; index = omega arith })
 
@@ -47,7 +45,7 @@ module _ {m : PaperMode} (laws : PaperLaws m) (l : Ledger) (i : CallInput) where
   moves : (r : PaperResult) → indexOf (r .history) ≡ indexOf (l .history) + growth (length (i .metadata)) (length (i .text)) → NoneBefore11 ⊥ (m .tagLength) (indexOf (r .history)) i
       → indexOf (r .history) ≤ indexOf (l .history) + 686
   moves r e c =
-      let g : growth (length (i .metadata)) (length (i .text)) ≤ 686 = growth-most (length (i .metadata)) (length (i .text)) (c .metadata) (c .text) in
+      let g : growth (length (i .metadata)) (length (i .text)) ≤ 686 = growth-within (length (i .metadata)) (length (i .text)) (c .metadata) (c .text) in
       omega arith
 
   wrap-moves : indexOf (ledgerWrap m l i .ledger .history) ≤ indexOf (l .history) + 686
@@ -170,5 +168,5 @@ fresh-accepts key = fresh-by sanse-follows key sanseOpens sanse-room (newSession
 pub both-ways : (key : List ℕ) (i j : CallInput) (out out′ : List ℕ) → BothWays sansePaper key sanseOpens i j out out′
 both-ways key = both-by sanse-follows key sanseOpens sanse-room (omega arith)
 
-pub disturbed : (key : List ℕ) (i j : CallInput) (out out′ t : List ℕ) → Disturbed sansePaper key sanseOpens i j out out′ t
-disturbed key = disturbed-by sanse-follows key sanseOpens sanse-room (omega arith)
+pub disturbed-delivers : (key : List ℕ) (i j : CallInput) (out out′ t : List ℕ) → Disturbed sansePaper key sanseOpens i j out out′ t
+disturbed-delivers key = disturbed-by sanse-follows key sanseOpens sanse-room (omega arith)

@@ -3,7 +3,8 @@
 use mathlib.Core.Bool.{Bool, true, false, cond}
 use mathlib.Core.List.{List}
 use mathlib.Core.Path.{_≡_, refl, ap, ap₂, _∙_}
-use Prim.Native.Nat.{ℕ, zero, suc, _+_}
+use Prim.Native.Nat.{ℕ, zero, suc, _+_, _/_, _≤_}
+use native.Mathlib.Omega.{arith}
 use lib.ListN.{length}
 use Rattle.deck.specs.Deck.{indexOf, indexGrowth}
 use Rattle.deck.specs.Incremental.{append, fromScratch}
@@ -13,6 +14,15 @@ use Rattle.modes.specs.Call.{CallInput}
 use Rattle.modes.specs.Mode.{HistoryRep, StepResult, Mode, wholeHistory, incremental}
 use Rattle.modes.specs.Rules.{SessionState, Outcome, firstCheck, growth, metadataString, sameBytes, ifNoCheck, checkNumber, unwrapSteps, accepted, wrongTag, compareTag, wrapAt, unwrapAt}
 use Rattle.modes.proofs.Steps.{Simulates, mapResult, Grows, ModeLaws}
+
+-- ---- growth
+
+-- a call moves the index by at most its blocks and four
+pub growth-most : (a n : ℕ) → growth a n ≤ a / 48 + n / 48 + 4
+unfolding growth
+growth-most a zero = omega arith
+growth-most zero (suc n) = omega arith
+growth-most (suc a) (suc n) = omega arith
 
 -- ---- the two ways to hold a history
 

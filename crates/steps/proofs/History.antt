@@ -35,12 +35,6 @@ growth-both a zero h z = absurd (h refl)
 growth-both zero (suc n) h z = absurd (z refl)
 growth-both (suc a) (suc n) h z = omega arith
 
-pub growth-most : (a n : ℕ) → growth a n ≤ a / 48 + n / 48 + 4
-unfolding growth
-growth-most a zero = omega arith
-growth-most zero (suc n) = omega arith
-growth-most (suc a) (suc n) = omega arith
-
 -- ---- what a call that meets none of the checks 5 to 9 has shown
 
 pub record Passed (after l a n t o : ℕ) : Type 0 where

@@ -40,14 +40,14 @@ tabulate-is (suc n) f [] h e = absurd (omega (arith, h))
 tabulate-is (suc n) f (x ∷ l) h e = cons (e 0 (omega arith)) (tabulate-is n (λ i. f (suc i)) l (omega (arith, h)) (λ i k. e (suc i) (omega arith)))
 
 -- ---- the digits of a sum
-digit-lt : (x y : ℕ) → x < 2 → y < 2 → differ x y < 2
-digit-lt zero y hx hy = hy
-digit-lt (suc x) zero hx hy = hx
-digit-lt (suc zero) (suc y) hx hy = omega arith
-digit-lt (suc (suc x)) (suc y) hx hy = omega arith
+differ-lt : (x y : ℕ) → x < 2 → y < 2 → differ x y < 2
+differ-lt zero y hx hy = hy
+differ-lt (suc x) zero hx hy = hx
+differ-lt (suc zero) (suc y) hx hy = omega arith
+differ-lt (suc (suc x)) (suc y) hx hy = omega arith
 
 low : (n b : ℕ) → bitXor n b % 2 ≡ differ (n % 2) (b % 2)
-low n b = omega (arith, xor-step n b, digit-lt (n % 2) (b % 2) (omega arith) (omega arith))
+low n b = omega (arith, xor-step n b, differ-lt (n % 2) (b % 2) (omega arith) (omega arith))
 
 digits-assoc : (x y z : ℕ) → x < 2 → y < 2 → z < 2 → differ (differ x y) z ≡ differ x (differ y z)
 digits-assoc zero y z hx hy hz = refl

@@ -1,7 +1,7 @@
 -- `steps::index_after` meets its contract. Assumes nothing.
 use native.Mathlib.Omega.{arith}
 use borrow.Author.Needs.{needs}
-use Rattle.steps.proofs.History.{growth-most}
+use Rattle.modes.proofs.Sessions.{growth-most}
 use Rattle.steps.proofs.index_after.Statement.{statement}
 use Rattle.steps.proofs.index_after.Tie as tie
 
