@@ -3,7 +3,8 @@
 
 A name in back quotes is a definition, a law, a record's field, a function, a struct, a constant or a crate; 'record .field' is a field of that
 record; a word with a slash is a file, a folder or a must-fail edit. Where a place in round brackets follows, as in `name` (crate/specs/File),
-each name since the last such place, semicolon or cell has to stand in that file, or in a file of that folder.
+each name since the last such place, semicolon or cell has to stand in that file, or in a file of that folder. And the map has every crate of
+crates.txt, with the crates that it reads.
 """
 import os
 import re
@@ -11,6 +12,7 @@ import sys
 
 ROOT = os.path.dirname(os.path.dirname(os.path.abspath(__file__)))
 PAGE = "docs/ARCHITECTURE.md"
+KIT = {"io", "libc", "os", "check", "bytes"}
 FOLDERS = ("specs", "proofs", "src", "must-fail")
 # words in back quotes that name nothing of the repository's crates: the languages' own, files, commands, bytes of a format
 OTHER = re.compile(r"^(→|⊥|refl|requires|ensures|rt( \w+)?|make \w+|cargo \w+|&mut \w+|&mut \[\w+\]|&\[\w+\]|&\w+|[A-Z],.*|#\[.*\]|\d+|pevghazo)$")
@@ -75,10 +77,25 @@ def cells(line):
     return re.split(r"[;|]", line)
 
 
+def listed():
+    """crate -> the crates that it reads, the kit's left out, as crates.txt has them."""
+    lines = [line.split(":") for line in read(os.path.join(ROOT, "crates.txt")).split("\n") if ":" in line and not line.startswith("#")]
+    return {name: set(reads.split()) - KIT for name, reads in lines}
+
+
+def wrong_map(crates):
+    """What the map says otherwise than crates.txt: rows `| `crate` | holds | reads |`."""
+    rows = {name: set(re.findall(r"\w+", reads)) for name, reads in re.findall(r"^\| `(\w+)` \| .* \| ([^|]*) \|$", read(os.path.join(ROOT, PAGE)), re.M)}
+    return [name for name in crates if rows.get(name) != crates[name]]
+
+
 def main():
     files = sources()
-    crates = {line.split(":")[0] for line in read(os.path.join(ROOT, "crates.txt")).split("\n") if ":" in line and not line.startswith("#")}
+    crates = listed()
     bad = count = 0
+    for name in wrong_map(crates):
+        print(f"{PAGE}: the map has crate {name} not at all, or reading other crates than crates.txt says")
+        bad += 1
     for number, line in enumerate(read(os.path.join(ROOT, PAGE)).split("\n"), 1):
         for cell in cells(line):
             names = []
