@@ -68,6 +68,9 @@ $(COMMAND): $(LIBRARY) $(shell find rust -path rust/target -prune -o -name '*.rs
 	$(call CARGO,build) --release -p pevghazo-cli
 	@touch $@
 
+# A folder as the pkg-config file names it.
+UNDER = $(patsubst $(PREFIX)/%,$${prefix}/%,$(1))
+
 # What is installed: a mode, a file and its place under DESTDIR, for each.
 define FILES
 644 $(ARCHIVE) $(LIBDIR)/libpevghazo.a
@@ -84,7 +87,7 @@ endef
 export FILES
 
 install: lib $(COMMAND)
-	sed -e 's|@PREFIX@|$(PREFIX)|' -e 's|@LIBDIR@|$(LIBDIR)|' -e 's|@INCLUDEDIR@|$(INCLUDEDIR)|' -e 's|@VERSION@|$(VERSION)|' pevghazo.pc.in \
+	sed -e 's|@PREFIX@|$(PREFIX)|' -e 's|@LIBDIR@|$(call UNDER,$(LIBDIR))|' -e 's|@INCLUDEDIR@|$(call UNDER,$(INCLUDEDIR))|' -e 's|@VERSION@|$(VERSION)|' pevghazo.pc.in \
 	  >target/lib/pevghazo.pc
 	@echo "$$FILES" | while read -r mode file place; do \
 	  [ -f "$$file" ] || continue; \

@@ -46,7 +46,7 @@ build() { make --no-print-directory --old-file=target/staticlib/libcapi.a "$@"; 
 diff "$out/expected" "$out/files" || fail "other files are installed (right) than these (left)"
 find "$prefix" -mindepth 1 -type d ! -perm 755 | grep . && fail "others cannot enter these folders"
 said build install DESTDIR="$out/stage" PREFIX=/usr LIBDIR=/usr/lib/here
-grep -q '^libdir=/usr/lib/here$' "$out/stage/usr/lib/here/pkgconfig/pevghazo.pc" || fail "the pkg-config file names another folder"
+grep -qx 'libdir=${prefix}/lib/here' "$out/stage/usr/lib/here/pkgconfig/pevghazo.pc" || fail "the pkg-config file names another folder"
 
 # ---- one version everywhere
 export PKG_CONFIG_PATH=$prefix/lib/pkgconfig
@@ -67,13 +67,26 @@ for source in c/*.c; do
   done
 done
 
-# ---- what is exported: what the headers declare, and nothing else
-sed -n 's/^[A-Za-z][A-Za-z0-9_ ]*[ *]\(pevghazo_[a-z_]*\)(.*/\1/p' include/pevghazo.h include/pevghazo/*.h | sort >"$out/declared"
-nm --defined-only --extern-only "$prefix/lib/libpevghazo.a" | awk 'NF == 3 { print $3 }' | sort >"$out/archive"
-nm --defined-only --dynamic "$prefix/lib/libpevghazo.so" | awk 'NF == 3 { print $3 }' | sort >"$out/shared"
+# A compiler that lays records out otherwise is refused, here by a pragma.
+printf '#pragma pack(1)\n#include "pevghazo.h"\n' >"$out/packed.h"
+for compiler in "gcc -x c -std=c89" "gcc -x c -std=c17" "g++ -x c++ -std=c++98" "g++ -x c++ -std=c++17"; do
+  has ${compiler%% *} || continue
+  if $compiler -Iinclude -fsyntax-only "$out/packed.h" 2>"$out/log"; then fail "$compiler takes another layout of the records"; fi
+done
+
+# ---- what is exported: what the headers declare, and nothing else; the proved functions are those of three headers
+declared() { sed -n 's/^[A-Za-z][A-Za-z0-9_ ]*[ *]\(pevghazo_[a-z_]*\)(.*/\1/p' "$@" | sort; }
+exported() { nm --defined-only "$@" | awk 'NF == 3 { print $3 }' | sort; }
+declared include/pevghazo.h include/pevghazo/*.h >"$out/declared"
+declared include/pevghazo/{session,table,envelope}.h >"$out/declared.proved"
+exported --extern-only "$prefix/lib/libpevghazo.a" >"$out/archive"
+exported --dynamic "$prefix/lib/libpevghazo.so" >"$out/shared"
+exported --extern-only target/staticlib/libcapi.a >"$out/proved"
 for library in archive shared; do
   diff "$out/declared" "$out/$library" || fail "the headers (left) and the $library library (right) name other functions"
 done
+diff "$out/declared.proved" "$out/proved" || fail "the headers (left) say of other functions than the library (right) that they are proved"
+size "$prefix/lib/libpevghazo.a" | awk 'NR > 1 && $2 + $3 > 0 { exit 1 }' || fail "the library has globals"
 readelf --dynamic "$prefix/lib/libpevghazo.so" >"$out/dynamic"
 grep -q 'SONAME.*\[libpevghazo.so.1\]' "$out/dynamic" || fail "the shared library has another soname"
 if grep -q TEXTREL "$out/dynamic"; then fail "the shared library's code is altered when it is loaded"; fi

@@ -20,7 +20,6 @@ fn main() {
         return;
     }
     let own = repository().join("target/staticlib");
-    println!("cargo:rerun-if-changed={}", own.join("libcapi.a").display());
     if link(&own) || installed().is_some_and(|folder| link(&folder)) {
         return;
     }

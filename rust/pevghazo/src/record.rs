@@ -29,20 +29,13 @@ fn store_lanes(record: &Record, bytes: &mut [u8]) {
 
 /// Reads a record from its bytes; a refusal leaves the record part written.
 pub(crate) fn load(record: &mut Record, bytes: &[u8]) -> Result<(), BadBytes> {
-    let loaded = load_lanes(record, bytes);
+    let loaded = load_checked(record, bytes);
     clear_stack();
-    loaded?;
-    if record.index > INDEX_MAX {
-        return Err(BadBytes::Index);
-    }
-    if !record.opened && !is_zero(record) {
-        return Err(BadBytes::Closed);
-    }
-    Ok(())
+    loaded
 }
 
 #[inline(never)]
-fn load_lanes(record: &mut Record, bytes: &[u8]) -> Result<(), BadBytes> {
+fn load_checked(record: &mut Record, bytes: &[u8]) -> Result<(), BadBytes> {
     let (numbers, flags) = bytes.split_at(BYTES - 2);
     let lanes = record.acc.iter_mut().chain(&mut record.mask).chain([&mut record.index]);
     for (place, lane) in numbers.chunks_exact(4).zip(lanes) {
@@ -50,6 +43,12 @@ fn load_lanes(record: &mut Record, bytes: &[u8]) -> Result<(), BadBytes> {
     }
     record.toggle = flag(flags[0])?;
     record.opened = flag(flags[1])?;
+    if record.index > INDEX_MAX {
+        return Err(BadBytes::Index);
+    }
+    if !record.opened && !is_zero(record) {
+        return Err(BadBytes::Closed);
+    }
     Ok(())
 }
 

@@ -5,7 +5,8 @@ use std::sync::atomic::{Ordering, compiler_fence};
 
 use super::stack::clear_stack;
 
-/// A session's record. It is secret, and its memory is set to zero when it is dropped.
+/// A session's record. It is secret, and its memory is set to zero when it is dropped; one that is moved leaves its old memory as it was,
+/// so [`Session`](crate::Session) and [`Table`](crate::Table) keep theirs in boxes.
 ///
 /// Records cannot be compared by `==`, whose time would tell where they differ:
 ///
