@@ -87,8 +87,8 @@ endef
 export FILES
 
 install: lib $(COMMAND)
-	sed -e 's|@PREFIX@|$(PREFIX)|' -e 's|@LIBDIR@|$(call UNDER,$(LIBDIR))|' -e 's|@INCLUDEDIR@|$(call UNDER,$(INCLUDEDIR))|' -e 's|@VERSION@|$(VERSION)|' pevghazo.pc.in \
-	  >target/lib/pevghazo.pc
+	sed -e 's|@PREFIX@|$(PREFIX)|' -e 's|@VERSION@|$(VERSION)|' -e 's|@LIBDIR@|$(call UNDER,$(LIBDIR))|' \
+	  -e 's|@INCLUDEDIR@|$(call UNDER,$(INCLUDEDIR))|' pevghazo.pc.in >target/lib/pevghazo.pc
 	@echo "$$FILES" | while read -r mode file place; do \
 	  [ -f "$$file" ] || continue; \
 	  echo "$(DESTDIR)$$place"; \

@@ -161,10 +161,11 @@ done
 # ---- the command, its manual page and its completions
 "$prefix/bin/pevghazo" demo >"$out/demo" || fail "the installed command fails"
 grep -q 'S 20001 to S 20100' "$out/demo" || fail "the installed command plays another season"
+[ "$("$prefix/bin/pevghazo" --version)" = "pevghazo $version" ] || fail "the installed command has another version than $version"
 page=$prefix/share/man/man1/pevghazo.1
 if [ -f "$page" ]; then
   if has groff; then
-    groff -man -Tascii -ww "$page" >"$out/page" 2>"$out/log" || fail "the manual page cannot be set"
+    groff -k -man -Tutf8 -ww "$page" >"$out/page" 2>"$out/log" || fail "the manual page cannot be set"
     if [ -s "$out/log" ]; then cat "$out/log" >&2 && fail "the manual page has mistakes"; fi
     grep -q pevghazo "$out/page" || fail "the manual page is empty"
   fi

@@ -6,6 +6,22 @@
 //! damaged, repeated, out of order or meant for somebody else is refused, and the session goes on as it was. *Sealing* wraps a
 //! message into an *envelope*, the bytes in which it travels, and *opening* unwraps one.
 //!
+//! ```
+//! use pevghazo::{Plain, Session, Table};
+//!
+//! # fn main() -> Result<(), pevghazo::Refusal> {
+//! let key = b"the key of group 7......";
+//! let mut office = Table::new();
+//! office.start_day(100_000);
+//! office.open_group(7, key)?;
+//! let (mut group, _) = Session::start(key)?;
+//!
+//! let block = office.seal(7, &Plain { metadata: b"size C", message: b"12001-12100" })?;
+//! assert_eq!(group.open(&block.envelope)?.message, b"12001-12100");
+//! # Ok(())
+//! # }
+//! ```
+//!
 //! | what | where |
 //! |---|---|
 //! | one end of a session, as a group holds it | [`Session`] |

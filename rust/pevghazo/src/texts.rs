@@ -6,6 +6,24 @@ use std::fmt;
 use crate::Tag;
 
 /// What is wrapped or sealed.
+///
+/// ```
+/// use pevghazo::{Plain, Session};
+///
+/// # fn main() -> Result<(), pevghazo::Refusal> {
+/// let (mut session, _) = Session::start(&[7; 32])?;
+/// let wrapped = session.wrap(&Plain { metadata: b"size C", message: b"12001-12100" })?;
+/// assert_eq!((wrapped.cryptogram.len(), wrapped.count), (11, 7));
+/// # Ok(())
+/// # }
+/// ```
+///
+/// Without the names it does not compile:
+///
+/// ```compile_fail,E0061
+/// let (mut session, _) = pevghazo::Session::start(&[7; 32]).unwrap();
+/// let wrapped = session.wrap(b"12001-12100", b"size C").unwrap();
+/// ```
 #[derive(Clone, Copy)]
 pub struct Plain<'a> {
     /// The metadata, which travel in the clear; at most 16,384 bytes.
