@@ -301,3 +301,22 @@ fn secrets_are_not_shown() {
     let opened = there.open(&sealed.envelope).unwrap();
     assert_eq!(format!("{opened:?}"), "Opened { group: 7, metadata: [67], count: 7, .. }");
 }
+
+/// The library has no globals, so sessions and tables go from thread to thread; one call at a time is what `&mut` says.
+#[test]
+fn sessions_and_tables_go_to_other_threads() {
+    fn goes<T: Send + Sync>(_: &T) {}
+    let (mut here, _) = Session::start(KEY).unwrap();
+    let (mut there, _) = Session::start(KEY).unwrap();
+    goes(&Table::new());
+    let sealed = std::thread::spawn(move || {
+        let envelopes: Vec<_> = (0..50).map(|i| here.seal(7, &plain(&[i; 99])).unwrap().envelope).collect();
+        (here, envelopes)
+    });
+    let (here, envelopes) = sealed.join().unwrap();
+    let opened = std::thread::spawn(move || {
+        envelopes.iter().zip(0..).for_each(|(envelope, i)| assert_eq!(there.open(envelope).unwrap().message, [i; 99]));
+        there
+    });
+    assert_eq!(*opened.join().unwrap().to_bytes(), *here.to_bytes());
+}
