@@ -15,7 +15,7 @@
 extern "C" {
 #endif
 
-/* The bytes of stack that pevghazo_wipe_stack overwrites, more than four times what the deepest call uses. */
+/* The bytes of stack that pevghazo_wipe_stack overwrites, more than three times what the deepest call uses. */
 enum { PEVGHAZO_STACK_BYTES = 8192 };
 
 /* Sets bytes to zero, also where nobody reads them afterwards. `memory` is not NULL, also where the length is 0. */

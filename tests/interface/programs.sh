@@ -7,8 +7,8 @@ for source in tests/interface.c tests/interface/helpers.c; do
   gcc -std=$standard $flags "$source" "$prefix/lib/libpevghazo.a" -o "$out/$name.archive"
   gcc -std=$standard $flags "$source" $shared -o "$out/$name.shared"
   readelf --dynamic "$out/$name.shared" | grep -q 'NEEDED.*\[libpevghazo.so.1\]' || fail "$name does not need the shared library"
-  said "$out/$name.archive"
-  said "$out/$name.shared"
+  if has clang; then clang -std=$standard $flags "$source" "$prefix/lib/libpevghazo.a" -o "$out/$name.clang"; fi
+  for program in "$out/$name".*; do said "$program"; done
 done
 
 # What stays in memory, also where the compiler sees all files at once.

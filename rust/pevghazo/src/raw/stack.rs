@@ -7,8 +7,8 @@
 use std::mem::MaybeUninit;
 use std::sync::atomic::{Ordering, compiler_fence};
 
-/// The bytes of stack that are overwritten. The deepest call takes less than 2,000, and less than 4,500 in a program that
-/// looks up the C library's functions at their first use; the test below measures it.
+/// The bytes of stack that are overwritten. The deepest call takes less than a third of them, as the test below measures; the
+/// rest is for programs that look up the C library's functions at their first use, which takes some 2,500 bytes more.
 const STACK_BYTES: usize = 8_192;
 
 /// Writes zeros to the stack below the caller's frame, and to the vector registers.
@@ -121,6 +121,6 @@ mod tests {
             println!("call {call}: {depth} bytes of stack");
             deepest = deepest.max(depth);
         }
-        assert!(deepest > 200 && deepest * 3 / 2 < STACK_BYTES, "{deepest} of {STACK_BYTES}: too little margin");
+        assert!(deepest > 200 && deepest * 3 < STACK_BYTES, "{deepest} of {STACK_BYTES}: too little margin");
     }
 }
