@@ -110,7 +110,7 @@ const GROUP: &[u8; 8] = b"group--1";
 impl State for Office {
     fn encode(&self) -> Vec<u8> {
         let mut bytes = OFFICE.to_vec();
-        bytes.extend(self.table.to_bytes());
+        bytes.extend_from_slice(&self.table.to_bytes());
         self.kept.iter().for_each(|kept| put_kept(&mut bytes, kept));
         bytes
     }
@@ -133,7 +133,7 @@ impl State for Group {
     fn encode(&self) -> Vec<u8> {
         let mut bytes = GROUP.to_vec();
         bytes.extend(self.group.to_le_bytes());
-        bytes.extend(self.session.to_bytes());
+        bytes.extend_from_slice(&self.session.to_bytes());
         put_kept(&mut bytes, &self.kept);
         bytes
     }

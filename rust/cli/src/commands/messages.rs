@@ -5,7 +5,7 @@
 
 use std::io::Write;
 
-use pevghazo::{Envelope, Number, Refusal, Sealed, envelope};
+use pevghazo::{Envelope, Number, Plain, Refusal, Sealed, envelope};
 
 use super::ENDS;
 use crate::arguments::Arguments;
@@ -45,11 +45,11 @@ impl End for Office {
     }
 
     fn seal(&mut self, group: u32, metadata: &[u8], message: &[u8]) -> Result<Sealed, Refusal> {
-        self.table.seal(group, metadata, message)
+        self.table.seal(group, &Plain { metadata, message })
     }
 
     fn unseal(&mut self, arrival: &Envelope) -> Result<Vec<u8>, Refusal> {
-        self.table.open(arrival.group, arrival.metadata, arrival.cryptogram, arrival.tag)
+        Ok(self.table.unwrap(arrival.group, &arrival.arrival())?.message)
     }
 
     fn kept(&mut self, group: u32) -> Result<&mut Kept, Refusal> {
@@ -72,12 +72,12 @@ impl End for Group {
         if group == self.group { Ok(()) } else { Err(Failure::OtherGroup { asked: group, own: self.group }) }
     }
 
-    fn seal(&mut self, _: u32, metadata: &[u8], message: &[u8]) -> Result<Sealed, Refusal> {
-        self.session.seal(metadata, message)
+    fn seal(&mut self, group: u32, metadata: &[u8], message: &[u8]) -> Result<Sealed, Refusal> {
+        self.session.seal(group, &Plain { metadata, message })
     }
 
     fn unseal(&mut self, arrival: &Envelope) -> Result<Vec<u8>, Refusal> {
-        self.session.open(arrival.metadata, arrival.cryptogram, arrival.tag)
+        Ok(self.session.unwrap(&arrival.arrival())?.message)
     }
 
     fn kept(&mut self, _: u32) -> Result<&mut Kept, Refusal> {
@@ -104,8 +104,7 @@ pub fn seal<E: End>(arguments: &Arguments, out: &mut dyn Write) -> Result<(), Fa
         )));
     }
     output.must_be_new()?;
-    let sealed = used.state.seal(group, &metadata, &message)?;
-    let bytes = envelope::write(group, &metadata, &sealed.cryptogram, &sealed.tag)?;
+    let bytes = used.state.seal(group, &metadata, &message)?.envelope;
     let length = bytes.len();
     used.state.kept(group)?.envelope = Some(Held::waiting(bytes));
     used.commit().map_err(|error| kept_envelope::<E>(group, error.into()))?;
