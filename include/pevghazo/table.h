@@ -55,22 +55,22 @@ PEVGHAZO_MUST_USE pevghazo_day pevghazo_no_day(void);
 PEVGHAZO_MUST_USE pevghazo_day pevghazo_start_day(uint32_t allowance);
 
 /* Checks 3, 4, 10. A fresh session takes the place of the group's; a refusal leaves it. */
-PEVGHAZO_MUST_USE pevghazo_group_answer pevghazo_open_group(pevghazo_session *sessions, size_t sessions_len, uint32_t group, pevghazo_day day,
+PEVGHAZO_MUST_USE pevghazo_group_answer pevghazo_open_group(pevghazo_session *table, size_t table_len, uint32_t group, pevghazo_day day,
                                                             const uint8_t *key, size_t key_len);
 
 /* Checks 3 and 5 to 10. */
-PEVGHAZO_MUST_USE pevghazo_group_answer pevghazo_wrap_group(pevghazo_session *sessions, size_t sessions_len, uint32_t group, pevghazo_day day,
+PEVGHAZO_MUST_USE pevghazo_group_answer pevghazo_wrap_group(pevghazo_session *table, size_t table_len, uint32_t group, pevghazo_day day,
                                                             const uint8_t *metadata, size_t metadata_len, const uint8_t *message,
                                                             size_t message_len, uint8_t *out, size_t out_len, uint8_t *tag, size_t tag_len);
 
 /* Checks 3 and 5 to 11. */
-PEVGHAZO_MUST_USE pevghazo_group_answer pevghazo_unwrap_group(pevghazo_session *sessions, size_t sessions_len, uint32_t group,
+PEVGHAZO_MUST_USE pevghazo_group_answer pevghazo_unwrap_group(pevghazo_session *table, size_t table_len, uint32_t group,
                                                               pevghazo_day day, const uint8_t *metadata, size_t metadata_len,
                                                               const uint8_t *cryptogram, size_t cryptogram_len, const uint8_t *tag,
                                                               size_t tag_len, uint8_t *out, size_t out_len);
 
 /* Check 3. An open group whose index is above the mark, or none only if there is none. */
-PEVGHAZO_MUST_USE pevghazo_found pevghazo_nearly_full(const pevghazo_session *sessions, size_t sessions_len, uint32_t mark);
+PEVGHAZO_MUST_USE pevghazo_found pevghazo_nearly_full(const pevghazo_session *table, size_t table_len, uint32_t mark);
 
 #ifdef __cplusplus
 }

@@ -49,16 +49,16 @@ unsafe extern "C" {
     fn pevghazo_no_day() -> Day;
     fn pevghazo_start_day(allowance: u32) -> Day;
     pub(super) fn pevghazo_open_group(
-        sessions: *mut Record,
-        sessions_len: usize,
+        table: *mut Record,
+        table_len: usize,
         group: u32,
         day: Day,
         key: *const u8,
         key_len: usize,
     ) -> GroupAnswer;
     pub(super) fn pevghazo_wrap_group(
-        sessions: *mut Record,
-        sessions_len: usize,
+        table: *mut Record,
+        table_len: usize,
         group: u32,
         day: Day,
         metadata: *const u8,
@@ -71,8 +71,8 @@ unsafe extern "C" {
         tag_len: usize,
     ) -> GroupAnswer;
     pub(super) fn pevghazo_unwrap_group(
-        sessions: *mut Record,
-        sessions_len: usize,
+        table: *mut Record,
+        table_len: usize,
         group: u32,
         day: Day,
         metadata: *const u8,
@@ -84,7 +84,7 @@ unsafe extern "C" {
         out: *mut u8,
         out_len: usize,
     ) -> GroupAnswer;
-    fn pevghazo_nearly_full(sessions: *const Record, sessions_len: usize, mark: u32) -> Found;
+    fn pevghazo_nearly_full(table: *const Record, table_len: usize, mark: u32) -> Found;
 }
 
 /// The day before the first: count and allowance are 0.
@@ -102,17 +102,17 @@ pub fn start_day(allowance: u32) -> Day {
 }
 
 /// Opens a group. Checks 3, 4 and 10; a refusal leaves the old session.
-pub fn open_group(sessions: &mut [Record], group: u32, day: Day, key: &[u8]) -> GroupAnswer {
+pub fn open_group(table: &mut [Record], group: u32, day: Day, key: &[u8]) -> GroupAnswer {
     // SAFETY: see the module's head.
     let answer =
-        unsafe { pevghazo_open_group(sessions.as_mut_ptr(), sessions.len(), group, day, key.as_ptr(), key.len()) };
+        unsafe { pevghazo_open_group(table.as_mut_ptr(), table.len(), group, day, key.as_ptr(), key.len()) };
     clear_stack();
     answer
 }
 
 /// Wraps for a group. Checks 3 and 5 to 10.
 pub fn wrap_group(
-    sessions: &mut [Record],
+    table: &mut [Record],
     group: u32,
     day: Day,
     metadata: &[u8],
@@ -123,8 +123,8 @@ pub fn wrap_group(
     // SAFETY: see the module's head.
     let answer = unsafe {
         pevghazo_wrap_group(
-            sessions.as_mut_ptr(),
-            sessions.len(),
+            table.as_mut_ptr(),
+            table.len(),
             group,
             day,
             metadata.as_ptr(),
@@ -143,7 +143,7 @@ pub fn wrap_group(
 
 /// Unwraps for a group. Checks 3 and 5 to 11.
 pub fn unwrap_group(
-    sessions: &mut [Record],
+    table: &mut [Record],
     group: u32,
     day: Day,
     metadata: &[u8],
@@ -154,8 +154,8 @@ pub fn unwrap_group(
     // SAFETY: see the module's head.
     let answer = unsafe {
         pevghazo_unwrap_group(
-            sessions.as_mut_ptr(),
-            sessions.len(),
+            table.as_mut_ptr(),
+            table.len(),
             group,
             day,
             metadata.as_ptr(),
@@ -173,9 +173,9 @@ pub fn unwrap_group(
 }
 
 /// An open group whose index is above the mark. Check 3.
-pub fn nearly_full(sessions: &[Record], mark: u32) -> Found {
+pub fn nearly_full(table: &[Record], mark: u32) -> Found {
     // SAFETY: see the module's head.
-    let found = unsafe { pevghazo_nearly_full(sessions.as_ptr(), sessions.len(), mark) };
+    let found = unsafe { pevghazo_nearly_full(table.as_ptr(), table.len(), mark) };
     clear_stack();
     found
 }
