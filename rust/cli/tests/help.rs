@@ -17,7 +17,7 @@ fn every_command_has_a_help_text_and_a_place_in_the_manual() {
     let list = folder.done("--help");
     let lines = list.lines().filter_map(|line| line.strip_prefix("  pevghazo "));
     let titles: Vec<&str> = lines.filter_map(|line| Some(line.split_once("  ")?.0.trim())).collect();
-    assert_eq!(titles.len(), 16, "{list}");
+    assert_eq!(titles.len(), 20, "{list}");
     for title in titles {
         let help = folder.done(&format!("{title} --help"));
         assert!(help.starts_with(&format!("pevghazo {title}: ")), "{help}");
@@ -27,7 +27,7 @@ fn every_command_has_a_help_text_and_a_place_in_the_manual() {
         let section = section.unwrap_or_else(|| panic!("the manual has no section on {title}"));
         let section = section.split("\n## ").next().unwrap();
         for option in options(&help) {
-            let common = ["--state", "--wait"].contains(&option);
+            let common = ["--state", "--wait", "--restore"].contains(&option);
             assert!(section.contains(option) || common, "{option} of {title} is not in the manual");
         }
         for option in options(section) {
@@ -45,7 +45,7 @@ fn every_command_has_a_help_text_and_a_place_in_the_manual() {
 #[test]
 fn the_manual_has_every_status() {
     let manual = include_str!("../../../docs/COMMANDS.md");
-    for status in [0, 2, 3, 4, 5, 6].into_iter().chain(11..=16).chain(19..=21) {
+    for status in (0..=8).filter(|status| *status != 1).chain(11..=16).chain(19..=21) {
         assert!(manual.contains(&format!("\n| {status} | ")), "{status}");
     }
 }

@@ -194,11 +194,16 @@ impl Store {
         new.fill(&format::encode(generation, bytes), steps).map_err(failed("write the new file of", &self.path))?;
         step("rename", || fs::rename(&new.path, &self.path)).map_err(failed("replace the file", &self.path))?;
         new.renamed();
-        self.bytes = Some(Secret::from(bytes));
+        let first = self.bytes.replace(Secret::from(bytes)).is_none();
         self.generation = generation;
         step("sync the folder", || self.folder.sync_all())
             .and_then(|()| self.lock.note(generation))
-            .map_err(|source| Error::NotSynced { path: self.path.clone(), source })
+            .map_err(|source| Error::NotSynced { path: self.path.clone(), source })?;
+        if first {
+            // Of a first commit that was killed. At worst they stay until the next opening.
+            let _ = remove_leftovers(&self.path);
+        }
+        Ok(())
     }
 
     /// [`Store::commit`], and then sets the bytes of the old file to zero on the disk, as far as the file system writes them to
