@@ -153,7 +153,7 @@ fn long(option: &[u8], tokens: &mut impl Iterator<Item = OsString>) -> Result<(&
     Ok((known, value))
 }
 
-/// Checks that all options are the command's own, and that none is missing.
+/// Checks that all options are the command's own, that none is missing, and that numbers are numbers.
 fn check(command: &'static Command, given: Given) -> Result<Arguments, Failure> {
     let mut own = Given::new();
     for (option, value) in given {
@@ -164,8 +164,13 @@ fn check(command: &'static Command, given: Given) -> Result<Arguments, Failure> 
         own.push((option, value));
     }
     let arguments = Arguments(own);
-    for option in command.options.iter().filter(|option| option.required) {
-        arguments.required(option.name)?;
+    for option in command.options {
+        if option.required {
+            arguments.required(option.name)?;
+        }
+        if matches!(option.value, Value::Number(..)) {
+            arguments.number(option.name)?;
+        }
     }
     Ok(arguments)
 }
@@ -199,13 +204,13 @@ mod tests {
 
     #[test]
     fn numbers_are_digits_within_32_bits() {
-        for (text, number) in [("0", Some(0)), ("4294967295", Some(u32::MAX)), ("4294967296", None), ("+1", None)] {
+        for (text, number) in [("0", 0), ("007", 7), ("4294967295", u32::MAX)] {
             let line = format!("office day --state f --allowance {text}");
-            assert_eq!(options(&line).required_number("allowance").ok(), number, "{text}");
+            assert_eq!(options(&line).required_number("allowance").ok(), Some(number), "{text}");
         }
-        for text in ["", "-1", "1.5", "0x10", "ten"] {
+        for text in ["", "-1", "+1", "1.5", "0x10", "ten", "4294967296"] {
             let line = format!("office day --state f --allowance={text}");
-            assert_eq!(options(&line).number("allowance").unwrap_err().status(), 2, "{text}");
+            assert_eq!(parsed(&line).unwrap_err().status(), 2, "{text}");
         }
     }
 
@@ -224,12 +229,8 @@ mod tests {
             assert!(said.starts_with(&format!("There is no command \"{word}\" here")), "{line}: {said}");
         }
         for group in ["-1", "x", "4294967296"] {
-            let said = options(&format!("office resend --state f --out o --group {group}")).number("group");
-            assert_eq!(
-                said.unwrap_err().to_string(),
-                "The option --group needs a number from 0 to 31, in digits.",
-                "{group}"
-            );
+            let said = parsed(&format!("office resend --state f --out o --group {group}")).unwrap_err().to_string();
+            assert_eq!(said, "The option --group needs a number from 0 to 31, in digits.", "{group}");
         }
     }
 

@@ -40,6 +40,18 @@ fn joined(words: impl Iterator<Item = String>) -> String {
     words.collect::<Vec<_>>().join(" ")
 }
 
+/// The names of all options whose value is such a one, as a pattern of a shell's `case`.
+fn with_value(value: fn(Value) -> bool) -> String {
+    let mut names: Vec<String> = Vec::new();
+    for option in COMMANDS.iter().flat_map(|command| command.options).filter(|option| value(option.value)) {
+        let name = format!("--{}", option.name);
+        if !names.contains(&name) {
+            names.push(name);
+        }
+    }
+    names.join("|")
+}
+
 fn bash() -> String {
     let mut text = String::from(
         "# Completions of pevghazo for bash; `pevghazo completions bash` prints them.\n\
@@ -53,16 +65,6 @@ fn bash() -> String {
                  case ${COMP_WORDS[i]} in\n            \
                      ",
     );
-    let with_value = |value: fn(Value) -> bool| {
-        let mut names: Vec<String> = Vec::new();
-        for option in COMMANDS.iter().flat_map(|command| command.options).filter(|option| value(option.value)) {
-            let name = format!("--{}", option.name);
-            if !names.contains(&name) {
-                names.push(name);
-            }
-        }
-        names.join("|")
-    };
     let _ = writeln!(text, "{}) skip=1 ;;", with_value(|value| value != Value::None));
     text.push_str("            -*) ;;\n");
     let _ = writeln!(
@@ -133,9 +135,11 @@ fn zsh_words(text: &mut String, label: &str, words: impl Iterator<Item = (&'stat
 fn zsh() -> String {
     let mut text = String::from(
         "#compdef pevghazo\n# Completions of pevghazo for zsh; `pevghazo completions zsh` prints them.\n\
-         _pevghazo() {\n    local -a words_of\n    local end='' name='' word\n    \
-         for word in ${words[2,CURRENT-1]}; do\n        case $word in\n            -*) ;;\n",
+         _pevghazo() {\n    local -a words_of\n    local end='' name='' word skip=''\n    \
+         for word in ${words[2,CURRENT-1]}; do\n        \
+         if [[ -n $skip ]]; then skip=''; continue; fi\n        case $word in\n",
     );
+    let _ = writeln!(text, "            {}) skip=1 ;;\n            -*) ;;", with_value(|value| value != Value::None));
     let _ = writeln!(text, "            {}) [[ -z $end$name ]] && end=$word ;;", ENDS.join("|"));
     text.push_str(
         "            *) [[ -z $name ]] && name=$word ;;\n        esac\n    done\n    case \"$end $name\" in\n        ' ') ",
