@@ -187,7 +187,8 @@ impl Store {
         if bytes.len() > MAX_BYTES {
             return Err(Error::TooLarge { path: self.path.clone(), bytes: bytes.len() as u64 });
         }
-        let generation = self.generation + 1;
+        // Only a forged file has the highest number; it then stays.
+        let generation = self.generation.saturating_add(1);
         let mut new = Temporary::create(&self.path, Kind::State, "create the new file")
             .map_err(failed("create a new file for", &self.path))?;
         let steps = ["write the first half", "write the second half", "sync the new file"];
