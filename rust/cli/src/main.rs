@@ -13,7 +13,7 @@
 //! | [`commands`] | what each command does |
 //! | [`end`] | the two ends, and their sealing and opening by the proved library |
 //! | [`state`] | what a state file holds, and its bytes |
-//! | [`fingerprint`] | by what a state file knows the keys that were used in it |
+//! | [`keys`] | the keys that were used in a state file, and their fingerprints |
 //! | [`state_file`] | opening, locking and committing a state file |
 //! | [`input`], [`output`] | files and standard streams; an output is written as a whole or not at all |
 //! | [`streams`] | the standard streams as the program was started with them |
@@ -25,9 +25,9 @@ mod commands;
 mod completions;
 mod end;
 mod failure;
-mod fingerprint;
 mod help;
 mod input;
+mod keys;
 mod output;
 mod state;
 mod state_file;

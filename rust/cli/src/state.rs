@@ -22,8 +22,7 @@
 use pevghazo::{GROUPS, HEADER_MAX, Number, Refusal, Session, TAG_LENGTH, TEXT_MAX, Table};
 use pevghazo_store::{Secret, wipe};
 
-use crate::failure::Failure;
-use crate::fingerprint::{self, Fingerprint};
+use crate::keys::{FINGERPRINT, Keys};
 
 /// The most bytes of an envelope.
 pub const ENVELOPE_MAX: usize = HEADER_MAX + 2 * TEXT_MAX + TAG_LENGTH;
@@ -65,35 +64,6 @@ pub struct Message {
     pub metadata: Secret,
     /// The message.
     pub text: Secret,
-}
-
-/// The keys that were used in a state file.
-#[derive(Debug, Default, PartialEq, Eq)]
-pub struct Keys(Vec<Fingerprint>);
-
-impl Keys {
-    /// The most keys of a state file.
-    pub const MOST: usize = 1 << 16;
-
-    /// How many they are.
-    pub fn count(&self) -> usize {
-        self.0.len()
-    }
-
-    /// Notes a key, and refuses one that was used before, unless that is wanted.
-    pub fn add(&mut self, key: &[u8], reuse: bool) -> Result<(), Failure> {
-        let fingerprint = fingerprint::of(key)?;
-        if self.0.contains(&fingerprint) {
-            return if reuse { Ok(()) } else { Err(Failure::UsedKey) };
-        }
-        if self.0.len() >= Keys::MOST {
-            return Err(Failure::NotNow(
-                "As many keys were used in this state file as it holds: begin a new one.".to_string(),
-            ));
-        }
-        self.0.push(fingerprint);
-        Ok(())
-    }
 }
 
 /// The office's state.
@@ -225,8 +195,8 @@ fn put_held<T>(bytes: &mut Secret, held: &Option<Held<T>>, put: impl FnOnce(&mut
 }
 
 fn put_keys(bytes: &mut Secret, keys: &Keys) {
-    bytes.add(&(keys.0.len() as u32).to_le_bytes());
-    keys.0.iter().for_each(|fingerprint| bytes.add(fingerprint));
+    bytes.add(&(keys.count() as u32).to_le_bytes());
+    keys.fingerprints().iter().for_each(|fingerprint| bytes.add(fingerprint));
 }
 
 /// A string with its length before it. All strings here are far shorter than 32 bits can say.
@@ -292,11 +262,11 @@ impl<'a> Reader<'a> {
             return Ok(Keys::default());
         }
         let count = self.count(Keys::MOST)?;
-        let mut keys = Vec::with_capacity(count.min(self.0.len() / fingerprint::BYTES));
+        let mut keys = Vec::with_capacity(count.min(self.0.len() / FINGERPRINT));
         for _ in 0..count {
-            keys.push(self.take(fingerprint::BYTES)?.try_into().map_err(|_| DAMAGED)?);
+            keys.push(self.take(FINGERPRINT)?.try_into().map_err(|_| DAMAGED)?);
         }
-        Ok(Keys(keys))
+        Ok(Keys::from(keys))
     }
 
     /// The state that was read, if nothing is left over.
@@ -354,7 +324,7 @@ mod tests {
     fn version_1_is_read_without_keys() {
         let group = group();
         let bytes = group.encode();
-        let keys = 4 + fingerprint::BYTES;
+        let keys = 4 + FINGERPRINT;
         let old = [OLD_GROUP, &bytes[8..bytes.len() - keys]].concat();
         let back = Group::decode(&old).unwrap();
         assert_eq!((back.group, back.kept, back.keys), (5, kept(40, 9), Keys::default()));
@@ -367,23 +337,9 @@ mod tests {
     }
 
     #[test]
-    fn a_key_is_taken_once_unless_it_is_wanted() {
-        let mut keys = Keys::default();
-        keys.add(&[7; 16], false).unwrap();
-        keys.add(&[8; 16], true).unwrap();
-        for key in [[7; 16], [8; 16]] {
-            assert_eq!(keys.add(&key, false).unwrap_err().status(), 7);
-            keys.add(&key, true).unwrap();
-        }
-        assert_eq!(keys.count(), 2);
-        keys.0.resize(Keys::MOST, [0; fingerprint::BYTES]);
-        assert_eq!(keys.add(&[9; 16], false).unwrap_err().status(), 5);
-    }
-
-    #[test]
     fn the_largest_state_fits_a_state_file() {
         let mut office = office();
-        office.keys.0.resize(Keys::MOST, [0; fingerprint::BYTES]);
+        office.keys = Keys::from(vec![[0; FINGERPRINT]; Keys::MOST]);
         for group in 0..GROUPS as u32 {
             *office.kept(group).unwrap() = kept(ENVELOPE_MAX, TEXT_MAX);
         }

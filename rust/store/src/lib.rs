@@ -62,6 +62,7 @@
 
 mod error;
 pub mod fault;
+mod file;
 mod format;
 mod lock;
 pub mod new_file;
@@ -70,20 +71,20 @@ mod secret;
 mod system;
 mod temporary;
 
-use std::ffi::OsString;
 use std::fs::{self, File, OpenOptions};
-use std::io::{ErrorKind, Read};
-use std::os::unix::fs::{FileExt, MetadataExt, OpenOptionsExt};
+use std::io::ErrorKind;
+use std::os::unix::fs::OpenOptionsExt;
 use std::path::{Path, PathBuf};
 use std::time::Duration;
 
 use error::failed;
 pub use error::{Damage, Error};
 use fault::step;
+use file::{beside, look, place_new, read, remove_leftovers, remove_second_names, resolve, wipe_file};
 pub use format::{MAX_BYTES, VERSION};
 use lock::Lock;
 pub use secret::Secret;
-use system::{NO_FOLLOW, NO_WAIT};
+use system::NO_FOLLOW;
 pub use system::{random, wipe, wipe_stack};
 use temporary::{Kind, Temporary};
 
@@ -148,6 +149,7 @@ impl Store {
             return Ok(Store { path, folder, bytes: None, generation, lock });
         }
         step("sync the folder at opening", || folder.sync_all()).map_err(failed("sync the folder", folder_path))?;
+        remove_second_names(&path)?;
         let (mut generation, bytes) = read(&path)?;
         match lock.number() {
             Some(last) if last > generation && !older => return Err(Error::Older { path, generation, last }),
@@ -193,9 +195,14 @@ impl Store {
             .map_err(failed("create a new file for", &self.path))?;
         let steps = ["write the first half", "write the second half", "sync the new file"];
         new.fill(&format::encode(generation, bytes), steps).map_err(failed("write the new file of", &self.path))?;
-        step("rename", || fs::rename(&new.path, &self.path)).map_err(failed("replace the file", &self.path))?;
+        let first = self.bytes.is_none();
+        step("rename", || if first { place_new(&new.path, &self.path) } else { fs::rename(&new.path, &self.path) })
+            .map_err(|error| match error.kind() {
+                ErrorKind::AlreadyExists => Error::Exists { path: self.path.clone() },
+                _ => failed("replace the file", &self.path)(error),
+            })?;
         new.renamed();
-        let first = self.bytes.replace(Secret::from(bytes)).is_none();
+        self.bytes = Some(Secret::from(bytes));
         self.generation = generation;
         step("sync the folder", || self.folder.sync_all())
             .and_then(|()| self.lock.note(generation))
@@ -215,127 +222,4 @@ impl Store {
         self.commit(bytes)?;
         wipe_file(&old).map_err(|source| Error::NotWiped { path: self.path.clone(), source })
     }
-}
-
-/// Overwrites a file that has no name any more.
-fn wipe_file(file: &File) -> std::io::Result<()> {
-    let metadata = file.metadata()?;
-    if metadata.nlink() != 0 {
-        return Err(ErrorKind::InvalidInput.into());
-    }
-    const ZEROS: [u8; 4_096] = [0; 4_096];
-    let mut place = 0;
-    while place < metadata.len() {
-        let length = ZEROS.len().min((metadata.len() - place) as usize);
-        step("wipe the old file", || file.write_all_at(&ZEROS[..length], place))?;
-        place += length as u64;
-    }
-    step("sync the old file", || file.sync_all())
-}
-
-/// The path with an ending after its name.
-fn beside(path: &Path, ending: &str) -> PathBuf {
-    let mut name = OsString::from(path);
-    name.push(ending);
-    PathBuf::from(name)
-}
-
-/// The path with symbolic links resolved, so that all names of a file lead to one lock. The file itself need not exist.
-fn resolve(path: &Path) -> Result<PathBuf, Error> {
-    match fs::symlink_metadata(path) {
-        Ok(metadata) if metadata.is_symlink() => fs::canonicalize(path).map_err(failed("follow the link", path)),
-        _ => {
-            let name = path.file_name().ok_or_else(|| Error::NotAFile { path: path.to_path_buf() })?;
-            let folder = match path.parent() {
-                Some(folder) if folder != Path::new("") => folder,
-                _ => Path::new("."),
-            };
-            Ok(fs::canonicalize(folder).map_err(failed("find the folder", folder))?.join(name))
-        }
-    }
-}
-
-/// Whether there is a state file, as it may be, must be or must not be. What is there is looked at, and nothing is altered.
-fn look(path: &Path, presence: Presence) -> Result<bool, Error> {
-    let there = match fs::symlink_metadata(path) {
-        Ok(_) => true,
-        Err(error) if error.kind() == ErrorKind::NotFound => false,
-        Err(error) => return Err(failed("look at the file", path)(error)),
-    };
-    if there {
-        let file = open(path)?;
-        if presence == Presence::MustBeNew {
-            return Err(Error::Exists { path: path.to_path_buf() });
-        }
-        starts_as_state(&file, true)
-            .map_err(failed("read the file", path))?
-            .then_some(true)
-            .ok_or_else(|| Error::Damaged { path: path.to_path_buf(), damage: Damage::Start })
-    } else if presence == Presence::MustExist {
-        Err(Error::Missing { path: path.to_path_buf() })
-    } else {
-        Ok(false)
-    }
-}
-
-/// Opens the state file for reading, if it is a file of this user alone.
-fn open(path: &Path) -> Result<File, Error> {
-    let named = fs::symlink_metadata(path).map_err(failed("look at the file", path))?;
-    if !named.is_file() {
-        return Err(Error::NotAFile { path: path.to_path_buf() });
-    }
-    let file = OpenOptions::new().read(true).custom_flags(NO_FOLLOW | NO_WAIT).open(path);
-    let file = file.map_err(failed("open the file", path))?;
-    let metadata = file.metadata().map_err(failed("look at the file", path))?;
-    if !metadata.is_file() {
-        return Err(Error::NotAFile { path: path.to_path_buf() });
-    }
-    if metadata.uid() != system::user() {
-        return Err(Error::OtherOwner { path: path.to_path_buf() });
-    }
-    Ok(file)
-}
-
-/// Whether a file starts as a state file does: with the whole start, or as far as it goes.
-fn starts_as_state(file: &File, whole: bool) -> std::io::Result<bool> {
-    let mut start = [0; format::START.len()];
-    let mut length = 0;
-    while length < start.len() {
-        match file.read_at(&mut start[length..], length as u64)? {
-            0 => break,
-            got => length += got,
-        }
-    }
-    Ok(format::starts_well(&start[..length]) && (!whole || length == start.len()))
-}
-
-/// Removes what a killed process left behind of a commit. Only the holder of the lock calls this, and only once the state file
-/// was found good.
-fn remove_leftovers(path: &Path) -> Result<(), Error> {
-    for (name, file) in temporary::found(path, Kind::State).map_err(failed("look for leftovers of", path))? {
-        if starts_as_state(&file, false).map_err(failed("read the leftover", &name))? {
-            step("remove a leftover", || fs::remove_file(&name)).map_err(failed("remove the leftover", &name))?;
-        }
-    }
-    Ok(())
-}
-
-/// Reads and checks the state file: its generation and its bytes.
-fn read(path: &Path) -> Result<(u64, Secret), Error> {
-    let file = open(path)?;
-    let metadata = file.metadata().map_err(failed("look at the file", path))?;
-    if metadata.nlink() != 1 {
-        return Err(Error::SecondName { path: path.to_path_buf() });
-    }
-    if metadata.mode() & 0o077 != 0 {
-        return Err(Error::OpenToOthers { path: path.to_path_buf() });
-    }
-    let most = format::encoded_length(MAX_BYTES);
-    if metadata.len() > most {
-        return Err(Error::TooLarge { path: path.to_path_buf(), bytes: metadata.len() });
-    }
-    let content =
-        step("read", || Secret::read(file.take(most + 1), usize::MAX)).map_err(failed("read the file", path))?;
-    let decoded = format::decode(&content).map_err(|damage| Error::Damaged { path: path.to_path_buf(), damage })?;
-    Ok((decoded.0, Secret::from(decoded.1)))
 }

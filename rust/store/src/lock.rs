@@ -20,12 +20,13 @@ use std::path::{Path, PathBuf};
 use std::thread::sleep;
 use std::time::{Duration, Instant};
 
+use crate::Wait;
 use crate::error::{Error, failed};
 use crate::fault::step;
+use crate::file::beside;
 use crate::format::crc64;
 use crate::system::{self, NO_FOLLOW, NO_WAIT};
 use crate::temporary::{OWNER_ONLY, is_at, owner_only};
-use crate::{Wait, beside};
 
 /// How each of the two records starts.
 const START: &[u8; 16] = b"pevghazo-lock\n\0\0";

@@ -150,3 +150,23 @@ fn a_lock_file_that_is_none_is_refused_and_left_alone() {
     fs::remove_file(&lock).unwrap();
     assert_eq!(get(&path), Some(b"a state".to_vec()));
 }
+
+/// A file that appears while the first commit is on its way keeps its place.
+#[test]
+fn the_first_commit_takes_the_place_of_nothing() {
+    let folder = Folder::new();
+    let path = folder.state();
+    let mut store = Store::open(&path, Presence::MustBeNew, Wait::Never).unwrap();
+    fs::write(&path, b"the user's own").unwrap();
+    assert!(matches!(store.commit(b"a state"), Err(Error::Exists { .. })));
+    assert_eq!(store.bytes(), None);
+    assert_eq!(fs::read(&path).unwrap(), b"the user's own");
+    fs::remove_file(&path).unwrap();
+    store.commit(b"a state").unwrap();
+    drop(store);
+    assert_eq!(get(&path), Some(b"a state".to_vec()));
+    // Where the commit is made by a link, a kill may leave the state file with a temporary name too.
+    fs::hard_link(&path, folder.0.join(".office.state.pevghazo-0123456789abcdef")).unwrap();
+    assert_eq!(get(&path), Some(b"a state".to_vec()));
+    assert_eq!(folder.names(), ["office.state", "office.state.lock"]);
+}

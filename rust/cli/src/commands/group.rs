@@ -5,8 +5,9 @@ use pevghazo::{Session, envelope};
 use crate::arguments::Arguments;
 use crate::failure::Failure;
 use crate::input;
+use crate::keys::Keys;
 use crate::output::tell;
-use crate::state::{Group, Kept, Keys, waits};
+use crate::state::{Group, Kept, waits};
 use crate::state_file::{Used, create};
 
 /// Starts the session, in a new state file or in the place of the old session.
