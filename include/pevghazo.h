@@ -3,10 +3,17 @@
  *     pevghazo/session.h    a lone session
  *     pevghazo/table.h      the office's table of 32 sessions, and its day
  *     pevghazo/envelope.h   the bytes in which a message travels
- *     pevghazo/numbers.h    the numbers of refusals, and limits; the others include it
+ *     pevghazo/stored.h     a session as bytes, for storing it
+ *     pevghazo/memory.h     setting secrets in memory to zero
+ *     pevghazo/numbers.h    the numbers of refusals, with a sentence for each, and limits; the others include it
+ *     pevghazo/version.h    the version
+ *     pevghazo/language.h   what differs between old C, later C and C++
  *
- * Every function takes any bytes and returns. Its number is 0 where the call was accepted, and otherwise the number of the first check that
- * it met (PEVGHAZO_* in numbers.h). A refusal has count 0 and leaves sessions, buffers and the day's count as they were, but for two:
+ * Proved for all bytes are the functions of session.h, table.h and envelope.h. The others are plain C, which is tested only:
+ * pevghazo_store_session, pevghazo_load_session, pevghazo_wipe, pevghazo_wipe_stack, pevghazo_number_text and pevghazo_version.
+ *
+ * Every proved function takes any bytes and returns. Its number is 0 where the call was accepted, and otherwise the number of the first check
+ * that it met (PEVGHAZO_* in numbers.h). A refusal has count 0 and leaves sessions, buffers and the day's count as they were, but for two:
  *
  *   - A refused pevghazo_start closes the record that it was lent. The session that the record held is lost with all that it could still
  *     seal or open; no call gives it back. Who wants to keep it until the new one has started hands over another record. (A refused
@@ -14,16 +21,26 @@
  *   - Number 11 returns the real count, adds it to the day's count in the table, and sets the first bytes of the output buffer, as many as
  *     the cryptogram has, to zero. The session stays as it was.
  *
- * On success the bytes of a buffer beyond the text keep their content.
+ * On success the bytes of a buffer beyond the text keep their content. A refused wrap leaves the output buffer as it was, so a program that
+ * does not look at the number might send what stood there before: compilers warn of it (PEVGHAZO_MUST_USE).
  *
- * Pointers are not NULL, also where a length is 0. A buffer or a record that is written to overlaps no other argument. A `bool` holds 0 or 1.
+ * Pointers are not NULL, also where a length is 0. A `pevghazo_flag` holds 0 or 1.
+ *
+ * In place: a buffer or a record that is written to overlaps no other argument, so a message cannot be wrapped into its own buffer. Hand over
+ * a second buffer for the output, copy it back where it is wanted, and pevghazo_wipe the one that held the message.
+ *
+ * Threads: the library has no globals and allocates nothing, so any number of threads may call it at once. A record, a table and a buffer are
+ * used by one call at a time: who shares one between threads takes a lock around the call.
  */
 #ifndef PEVGHAZO_H
 #define PEVGHAZO_H
 
 #include "pevghazo/envelope.h"
+#include "pevghazo/memory.h"
 #include "pevghazo/numbers.h"
 #include "pevghazo/session.h"
+#include "pevghazo/stored.h"
 #include "pevghazo/table.h"
+#include "pevghazo/version.h"
 
 #endif

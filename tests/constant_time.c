@@ -3,23 +3,26 @@
  * Valgrind's memcheck follows every bit that was never set, and reports a branch or an address that depends on one. Here the secrets are
  * marked so: the key, the lanes of a record, and the message, before they are handed to the library. Start and wrap must give no report.
  * Unwrap may give one, once in a call: its verdict on the tag, which everybody may know. tests/constant_time.sh runs this, once for lone
- * sessions and once for a group of a table, and checks that all these reports come from one branch.
+ * sessions and once for a group of a table, and checks that all these reports come from one branch. The lengths go up to the limit of
+ * 16,384 bytes. A second argument N plants a leak in every wrap of a message of more than N bytes, which must be seen.
  *
  * A record's index, toggle and openness and all lengths are no secrets: anybody who sees the messages can count them. Metadata,
  * cryptograms and tags travel in the clear. */
-#include "../include/pevghazo.h"
+#include <pevghazo.h>
 #include <stdio.h>
 #include <stdlib.h>
 #include <string.h>
 #include <valgrind/memcheck.h>
 
-enum { LONGEST = 1024, ROOM = LONGEST + 16 };
+enum { LONGEST = PEVGHAZO_TEXT_MAX, ROOM = LONGEST + 16 };
 
 /* The bytes of a record from its index on, which are no secret. */
 enum { PUBLIC = offsetof(pevghazo_session, opened) + 1 - offsetof(pevghazo_session, index) };
 
-static const size_t lengths[] = {0, 1, 16, 47, 48, 49, 95, 96, 97, 200, LONGEST};
-enum { LENGTHS = sizeof lengths / sizeof lengths[0] };
+/* Short lengths, of which all pairs are tried, and long ones, each with itself, none and one block; 16,320 bytes are 340 whole blocks. */
+static const size_t lengths[] = {0, 1, 16, 47, 48, 49, 95, 96, 97, 200, 1024};
+static const size_t long_lengths[] = {1025, 5000, 16320, LONGEST - 1, LONGEST};
+enum { LENGTHS = sizeof lengths / sizeof lengths[0], LONG_LENGTHS = sizeof long_lengths / sizeof long_lengths[0] };
 
 static const char *doing = "";
 static unsigned verdicts, calls;
@@ -74,6 +77,9 @@ __attribute__((noinline)) static void leak_by_branch(const volatile uint8_t *sec
 }
 
 __attribute__((noinline)) static void leak_by_address(const volatile uint8_t *secret, const volatile uint8_t *table) { sink = table[*secret]; }
+
+/* Messages longer than this leak their last byte. */
+static size_t planted = SIZE_MAX;
 
 static void leaks_are_seen(void) {
     static uint8_t table[256];
@@ -134,6 +140,7 @@ static void wrap(bool for_group, size_t a, size_t m) {
         answer = pevghazo_wrap(s, metadata, a, message, m, cryptogram, ROOM, tag, sizeof tag);
         is_public(&answer, sizeof answer, "the answer depends on a secret");
     }
+    if (m > planted) leak_by_branch(&message[m - 1]);
     no_report();
     is_public(&s->index, PUBLIC, "index, toggle or openness depend on a secret");
     if (answer.number != 0) fail("refused");
@@ -173,39 +180,65 @@ static void unwrap(bool for_group, size_t a, size_t m, unsigned wrong) {
     if (wrong >= 256 && memcmp(back, message, m) != 0) fail("the message does not come back");
 }
 
-/* Both ends of a session are played in turn with one record: what it was before a wrap is put back for the unwrap. */
-static void messages(bool for_group) {
+/* Storing and loading, plain C beside the proved library. */
+static void store_and_load(void) {
+    static uint8_t bytes[PEVGHAZO_SESSION_BYTES];
     pevghazo_session *s = &table[group];
-    for (int i = 0; i < LENGTHS; i++) {
-        for (int j = 0; j < LENGTHS; j++) {
-            static char text[64];
-            size_t a = lengths[i], m = lengths[j];
-            pevghazo_session before;
-            reveal(s, sizeof *s);
-            before = *s;
-            doing = text;
-            snprintf(text, sizeof text, "wrap, %zu and %zu bytes", a, m);
-            wrap(for_group, a, m);
-            snprintf(text, sizeof text, "unwrap, %zu and %zu bytes", a, m);
-            *s = before;
-            unwrap(for_group, a, m, (unsigned)(i * LENGTHS + j) * 2 % 256);
-            *s = before;
-            unwrap(for_group, a, m, 256);
+    doing = "store and load";
+    hide_lanes(s);
+    reports();
+    if (pevghazo_store_session(s, bytes, sizeof bytes) != PEVGHAZO_ACCEPTED) fail("storing is refused");
+    no_report();
+    is_secret(bytes, sizeof s->acc + sizeof s->mask, "the stored bytes do not depend on the session");
+    if (pevghazo_load_session(s, bytes, sizeof bytes) != PEVGHAZO_ACCEPTED) fail("loading is refused");
+    no_report();
+    is_public(&s->index, PUBLIC, "index, toggle or openness depend on a secret");
+}
+
+/* Both ends of a session are played in turn with one record: what it was before a wrap is put back for the unwrap. */
+static void message_of(bool for_group, size_t a, size_t m) {
+    static char text[64];
+    static unsigned wrong;
+    pevghazo_session *s = &table[group], before;
+    reveal(s, sizeof *s);
+    before = *s;
+    doing = text;
+    snprintf(text, sizeof text, "wrap, %zu and %zu bytes", a, m);
+    wrap(for_group, a, m);
+    snprintf(text, sizeof text, "unwrap, %zu and %zu bytes", a, m);
+    *s = before;
+    unwrap(for_group, a, m, wrong);
+    wrong = (wrong + 2) % 256;
+    *s = before;
+    unwrap(for_group, a, m, 256);
+}
+
+static void messages(bool for_group) {
+    for (int i = 0; i < LONG_LENGTHS; i++) {
+        const size_t n = long_lengths[i], with[] = {0, 48};
+        message_of(for_group, n, n);
+        for (int j = 0; j < 2; j++) {
+            message_of(for_group, n, with[j]);
+            message_of(for_group, with[j], n);
         }
     }
+    for (int i = 0; i < LENGTHS; i++)
+        for (int j = 0; j < LENGTHS; j++) message_of(for_group, lengths[i], lengths[j]);
 }
 
 int main(int argc, char **argv) {
-    bool for_group = argc == 2 && strcmp(argv[1], "group") == 0;
-    if (!RUNNING_ON_VALGRIND || (!for_group && (argc != 2 || strcmp(argv[1], "lone") != 0))) {
+    bool for_group = argc > 1 && strcmp(argv[1], "group") == 0;
+    if (!RUNNING_ON_VALGRIND || argc < 2 || argc > 3 || (!for_group && strcmp(argv[1], "lone") != 0)) {
         fprintf(stderr, "constant time: run tests/constant_time.sh, which runs this under valgrind for lone sessions and for a group\n");
         return 2;
     }
+    if (argc == 3) planted = (size_t)strtoul(argv[2], NULL, 10);
     for (int i = 0; i < ROOM; i++) metadata[i] = (uint8_t)(3 * i), message[i] = (uint8_t)(5 * i + 1);
     leaks_are_seen();
     day = pevghazo_start_day(UINT32_MAX);
     doing = for_group ? "open a group" : "start";
     for (size_t n = PEVGHAZO_KEY_MIN; n <= PEVGHAZO_KEY_MAX; n++) start(for_group, n);
+    store_and_load();
     messages(for_group);
     printf("constant time, %s: %u calls, %u verdicts on tags seen, nothing else\n", argv[1], calls, verdicts);
     return 0;

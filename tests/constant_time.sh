@@ -1,6 +1,6 @@
 #!/usr/bin/env bash
 # Runs tests/constant_time.c under valgrind, for lone sessions and for a group. It fails where a branch or an address depends on a secret,
-# but for the verdict on the tag, which is a single branch.
+# but for the verdict on the tag, which is a single branch. Leaks planted in long messages only must be seen, too.
 set -eu
 cd "$(dirname "$0")/.."
 lib=${PEVGHAZO_LIB_DIR:-target/staticlib}
@@ -13,10 +13,22 @@ command -v valgrind >/dev/null || fail "valgrind is missing (Debian package valg
 [ -f "$lib/libcapi.a" ] || fail "$lib/libcapi.a is missing: run 'make lib'"
 mkdir -p "$out"
 echo '#include <valgrind/memcheck.h>' | gcc -fsyntax-only -x c - 2>/dev/null || fail "valgrind/memcheck.h is missing (Debian package valgrind)"
-gcc -O1 -g -std=gnu11 -Wall -Wextra tests/constant_time.c "$lib/libcapi.a" -o "$out/constant_time"
-for who in lone group; do
+gcc -O2 -g -std=c89 -Iinclude -c c/stored.c -o "$out/stored.o"
+gcc -O1 -g -std=gnu11 -Wall -Wextra -Iinclude tests/constant_time.c "$out/stored.o" "$lib/libcapi.a" -o "$out/constant_time"
+run() { # LOG WORDS ..
   # The library has no tables for walking its stack, so reports are told apart by their innermost function alone.
-  valgrind --quiet --expensive-definedness-checks=yes --error-limit=no --num-callers=1 --log-file="$out/$who" "$out/constant_time" "$who" || {
+  valgrind --quiet --expensive-definedness-checks=yes --error-limit=no --num-callers=1 --log-file="$1" "$out/constant_time" "${@:2}"
+}
+# Leaks made on purpose in messages above a length.
+for above in 1024 16383; do
+  if run "$out/planted" lone $above >"$out/said" 2>&1; then fail "a leak in messages above $above bytes was not seen"; fi
+  grep -q 'wrap, .* bytes: a branch or an address depends on a secret' "$out/said" || {
+    cat "$out/said" >&2
+    fail "with a leak in messages above $above bytes another thing failed"
+  }
+done
+for who in lone group; do
+  run "$out/$who" "$who" || {
     tail -n 3 "$out/$who" >&2
     fail "failed; all reports are in $out/$who, the last one is the one that it stopped at"
   }

@@ -1,17 +1,9 @@
-/* What a C program sees of the installed library: the layouts that other languages rely on, the table and the day of zeros, what a refused
- * start leaves, and a message from the office to a group and back. */
+/* What a C program sees of the installed library: the table and the day of zeros, what a refused start leaves, and a message from the office to
+ * a group and back. */
 #include <pevghazo.h>
 #include <stdio.h>
 #include <stdlib.h>
 #include <string.h>
-
-_Static_assert(sizeof(pevghazo_session) == 104 && offsetof(pevghazo_session, mask) == 48, "session");
-_Static_assert(offsetof(pevghazo_session, index) == 96 && offsetof(pevghazo_session, toggle) == 100, "session");
-_Static_assert(offsetof(pevghazo_session, opened) == 101, "session");
-_Static_assert(sizeof(pevghazo_answer) == 8 && sizeof(pevghazo_day) == 8 && sizeof(pevghazo_group_answer) == 16, "answers");
-_Static_assert(sizeof(pevghazo_found) == 12 && offsetof(pevghazo_found, group) == 8, "found");
-_Static_assert(sizeof(pevghazo_parts) == 40 && offsetof(pevghazo_parts, metadata) == 8 && offsetof(pevghazo_parts, place) == 32, "parts");
-_Static_assert(sizeof(pevghazo_written) == 16 && offsetof(pevghazo_written, len) == 8, "written");
 
 static void check(const char *what, uint32_t found, uint32_t expected) {
     if (found == expected) return;
@@ -31,11 +23,11 @@ static void zeros(void) {
     memset(&day, 0, sizeof day);
     check("the day before the first", (uint32_t)memcmp(&none, &day, sizeof day), 0);
     for (uint32_t group = 0; group < PEVGHAZO_GROUPS; group++) {
-        check("sealing before a group is opened",
+        check("wrapping before a group is opened",
               pevghazo_wrap_group(office, PEVGHAZO_GROUPS, group, pevghazo_start_day(UINT32_MAX), metadata, metadata_len, message, message_len, out,
                                   sizeof out, tag, sizeof tag).number,
               PEVGHAZO_NOT_OPEN);
-        check("opening a message before a group is opened",
+        check("unwrapping before a group is opened",
               pevghazo_unwrap_group(office, PEVGHAZO_GROUPS, group, pevghazo_start_day(UINT32_MAX), metadata, metadata_len, message, message_len, tag,
                                     sizeof tag, out, sizeof out).number,
               PEVGHAZO_NOT_OPEN);
@@ -70,16 +62,16 @@ static void refused_start(void) {
 static void both_ways(void) {
     static pevghazo_session office[PEVGHAZO_GROUPS], group; /* all zero: closed sessions */
 
-    /* The office begins a day, opens group 7 and seals a message for it. */
+    /* The office begins a day, opens group 7 and wraps a message for it. */
     pevghazo_day day = pevghazo_start_day(1000);
     pevghazo_group_answer opened = pevghazo_open_group(office, PEVGHAZO_GROUPS, 7, day, key, key_len);
     check("opening a group", opened.number, PEVGHAZO_ACCEPTED);
     uint8_t cryptogram[sizeof message], tag[PEVGHAZO_TAG_LENGTH];
-    pevghazo_group_answer sealed = pevghazo_wrap_group(office, PEVGHAZO_GROUPS, 7, opened.day, metadata, metadata_len, message, message_len,
+    pevghazo_group_answer wrapped = pevghazo_wrap_group(office, PEVGHAZO_GROUPS, 7, opened.day, metadata, metadata_len, message, message_len,
                                                        cryptogram, sizeof cryptogram, tag, sizeof tag);
-    check("sealing", sealed.number, PEVGHAZO_ACCEPTED);
-    check("the count of sealing", sealed.count, 7);
-    check("the day's count", sealed.day.spent, 8);
+    check("wrapping", wrapped.number, PEVGHAZO_ACCEPTED);
+    check("the count of wrapping", wrapped.count, 7);
+    check("the day's count", wrapped.day.spent, 8);
 
     /* It travels in an envelope. */
     uint8_t envelope[PEVGHAZO_HEADER_MAX + sizeof metadata + sizeof message + PEVGHAZO_TAG_LENGTH];
@@ -91,24 +83,24 @@ static void both_ways(void) {
     check("the envelope's group", parts.group, 7);
     check("reading half an envelope", pevghazo_read_envelope(envelope, written.len - 1).number, PEVGHAZO_TOO_FEW_BYTES);
 
-    /* The group opens it once, and a second time it is refused. */
+    /* The group unwraps it once, and a second time it is refused. */
     uint8_t out[sizeof message];
     check("starting", pevghazo_start(&group, key, key_len).number, PEVGHAZO_ACCEPTED);
     const uint32_t expected[2] = {PEVGHAZO_ACCEPTED, PEVGHAZO_WRONG_TAG};
     for (int i = 0; i < 2; i++) {
         pevghazo_answer answer = pevghazo_unwrap(&group, envelope + parts.metadata, parts.cryptogram - parts.metadata, envelope + parts.cryptogram,
                                                  parts.tag - parts.cryptogram, envelope + parts.tag, parts.place - parts.tag, out, sizeof out);
-        check("opening the message", answer.number, expected[i]);
-        check("the count of opening", answer.count, 7);
+        check("unwrapping the message", answer.number, expected[i]);
+        check("the count of unwrapping", answer.count, 7);
         if (i == 0) check("the message", (uint32_t)memcmp(out, message, message_len), 0);
     }
 
     /* The group answers, and the office asks which group is nearly full. */
     pevghazo_answer back = pevghazo_wrap(&group, metadata, metadata_len, message, 0, out, sizeof out, tag, sizeof tag);
-    check("sealing an answer", back.number, PEVGHAZO_ACCEPTED);
-    pevghazo_group_answer arrived = pevghazo_unwrap_group(office, PEVGHAZO_GROUPS, 7, sealed.day, metadata, metadata_len, out, 0, tag, sizeof tag, out,
+    check("wrapping an answer", back.number, PEVGHAZO_ACCEPTED);
+    pevghazo_group_answer arrived = pevghazo_unwrap_group(office, PEVGHAZO_GROUPS, 7, wrapped.day, metadata, metadata_len, out, 0, tag, sizeof tag, out,
                                                           sizeof out);
-    check("opening the answer", arrived.number, PEVGHAZO_ACCEPTED);
+    check("unwrapping the answer", arrived.number, PEVGHAZO_ACCEPTED);
     check("the ends' records", (uint32_t)memcmp(office[7].acc, group.acc, sizeof group.acc), 0);
     pevghazo_found full = pevghazo_nearly_full(office, PEVGHAZO_GROUPS, 5);
     check("the nearly-full question", full.number, PEVGHAZO_ACCEPTED);

@@ -3,8 +3,6 @@
 #define PEVGHAZO_ENVELOPE_H
 
 #include "numbers.h"
-#include <stddef.h>
-#include <stdint.h>
 
 #ifdef __cplusplus
 extern "C" {
@@ -24,18 +22,28 @@ typedef struct pevghazo_parts {
     size_t place;
 } pevghazo_parts;
 
+PEVGHAZO_LAYOUT(parts, sizeof(pevghazo_parts) == 40);
+PEVGHAZO_LAYOUT(parts_group, offsetof(pevghazo_parts, group) == 4);
+PEVGHAZO_LAYOUT(parts_metadata, offsetof(pevghazo_parts, metadata) == 8);
+PEVGHAZO_LAYOUT(parts_cryptogram, offsetof(pevghazo_parts, cryptogram) == 16);
+PEVGHAZO_LAYOUT(parts_tag, offsetof(pevghazo_parts, tag) == 24);
+PEVGHAZO_LAYOUT(parts_place, offsetof(pevghazo_parts, place) == 32);
+
 /* An envelope as it was written: the number, and how many bytes it has, or 0. */
 typedef struct pevghazo_written {
     uint32_t number;
     size_t len;
 } pevghazo_written;
 
+PEVGHAZO_LAYOUT(written, sizeof(pevghazo_written) == 16 && offsetof(pevghazo_written, len) == 8);
+
 /* Checks 1 and 2. More bytes may follow the envelope. */
-pevghazo_parts pevghazo_read_envelope(const uint8_t *bytes, size_t bytes_len);
+PEVGHAZO_MUST_USE pevghazo_parts pevghazo_read_envelope(const uint8_t *bytes, size_t bytes_len);
 
 /* Checks 3, 6, 7, 8. */
-pevghazo_written pevghazo_write_envelope(uint32_t group, const uint8_t *metadata, size_t metadata_len, const uint8_t *cryptogram,
-                                         size_t cryptogram_len, const uint8_t *tag, size_t tag_len, uint8_t *out, size_t out_len);
+PEVGHAZO_MUST_USE pevghazo_written pevghazo_write_envelope(uint32_t group, const uint8_t *metadata, size_t metadata_len,
+                                                           const uint8_t *cryptogram, size_t cryptogram_len, const uint8_t *tag,
+                                                           size_t tag_len, uint8_t *out, size_t out_len);
 
 #ifdef __cplusplus
 }

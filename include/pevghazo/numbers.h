@@ -2,6 +2,12 @@
 #ifndef PEVGHAZO_NUMBERS_H
 #define PEVGHAZO_NUMBERS_H
 
+#include "language.h"
+
+#ifdef __cplusplus
+extern "C" {
+#endif
+
 /* Numbers, in the order in which they are checked. */
 enum {
     PEVGHAZO_ACCEPTED = 0,
@@ -24,5 +30,13 @@ enum {
     PEVGHAZO_TAG_LENGTH = 32,
     PEVGHAZO_TEXT_MAX = 16384
 };
+
+/* A plain English sentence for a number, also for those of stored.h; never NULL, also where there is no such number. It must not be altered
+ * or freed. Plain C and not proved. */
+const char *pevghazo_number_text(uint32_t number);
+
+#ifdef __cplusplus
+}
+#endif
 
 #endif

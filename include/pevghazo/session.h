@@ -3,9 +3,6 @@
 #define PEVGHAZO_SESSION_H
 
 #include "numbers.h"
-#include <stdbool.h>
-#include <stddef.h>
-#include <stdint.h>
 
 #ifdef __cplusplus
 extern "C" {
@@ -24,9 +21,16 @@ typedef struct pevghazo_session {
     uint32_t acc[12];
     uint32_t mask[12];
     uint32_t index;
-    bool toggle;
-    bool opened;
+    pevghazo_flag toggle;
+    pevghazo_flag opened;
 } pevghazo_session;
+
+PEVGHAZO_LAYOUT(session, sizeof(pevghazo_session) == 104);
+PEVGHAZO_LAYOUT(session_acc, offsetof(pevghazo_session, acc) == 0);
+PEVGHAZO_LAYOUT(session_mask, offsetof(pevghazo_session, mask) == 48);
+PEVGHAZO_LAYOUT(session_index, offsetof(pevghazo_session, index) == 96);
+PEVGHAZO_LAYOUT(session_toggle, offsetof(pevghazo_session, toggle) == 100);
+PEVGHAZO_LAYOUT(session_opened, offsetof(pevghazo_session, opened) == 101);
 
 /* What a call on a lone session gives: its number, and the permutations done. */
 typedef struct pevghazo_answer {
@@ -34,16 +38,20 @@ typedef struct pevghazo_answer {
     uint32_t count;
 } pevghazo_answer;
 
+PEVGHAZO_LAYOUT(answer, sizeof(pevghazo_answer) == 8 && offsetof(pevghazo_answer, count) == 4);
+
 /* Check 4. A fresh session takes the record's place. A refused start closes the record: a session that was open in it is lost. */
-pevghazo_answer pevghazo_start(pevghazo_session *session, const uint8_t *key, size_t key_len);
+PEVGHAZO_MUST_USE pevghazo_answer pevghazo_start(pevghazo_session *session, const uint8_t *key, size_t key_len);
 
 /* Checks 5 to 9. The cryptogram goes to the start of `out`, the tag fills `tag`. */
-pevghazo_answer pevghazo_wrap(pevghazo_session *session, const uint8_t *metadata, size_t metadata_len, const uint8_t *message,
-                              size_t message_len, uint8_t *out, size_t out_len, uint8_t *tag, size_t tag_len);
+PEVGHAZO_MUST_USE pevghazo_answer pevghazo_wrap(pevghazo_session *session, const uint8_t *metadata, size_t metadata_len,
+                                                const uint8_t *message, size_t message_len, uint8_t *out, size_t out_len, uint8_t *tag,
+                                                size_t tag_len);
 
 /* Checks 5 to 9 and 11. The message goes to the start of `out`. */
-pevghazo_answer pevghazo_unwrap(pevghazo_session *session, const uint8_t *metadata, size_t metadata_len, const uint8_t *cryptogram,
-                                size_t cryptogram_len, const uint8_t *tag, size_t tag_len, uint8_t *out, size_t out_len);
+PEVGHAZO_MUST_USE pevghazo_answer pevghazo_unwrap(pevghazo_session *session, const uint8_t *metadata, size_t metadata_len,
+                                                  const uint8_t *cryptogram, size_t cryptogram_len, const uint8_t *tag, size_t tag_len,
+                                                  uint8_t *out, size_t out_len);
 
 #ifdef __cplusplus
 }

@@ -24,6 +24,8 @@ typedef struct pevghazo_day {
     uint32_t allowance;
 } pevghazo_day;
 
+PEVGHAZO_LAYOUT(day, sizeof(pevghazo_day) == 8 && offsetof(pevghazo_day, allowance) == 4);
+
 /* What a call for a group gives: its number, the permutations done, and the day after it. */
 typedef struct pevghazo_group_answer {
     uint32_t number;
@@ -31,35 +33,44 @@ typedef struct pevghazo_group_answer {
     pevghazo_day day;
 } pevghazo_group_answer;
 
+PEVGHAZO_LAYOUT(group_answer, sizeof(pevghazo_group_answer) == 16);
+PEVGHAZO_LAYOUT(group_answer_count, offsetof(pevghazo_group_answer, count) == 4);
+PEVGHAZO_LAYOUT(group_answer_day, offsetof(pevghazo_group_answer, day) == 8);
+
 /* What the nearly-full question gives: its number, whether there is such a group, and the group, or 0. */
 typedef struct pevghazo_found {
     uint32_t number;
-    bool found;
+    pevghazo_flag found;
     uint32_t group;
 } pevghazo_found;
 
+PEVGHAZO_LAYOUT(found, sizeof(pevghazo_found) == 12);
+PEVGHAZO_LAYOUT(found_found, offsetof(pevghazo_found, found) == 4);
+PEVGHAZO_LAYOUT(found_group, offsetof(pevghazo_found, group) == 8);
+
 /* The day before the first: count and allowance are 0, so no call for a group is accepted. Never refused. */
-pevghazo_day pevghazo_no_day(void);
+PEVGHAZO_MUST_USE pevghazo_day pevghazo_no_day(void);
 
 /* A day begins with this allowance and a count of 0. Never refused. */
-pevghazo_day pevghazo_start_day(uint32_t allowance);
+PEVGHAZO_MUST_USE pevghazo_day pevghazo_start_day(uint32_t allowance);
 
 /* Checks 3, 4, 10. A fresh session takes the place of the group's; a refusal leaves it. */
-pevghazo_group_answer pevghazo_open_group(pevghazo_session *sessions, size_t sessions_len, uint32_t group, pevghazo_day day,
-                                          const uint8_t *key, size_t key_len);
+PEVGHAZO_MUST_USE pevghazo_group_answer pevghazo_open_group(pevghazo_session *sessions, size_t sessions_len, uint32_t group, pevghazo_day day,
+                                                            const uint8_t *key, size_t key_len);
 
 /* Checks 3 and 5 to 10. */
-pevghazo_group_answer pevghazo_wrap_group(pevghazo_session *sessions, size_t sessions_len, uint32_t group, pevghazo_day day,
-                                          const uint8_t *metadata, size_t metadata_len, const uint8_t *message, size_t message_len,
-                                          uint8_t *out, size_t out_len, uint8_t *tag, size_t tag_len);
+PEVGHAZO_MUST_USE pevghazo_group_answer pevghazo_wrap_group(pevghazo_session *sessions, size_t sessions_len, uint32_t group, pevghazo_day day,
+                                                            const uint8_t *metadata, size_t metadata_len, const uint8_t *message,
+                                                            size_t message_len, uint8_t *out, size_t out_len, uint8_t *tag, size_t tag_len);
 
 /* Checks 3 and 5 to 11. */
-pevghazo_group_answer pevghazo_unwrap_group(pevghazo_session *sessions, size_t sessions_len, uint32_t group, pevghazo_day day,
-                                            const uint8_t *metadata, size_t metadata_len, const uint8_t *cryptogram,
-                                            size_t cryptogram_len, const uint8_t *tag, size_t tag_len, uint8_t *out, size_t out_len);
+PEVGHAZO_MUST_USE pevghazo_group_answer pevghazo_unwrap_group(pevghazo_session *sessions, size_t sessions_len, uint32_t group,
+                                                              pevghazo_day day, const uint8_t *metadata, size_t metadata_len,
+                                                              const uint8_t *cryptogram, size_t cryptogram_len, const uint8_t *tag,
+                                                              size_t tag_len, uint8_t *out, size_t out_len);
 
 /* Check 3. An open group whose index is above the mark, or none only if there is none. */
-pevghazo_found pevghazo_nearly_full(const pevghazo_session *sessions, size_t sessions_len, uint32_t mark);
+PEVGHAZO_MUST_USE pevghazo_found pevghazo_nearly_full(const pevghazo_session *sessions, size_t sessions_len, uint32_t mark);
 
 #ifdef __cplusplus
 }

@@ -1,6 +1,6 @@
 //! The two ends of sessions, for the commands that both have: sealing and opening by the proved library.
 
-use pevghazo::{Envelope, Refusal, envelope};
+use pevghazo::{Envelope, Plain, Refusal};
 use pevghazo_store::Secret;
 
 use crate::arguments::Arguments;
@@ -38,12 +38,11 @@ impl End for Office {
     }
 
     fn seal(&mut self, group: u32, metadata: &[u8], message: &[u8]) -> Result<Vec<u8>, Refusal> {
-        let sealed = self.table.seal(group, metadata, message)?;
-        envelope::write(group, metadata, &sealed.cryptogram, &sealed.tag)
+        Ok(self.table.seal(group, &Plain { metadata, message })?.envelope)
     }
 
     fn open(&mut self, arrival: &Envelope) -> Result<Secret, Refusal> {
-        self.table.open(arrival.group, arrival.metadata, arrival.cryptogram, arrival.tag).map(Secret::from)
+        Ok(Secret::from(self.table.unwrap(arrival.group, &arrival.arrival())?.message))
     }
 
     fn kept(&mut self, group: u32) -> Result<&mut Kept, Refusal> {
@@ -67,12 +66,11 @@ impl End for Group {
     }
 
     fn seal(&mut self, group: u32, metadata: &[u8], message: &[u8]) -> Result<Vec<u8>, Refusal> {
-        let sealed = self.session.seal(metadata, message)?;
-        envelope::write(group, metadata, &sealed.cryptogram, &sealed.tag)
+        Ok(self.session.seal(group, &Plain { metadata, message })?.envelope)
     }
 
     fn open(&mut self, arrival: &Envelope) -> Result<Secret, Refusal> {
-        self.session.open(arrival.metadata, arrival.cryptogram, arrival.tag).map(Secret::from)
+        Ok(Secret::from(self.session.unwrap(&arrival.arrival())?.message))
     }
 
     fn kept(&mut self, _: u32) -> Result<&mut Kept, Refusal> {

@@ -4,7 +4,7 @@
 //! enough to pass for a message. It says nothing about the key to those who do not have it, but belongs to the state file, which
 //! is as secret as the key.
 
-use pevghazo::{Refusal, Session, TAG_LENGTH};
+use pevghazo::{Plain, Refusal, Session, TAG_LENGTH};
 
 use crate::failure::Failure;
 
@@ -21,7 +21,8 @@ const TEXT: &[u8] = b"pevghazo: the fingerprint of a key";
 fn fingerprint(key: &[u8]) -> Result<Fingerprint, Refusal> {
     let (mut session, _) = Session::start(key)?;
     let mut first = [0; FINGERPRINT];
-    first.copy_from_slice(&session.seal(TEXT, &[])?.tag[..FINGERPRINT]);
+    let wrapped = session.wrap(&Plain { metadata: TEXT, message: &[] })?;
+    first.copy_from_slice(&wrapped.tag[..FINGERPRINT]);
     Ok(first)
 }
 

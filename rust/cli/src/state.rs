@@ -20,7 +20,7 @@
 //! 32 bits, the lowest byte first.
 
 use pevghazo::{GROUPS, HEADER_MAX, Number, Refusal, Session, TAG_LENGTH, TEXT_MAX, Table};
-use pevghazo_store::{Secret, wipe};
+use pevghazo_store::Secret;
 
 use crate::keys::{FINGERPRINT, Keys};
 
@@ -129,7 +129,7 @@ impl State for Office {
     fn encode(&self) -> Secret {
         let mut bytes = Secret::with_room(ROOM);
         bytes.add(OFFICE);
-        bytes.add(&Secret::from(self.table.to_bytes()));
+        bytes.add(&self.table.to_bytes());
         self.kept.iter().for_each(|kept| put_kept(&mut bytes, kept));
         put_keys(&mut bytes, &self.keys);
         bytes
@@ -155,9 +155,7 @@ impl State for Group {
         let mut bytes = Secret::with_room(ROOM);
         bytes.add(GROUP);
         bytes.add(&self.group.to_le_bytes());
-        let mut session = self.session.to_bytes();
-        bytes.add(&session);
-        wipe(&mut session);
+        bytes.add(&self.session.to_bytes());
         put_kept(&mut bytes, &self.kept);
         put_keys(&mut bytes, &self.keys);
         bytes

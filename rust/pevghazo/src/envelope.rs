@@ -1,28 +1,30 @@
 //! The envelope: the bytes in which a sealed message travels.
 //!
 //! It is the header `S,group,metadata length,message length,` in decimal, then metadata, cryptogram and tag. The header's
-//! bytes are not under the tag.
+//! bytes are not under the tag. [`Session::seal`](crate::Session::seal) and [`Session::open`](crate::Session::open), and those
+//! of a [`Table`](crate::Table), do both steps at once:
 //!
 //! ```
-//! use pevghazo::{Session, envelope};
+//! use pevghazo::{Plain, Session, envelope};
 //!
 //! # fn main() -> Result<(), pevghazo::Refusal> {
 //! let (mut office, _) = Session::start(&[7; 32])?;
 //! let (mut group, _) = Session::start(&[7; 32])?;
 //!
-//! let sealed = office.seal(b"size C", b"12001-12100")?;
-//! let bytes = envelope::write(7, b"size C", &sealed.cryptogram, &sealed.tag)?;
+//! let wrapped = office.wrap(&Plain { metadata: b"size C", message: b"12001-12100" })?;
+//! let bytes = envelope::write(7, b"size C", &wrapped.cryptogram, &wrapped.tag)?;
 //! assert!(bytes.starts_with(b"S,7,6,11,size C"));
 //!
 //! let arrived = envelope::read(&bytes)?;
 //! assert_eq!((arrived.group, arrived.metadata, arrived.rest), (7, &b"size C"[..], &b""[..]));
-//! assert_eq!(group.open(arrived.metadata, arrived.cryptogram, arrived.tag)?, b"12001-12100");
+//! assert_eq!(group.unwrap(&arrived.arrival())?.message, b"12001-12100");
 //! # Ok(())
 //! # }
 //! ```
 
 use crate::raw;
 use crate::refusal::{Refusal, answer};
+use crate::texts::{Arrival, Opened, Plain, Sealed, Unwrapped, Wrapped};
 use crate::{HEADER_MAX, TAG_LENGTH, Tag};
 
 /// An envelope that was read. Its parts are those of the bytes that it was read from.
@@ -40,6 +42,25 @@ pub struct Envelope<'a> {
     pub place: usize,
     /// The bytes from that place on.
     pub rest: &'a [u8],
+}
+
+impl<'a> Envelope<'a> {
+    /// What is unwrapped of it.
+    #[must_use]
+    pub fn arrival(&self) -> Arrival<'a> {
+        Arrival { metadata: self.metadata, cryptogram: self.cryptogram, tag: self.tag }
+    }
+
+    /// The envelope with the message that it held.
+    pub(crate) fn opened(&self, Unwrapped { message, count }: Unwrapped) -> Opened<'a> {
+        Opened { group: self.group, metadata: self.metadata, message, count, rest: self.rest }
+    }
+}
+
+/// The envelope of a message that was wrapped for a group up to 31.
+pub(crate) fn sealed(group: u32, plain: &Plain<'_>, wrapped: &Wrapped) -> Sealed {
+    let envelope = write(group, plain.metadata, &wrapped.cryptogram, &wrapped.tag);
+    Sealed { envelope: envelope.expect("wrapping has met the checks of writing"), count: wrapped.count }
 }
 
 /// Reads the envelope at the start of the bytes; more bytes may follow. Checks 1 and 2.

@@ -3,19 +3,41 @@
 //! An office and a group share a key, and each end holds a [`Session`] under it. *Wrapping* turns *metadata*, which travel in
 //! the clear, and a *message* into a *cryptogram* of the message's length and a *tag* of 32 bytes; *unwrapping* turns them
 //! back, or refuses. Every tag covers all messages of the session so far, those of both directions, so a message that is
-//! damaged, repeated, out of order or meant for somebody else is refused, and the session goes on as it was.
+//! damaged, repeated, out of order or meant for somebody else is refused, and the session goes on as it was. *Sealing* wraps a
+//! message into an *envelope*, the bytes in which it travels, and *opening* unwraps one.
+//!
+//! ```
+//! use pevghazo::{Plain, Session, Table};
+//!
+//! # fn main() -> Result<(), pevghazo::Refusal> {
+//! let key = b"the key of group 7......";
+//! let mut office = Table::new();
+//! office.start_day(100_000);
+//! office.open_group(7, key)?;
+//! let (mut group, _) = Session::start(key)?;
+//!
+//! let block = office.seal(7, &Plain { metadata: b"size C", message: b"12001-12100" })?;
+//! assert_eq!(group.open(&block.envelope)?.message, b"12001-12100");
+//! # Ok(())
+//! # }
+//! ```
 //!
 //! | what | where |
 //! |---|---|
 //! | one end of a session, as a group holds it | [`Session`] |
 //! | the office's 32 sessions with a day's allowance | [`Table`] |
+//! | what is handed over, by name | [`Plain`], [`Arrival`] |
 //! | the bytes in which a sealed message travels | [`envelope`] |
 //! | a refused call: its number and a plain sentence | [`Refusal`], [`Number`] |
 //! | the C interface itself, on slices | [`raw`] |
 //!
-//! All work is done by the library `libcapi.a`, whose functions are proved to meet their definitions for all bytes. This crate
-//! adds types: a session cannot be copied by accident, a tag has 32 bytes, a table has 32 sessions. The build needs the
-//! library: `make lib` at the root of the repository makes it, and `PEVGHAZO_LIB_DIR` names another folder that holds it.
+//! All work is done by the C library, whose functions are proved to meet their definitions for all bytes. This crate adds types:
+//! a session cannot be copied by accident, a tag has 32 bytes, a table has 32 sessions. It also sees to memory: sessions, tables
+//! and their stored bytes are set to zero when they are dropped, and after each call the stack that it used is overwritten.
+//! Messages and keys are the caller's: [`wipe`] sets them to zero.
+//!
+//! The build looks for the library in the folder that `PEVGHAZO_LIB_DIR` names (`libpevghazo.a` or `libcapi.a`); then in the
+//! repository that the crate stands in, where `make lib` makes it; then with `pkg-config`, which finds an installed one.
 #![deny(unsafe_code)]
 
 pub mod envelope;
@@ -23,14 +45,18 @@ pub mod envelope;
 pub mod raw;
 mod record;
 mod refusal;
+mod secret;
 mod session;
 mod table;
+mod texts;
 
 pub use envelope::Envelope;
 pub use raw::wipe;
 pub use refusal::{BadBytes, Number, Refusal};
-pub use session::{Sealed, Session};
+pub use secret::Secret;
+pub use session::Session;
 pub use table::{Day, Group, Table};
+pub use texts::{Arrival, Opened, Plain, Sealed, Unwrapped, Wrapped};
 
 /// The groups of a table.
 pub const GROUPS: usize = 32;

@@ -3,7 +3,20 @@
 use std::fmt;
 
 /// The numbers of refusals. A call's checks are made in the order of these numbers, and the first that is met is given.
+///
+/// More may follow, so a `match` on one has an arm for the others:
+///
+/// ```compile_fail,E0004
+/// fn is_damaged(number: pevghazo::Number) -> bool {
+///     use pevghazo::Number::*;
+///     match number {
+///         BadHeader | TooFewBytes | WrongTag => true,
+///         BadGroup | BadKey | NotOpen | TooLong | BadTagLength | NoRoom | IndexFull | Allowance => false,
+///     }
+/// }
+/// ```
 #[derive(Clone, Copy, Debug, PartialEq, Eq, PartialOrd, Ord, Hash)]
+#[non_exhaustive]
 #[repr(u8)]
 pub enum Number {
     /// 1: the envelope's header does not follow the layout.
@@ -115,6 +128,7 @@ pub(crate) fn answer(number: u32, count: u32) -> Result<u32, Refusal> {
 
 /// Why stored bytes were not taken for a session or a table.
 #[derive(Clone, Copy, Debug, PartialEq, Eq, Hash)]
+#[non_exhaustive]
 pub enum BadBytes {
     /// There are too few or too many.
     Length {
@@ -125,6 +139,10 @@ pub enum BadBytes {
     },
     /// A flag is neither 0 nor 1.
     Flag,
+    /// The index is above 1,048,576.
+    Index,
+    /// The session is not open, and not zero in all its numbers.
+    Closed,
 }
 
 impl fmt::Display for BadBytes {
@@ -134,6 +152,8 @@ impl fmt::Display for BadBytes {
                 write!(f, "The stored bytes are {found}, and there should be {expected}.")
             }
             BadBytes::Flag => f.write_str("The stored bytes hold a flag that is neither 0 nor 1."),
+            BadBytes::Index => f.write_str("The stored bytes hold an index above 1,048,576."),
+            BadBytes::Closed => f.write_str("The stored bytes are those of a closed session that is not all zero."),
         }
     }
 }

@@ -2,29 +2,25 @@
 
 use std::fmt;
 
+use crate::envelope::{self, sealed};
 use crate::raw::{self, Record};
 use crate::record;
-use crate::refusal::{BadBytes, Refusal, answer};
-use crate::{TAG_LENGTH, Tag};
-
-/// A sealed message: what travels beside the metadata, and what the sealing cost.
-#[derive(Clone, Debug, PartialEq, Eq)]
-pub struct Sealed {
-    /// The cryptogram, as long as the message.
-    pub cryptogram: Vec<u8>,
-    /// The tag.
-    pub tag: Tag,
-    /// The permutations done.
-    pub count: u32,
-}
+use crate::refusal::{BadBytes, Number, Refusal, answer};
+use crate::secret::Secret;
+use crate::texts::{Arrival, Opened, Plain, Sealed, Unwrapped, Wrapped};
+use crate::{GROUPS, TAG_LENGTH, Tag};
 
 /// One end of a session under a key.
 ///
 /// Both ends start one with the same key, and every message goes from one to the other, in its order. A session holds what
-/// the key gave, so it is secret; its memory is set to zero when it is dropped.
+/// the key gave, so it is secret; its memory is set to zero when it is dropped, and the stack that a call used is overwritten
+/// before the call returns.
+///
+/// [`wrap`](Session::wrap) and [`unwrap`](Session::unwrap) work on the parts of a message, [`seal`](Session::seal) and
+/// [`open`](Session::open) on whole [envelopes](crate::envelope).
 ///
 /// ```
-/// use pevghazo::Session;
+/// use pevghazo::{Arrival, Plain, Session};
 ///
 /// # fn main() -> Result<(), pevghazo::Refusal> {
 /// let key = b"a key of 16 to 47 bytes";
@@ -32,21 +28,25 @@ pub struct Sealed {
 /// let (mut group, _) = Session::start(key)?;
 /// assert_eq!(count, 1);
 ///
-/// let sealed = office.seal(b"size C", b"12001-12100")?;
-/// assert_eq!(group.open(b"size C", &sealed.cryptogram, &sealed.tag)?, b"12001-12100");
+/// let wrapped = office.wrap(&Plain { metadata: b"size C", message: b"12001-12100" })?;
+/// let arrival = Arrival { metadata: b"size C", cryptogram: &wrapped.cryptogram, tag: &wrapped.tag };
+/// assert_eq!(group.unwrap(&arrival)?.message, b"12001-12100");
 ///
 /// // The same message a second time is refused, and the session stays as it was.
-/// let refusal = group.open(b"size C", &sealed.cryptogram, &sealed.tag).unwrap_err();
+/// let refusal = group.unwrap(&arrival).unwrap_err();
 /// assert_eq!(refusal.number, pevghazo::Number::WrongTag);
 ///
 /// // Messages go both ways, also ones with metadata alone.
-/// let sealed = group.seal(b"none left", b"")?;
-/// assert_eq!(office.open(b"none left", b"", &sealed.tag)?, b"");
+/// let wrapped = group.wrap(&Plain { metadata: b"none left", message: b"" })?;
+/// let arrival = Arrival { metadata: b"none left", cryptogram: b"", tag: &wrapped.tag };
+/// assert_eq!(office.unwrap(&arrival)?.message, b"");
 /// # Ok(())
 /// # }
 /// ```
 ///
-/// A session that was used twice from one state would give two messages one keystream, so it cannot be copied:
+/// A session that was used twice from one state would seal two messages for one place in the row: equal ones would show as
+/// equal, and of two the other end would take whichever comes first, so that one could take the other's place. So it cannot
+/// be copied:
 ///
 /// ```compile_fail,E0599
 /// let (session, _) = pevghazo::Session::start(&[7; 32]).unwrap();
@@ -80,62 +80,103 @@ impl Session {
         Ok((Session { record }, count))
     }
 
-    /// Wraps a message: the cryptogram goes to the start of `out`, whose other bytes keep their content, and the tag to
-    /// `tag`. Gives the permutations done. Checks 5, 6, 8 and 9.
+    /// Wraps a message. Checks 5, 6 and 9.
+    pub fn wrap(&mut self, plain: &Plain<'_>) -> Result<Wrapped, Refusal> {
+        let mut wrapped = Wrapped { cryptogram: vec![0; plain.message.len()], tag: [0; TAG_LENGTH], count: 0 };
+        wrapped.count = self.wrap_to(plain, &mut wrapped.cryptogram, &mut wrapped.tag)?;
+        Ok(wrapped)
+    }
+
+    /// [`Session::wrap`] into buffers: the cryptogram goes to the start of `out`, whose other bytes keep their content, and
+    /// the tag to `tag`. Gives the permutations done. Checks 5, 6, 8 and 9.
     ///
     /// ```
+    /// use pevghazo::{Plain, Session};
+    ///
     /// # fn main() -> Result<(), pevghazo::Refusal> {
-    /// let (mut session, _) = pevghazo::Session::start(&[7; 32])?;
+    /// let (mut session, _) = Session::start(&[7; 32])?;
     /// let (mut out, mut tag) = ([0xAA; 8], [0; 32]);
-    /// let count = session.wrap(b"size C", b"12001", &mut out, &mut tag)?;
+    /// let count = session.wrap_to(&Plain { metadata: b"size C", message: b"12001" }, &mut out, &mut tag)?;
     /// assert_eq!(count, 7);
     /// assert_eq!(out[5..], [0xAA; 3]);
     /// # Ok(())
     /// # }
     /// ```
-    pub fn wrap(&mut self, metadata: &[u8], message: &[u8], out: &mut [u8], tag: &mut Tag) -> Result<u32, Refusal> {
-        let given = raw::wrap(&mut self.record, metadata, message, out, tag);
+    pub fn wrap_to(&mut self, plain: &Plain<'_>, out: &mut [u8], tag: &mut Tag) -> Result<u32, Refusal> {
+        let given = raw::wrap(&mut self.record, plain.metadata, plain.message, out, tag);
         answer(given.number, given.count)
     }
 
-    /// Unwraps an arrival: the message goes to the start of `out`, whose other bytes keep their content. Gives the
-    /// permutations done. Checks 5, 6, 8, 9 and 11; after 11 the part of `out` that the message would have taken is zero.
-    pub fn unwrap(&mut self, metadata: &[u8], cryptogram: &[u8], tag: &Tag, out: &mut [u8]) -> Result<u32, Refusal> {
-        let given = raw::unwrap(&mut self.record, metadata, cryptogram, tag, out);
+    /// Unwraps an arrival. Checks 5, 6, 9 and 11.
+    pub fn unwrap(&mut self, arrival: &Arrival<'_>) -> Result<Unwrapped, Refusal> {
+        let mut unwrapped = Unwrapped { message: vec![0; arrival.cryptogram.len()], count: 0 };
+        unwrapped.count = self.unwrap_to(arrival, &mut unwrapped.message)?;
+        Ok(unwrapped)
+    }
+
+    /// [`Session::unwrap`] into a buffer: the message goes to the start of `out`, whose other bytes keep their content. Gives
+    /// the permutations done. Checks 5, 6, 8, 9 and 11; after 11 the part of `out` that the message would have taken is zero.
+    pub fn unwrap_to(&mut self, arrival: &Arrival<'_>, out: &mut [u8]) -> Result<u32, Refusal> {
+        let given = raw::unwrap(&mut self.record, arrival.metadata, arrival.cryptogram, arrival.tag, out);
         answer(given.number, given.count)
     }
 
-    /// [`Session::wrap`] into fresh bytes.
-    pub fn seal(&mut self, metadata: &[u8], message: &[u8]) -> Result<Sealed, Refusal> {
-        let mut sealed = Sealed { cryptogram: vec![0; message.len()], tag: [0; TAG_LENGTH], count: 0 };
-        sealed.count = self.wrap(metadata, message, &mut sealed.cryptogram, &mut sealed.tag)?;
-        Ok(sealed)
+    /// Seals a message into an envelope with this group's number. Checks 3, 5, 6 and 9.
+    ///
+    /// ```
+    /// use pevghazo::{Plain, Session};
+    ///
+    /// # fn main() -> Result<(), pevghazo::Refusal> {
+    /// let (mut office, _) = Session::start(&[7; 32])?;
+    /// let (mut group, _) = Session::start(&[7; 32])?;
+    ///
+    /// let sealed = office.seal(7, &Plain { metadata: b"size C", message: b"12001-12100" })?;
+    /// assert!(sealed.envelope.starts_with(b"S,7,6,11,size C"));
+    ///
+    /// let opened = group.open(&sealed.envelope)?;
+    /// assert_eq!((opened.group, opened.metadata, &opened.message[..]), (7, &b"size C"[..], &b"12001-12100"[..]));
+    /// # Ok(())
+    /// # }
+    /// ```
+    pub fn seal(&mut self, group: u32, plain: &Plain<'_>) -> Result<Sealed, Refusal> {
+        if group as usize >= GROUPS {
+            return Err(Refusal { number: Number::BadGroup, count: 0 });
+        }
+        let wrapped = self.wrap(plain)?;
+        Ok(sealed(group, plain, &wrapped))
     }
 
-    /// [`Session::unwrap`] into fresh bytes.
-    pub fn open(&mut self, metadata: &[u8], cryptogram: &[u8], tag: &Tag) -> Result<Vec<u8>, Refusal> {
-        let mut message = vec![0; cryptogram.len()];
-        self.unwrap(metadata, cryptogram, tag, &mut message)?;
-        Ok(message)
+    /// Opens the envelope at the start of the bytes; more bytes may follow. Checks 1, 2, 5, 9 and 11.
+    ///
+    /// A session does not know its group's number, so the header's is handed out and not looked at. It is not under the tag: an
+    /// accepted envelope is the other end's next one, whatever its header says.
+    pub fn open<'a>(&mut self, bytes: &'a [u8]) -> Result<Opened<'a>, Refusal> {
+        let arrived = envelope::read(bytes)?;
+        let unwrapped = self.unwrap(&arrived.arrival())?;
+        Ok(arrived.opened(unwrapped))
     }
 
     /// The index: how many blocks the session's history has taken so far, with one more for each string. It grows with each
     /// accepted message, up to 1,048,576.
+    #[must_use]
     pub fn index(&self) -> u32 {
         self.record.index
     }
 
     /// The toggle, which changes with each accepted message.
+    #[must_use]
     pub fn toggle(&self) -> bool {
         self.record.toggle
     }
 
     /// Whether the session is open. A started one is.
+    #[must_use]
     pub fn is_open(&self) -> bool {
         self.record.opened
     }
 
-    /// The session's bytes, for storing it. They are as secret as the session: [`wipe`](crate::wipe) sets them to zero.
+    /// The session's bytes, for storing it. They are as secret as the session, and set to zero when they are dropped; what
+    /// they are copied to is the caller's to [`wipe`](crate::wipe).
     ///
     /// The layout stays: twelve lanes of the accumulator, twelve of the mask, and the index, 32 bits each and little-endian,
     /// then a byte for the toggle and a byte for openness.
@@ -143,31 +184,32 @@ impl Session {
     /// A session that is stored must not be used again until it is read back, and only the newest stored one may be read.
     ///
     /// ```
-    /// use pevghazo::Session;
+    /// use pevghazo::{Plain, Session};
     ///
     /// # fn main() -> Result<(), pevghazo::Refusal> {
     /// let (mut session, _) = Session::start(&[7; 32])?;
-    /// session.seal(b"", b"12001-12100")?;
-    /// let mut bytes = session.to_bytes();
+    /// let sealed = session.seal(7, &Plain { metadata: b"", message: b"12001-12100" })?;
+    /// let bytes = session.to_bytes();
     /// drop(session);
     ///
     /// let session = Session::from_bytes(&bytes).unwrap();
-    /// pevghazo::wipe(&mut bytes);
     /// assert_eq!((session.index(), session.toggle(), session.is_open()), (2, true, true));
     /// # Ok(())
     /// # }
     /// ```
-    pub fn to_bytes(&self) -> [u8; Session::BYTES] {
-        let mut bytes = [0; Session::BYTES];
-        record::store(&self.record, &mut bytes);
+    #[must_use]
+    pub fn to_bytes(&self) -> Secret {
+        let mut bytes = Secret::zeros(Session::BYTES);
+        record::store(&self.record, bytes.bytes_mut());
         bytes
     }
 
-    /// A session from its stored bytes.
+    /// A session from its stored bytes. Refused are another length, a flag that is neither 0 nor 1, an index above 1,048,576,
+    /// and a session that is not open and not zero in all its numbers.
     pub fn from_bytes(bytes: &[u8]) -> Result<Session, BadBytes> {
         record::check_length(Session::BYTES, bytes.len())?;
         let mut record = Box::new(Record::closed());
-        record::load(&mut record, bytes.try_into().expect("the length was checked"))?;
+        record::load(&mut record, bytes)?;
         Ok(Session { record })
     }
 }

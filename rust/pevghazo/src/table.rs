@@ -2,19 +2,22 @@
 
 use std::fmt;
 
+use crate::envelope::{self, sealed};
 pub use crate::raw::Day;
 use crate::raw::{self, GroupAnswer, Record};
 use crate::record;
 use crate::refusal::{BadBytes, Refusal, answer};
-use crate::session::Sealed;
+use crate::secret::Secret;
+use crate::texts::{Arrival, Opened, Plain, Sealed, Unwrapped, Wrapped};
 use crate::{GROUPS, TAG_LENGTH, Tag};
 
 /// The office's table: a session for each of 32 groups, and one day's count and allowance of permutations for all of them.
 ///
-/// Its memory is set to zero when it is dropped, and like a session it cannot be copied.
+/// Its memory is set to zero when it is dropped, and like a session it cannot be copied. Its calls are those of a
+/// [`Session`](crate::Session), for a group.
 ///
 /// ```
-/// use pevghazo::{Number, Session, Table};
+/// use pevghazo::{Number, Plain, Session, Table};
 ///
 /// # fn main() -> Result<(), pevghazo::Refusal> {
 /// let key = b"the key of group 7.....";
@@ -26,13 +29,20 @@ use crate::{GROUPS, TAG_LENGTH, Tag};
 /// office.open_group(7, key)?;
 /// let (mut group, _) = Session::start(key)?;
 ///
-/// let sealed = office.seal(7, b"size C", b"12001-12100")?;
-/// assert_eq!(group.open(b"size C", &sealed.cryptogram, &sealed.tag)?, b"12001-12100");
+/// let block = Plain { metadata: b"size C", message: b"12001-12100" };
+/// let sealed = office.seal(7, &block)?;
+/// assert_eq!(group.open(&sealed.envelope)?.message, b"12001-12100");
 /// assert_eq!(office.day().spent, 1 + sealed.count);
 ///
-/// assert_eq!(office.seal(7, b"size C", b"12101-12200").unwrap_err().number, Number::Allowance);
-/// assert_eq!(office.seal(8, b"size C", b"12101-12200").unwrap_err().number, Number::NotOpen);
+/// assert_eq!(office.seal(7, &block).unwrap_err().number, Number::Allowance);
+/// assert_eq!(office.seal(8, &block).unwrap_err().number, Number::NotOpen);
 /// assert_eq!(office.nearly_full(3), Some(7));
+///
+/// // An envelope names its group, so the office opens it without being told.
+/// office.start_day(10);
+/// let sealed = group.seal(7, &Plain { metadata: b"", message: b"12096-12100" })?;
+/// let opened = office.open(&sealed.envelope)?;
+/// assert_eq!((opened.group, &opened.message[..]), (7, &b"12096-12100"[..]));
 /// # Ok(())
 /// # }
 /// ```
@@ -69,6 +79,7 @@ impl Day {
     /// assert_eq!(Day::none(), Day { spent: 0, allowance: 0 });
     /// assert_eq!(Table::new().day(), Day::none());
     /// ```
+    #[must_use]
     pub fn none() -> Day {
         raw::no_day()
     }
@@ -91,6 +102,7 @@ impl Table {
     pub const BYTES: usize = GROUPS * record::BYTES + 8;
 
     /// The table that no group has opened yet, before the first day: 32 closed sessions, count and allowance 0.
+    #[must_use]
     pub fn new() -> Table {
         let sessions: Box<[Record]> = (0..GROUPS).map(|_| Record::closed()).collect();
         let Ok(sessions) = sessions.try_into() else { unreachable!("there are as many as groups") };
@@ -103,6 +115,7 @@ impl Table {
     }
 
     /// The day's count and allowance.
+    #[must_use]
     pub fn day(&self) -> Day {
         self.day
     }
@@ -120,47 +133,50 @@ impl Table {
         self.take(given)
     }
 
-    /// [`Session::wrap`](crate::Session::wrap) for a group. Checks 3, 5, 6 and 8 to 10.
-    pub fn wrap_group(
-        &mut self,
-        group: u32,
-        metadata: &[u8],
-        message: &[u8],
-        out: &mut [u8],
-        tag: &mut Tag,
-    ) -> Result<u32, Refusal> {
-        let given = raw::wrap_group(&mut self.sessions[..], group, self.day, metadata, message, out, tag);
+    /// [`Session::wrap`](crate::Session::wrap) for a group. Checks 3, 5, 6, 9 and 10.
+    pub fn wrap(&mut self, group: u32, plain: &Plain<'_>) -> Result<Wrapped, Refusal> {
+        let mut wrapped = Wrapped { cryptogram: vec![0; plain.message.len()], tag: [0; TAG_LENGTH], count: 0 };
+        wrapped.count = self.wrap_to(group, plain, &mut wrapped.cryptogram, &mut wrapped.tag)?;
+        Ok(wrapped)
+    }
+
+    /// [`Session::wrap_to`](crate::Session::wrap_to) for a group. Checks 3, 5, 6 and 8 to 10.
+    pub fn wrap_to(&mut self, group: u32, plain: &Plain<'_>, out: &mut [u8], tag: &mut Tag) -> Result<u32, Refusal> {
+        let given = raw::wrap_group(&mut self.sessions[..], group, self.day, plain.metadata, plain.message, out, tag);
         self.take(given)
     }
 
-    /// [`Session::unwrap`](crate::Session::unwrap) for a group. Checks 3, 5, 6 and 8 to 11; 11 adds its count to the day's.
-    pub fn unwrap_group(
-        &mut self,
-        group: u32,
-        metadata: &[u8],
-        cryptogram: &[u8],
-        tag: &Tag,
-        out: &mut [u8],
-    ) -> Result<u32, Refusal> {
+    /// [`Session::unwrap`](crate::Session::unwrap) for a group. Checks 3, 5, 6 and 9 to 11; 11 adds its count to the day's.
+    pub fn unwrap(&mut self, group: u32, arrival: &Arrival<'_>) -> Result<Unwrapped, Refusal> {
+        let mut unwrapped = Unwrapped { message: vec![0; arrival.cryptogram.len()], count: 0 };
+        unwrapped.count = self.unwrap_to(group, arrival, &mut unwrapped.message)?;
+        Ok(unwrapped)
+    }
+
+    /// [`Session::unwrap_to`](crate::Session::unwrap_to) for a group. Checks 3, 5, 6 and 8 to 11; 11 adds its count to the
+    /// day's.
+    pub fn unwrap_to(&mut self, group: u32, arrival: &Arrival<'_>, out: &mut [u8]) -> Result<u32, Refusal> {
+        let Arrival { metadata, cryptogram, tag } = *arrival;
         let given = raw::unwrap_group(&mut self.sessions[..], group, self.day, metadata, cryptogram, tag, out);
         self.take(given)
     }
 
-    /// [`Table::wrap_group`] into fresh bytes.
-    pub fn seal(&mut self, group: u32, metadata: &[u8], message: &[u8]) -> Result<Sealed, Refusal> {
-        let mut sealed = Sealed { cryptogram: vec![0; message.len()], tag: [0; TAG_LENGTH], count: 0 };
-        sealed.count = self.wrap_group(group, metadata, message, &mut sealed.cryptogram, &mut sealed.tag)?;
-        Ok(sealed)
+    /// Seals a message into an envelope for a group. Checks 3, 5, 6, 9 and 10.
+    pub fn seal(&mut self, group: u32, plain: &Plain<'_>) -> Result<Sealed, Refusal> {
+        let wrapped = self.wrap(group, plain)?;
+        Ok(sealed(group, plain, &wrapped))
     }
 
-    /// [`Table::unwrap_group`] into fresh bytes.
-    pub fn open(&mut self, group: u32, metadata: &[u8], cryptogram: &[u8], tag: &Tag) -> Result<Vec<u8>, Refusal> {
-        let mut message = vec![0; cryptogram.len()];
-        self.unwrap_group(group, metadata, cryptogram, tag, &mut message)?;
-        Ok(message)
+    /// Opens the envelope at the start of the bytes, with the session of the group that its header names; more bytes may
+    /// follow. Checks 1, 2, 5 and 9 to 11; 11 adds its count to the day's.
+    pub fn open<'a>(&mut self, bytes: &'a [u8]) -> Result<Opened<'a>, Refusal> {
+        let arrived = envelope::read(bytes)?;
+        let unwrapped = self.unwrap(arrived.group, &arrived.arrival())?;
+        Ok(arrived.opened(unwrapped))
     }
 
     /// An open group whose index is above the mark, or none, which is said only where there is none.
+    #[must_use]
     pub fn nearly_full(&self, mark: u32) -> Option<u32> {
         let given = raw::nearly_full(&self.sessions[..], mark);
         assert_eq!(given.number, 0, "a table has 32 sessions");
@@ -168,6 +184,7 @@ impl Table {
     }
 
     /// What may be seen of a group's session; none for a group above 31.
+    #[must_use]
     pub fn group(&self, group: u32) -> Option<Group> {
         let record = self.sessions.get(usize::try_from(group).ok()?)?;
         Some(Group { group, is_open: record.opened, index: record.index, toggle: record.toggle })
@@ -180,7 +197,7 @@ impl Table {
 
     /// The table's bytes, for storing it: the sessions in their order, each as in
     /// [`Session::to_bytes`](crate::Session::to_bytes), then the day's count and allowance, 32 bits each and little-endian.
-    /// They are as secret as the sessions: [`wipe`](crate::wipe) sets them to zero.
+    /// They are as secret as the sessions, and set to zero when they are dropped.
     ///
     /// ```
     /// use pevghazo::Table;
@@ -189,34 +206,34 @@ impl Table {
     /// let mut table = Table::new();
     /// table.start_day(1_000);
     /// table.open_group(31, &[7; 16])?;
-    /// let mut bytes = table.to_bytes();
+    /// let bytes = table.to_bytes();
     /// drop(table);
     ///
     /// let table = Table::from_bytes(&bytes).unwrap();
-    /// pevghazo::wipe(&mut bytes);
     /// assert_eq!((table.day().spent, table.day().allowance), (1, 1_000));
     /// assert!(table.group(31).unwrap().is_open);
     /// # Ok(())
     /// # }
     /// ```
-    pub fn to_bytes(&self) -> Vec<u8> {
-        let mut bytes = vec![0; Table::BYTES];
-        let (sessions, day) = bytes.split_at_mut(GROUPS * record::BYTES);
+    #[must_use]
+    pub fn to_bytes(&self) -> Secret {
+        let mut bytes = Secret::zeros(Table::BYTES);
+        let (sessions, day) = bytes.bytes_mut().split_at_mut(GROUPS * record::BYTES);
         for (place, session) in sessions.chunks_exact_mut(record::BYTES).zip(self.sessions.iter()) {
-            record::store(session, place.try_into().expect("chunks have this length"));
+            record::store(session, place);
         }
         day[..4].copy_from_slice(&self.day.spent.to_le_bytes());
         day[4..].copy_from_slice(&self.day.allowance.to_le_bytes());
         bytes
     }
 
-    /// A table from its stored bytes.
+    /// A table from its stored bytes, which are refused as [`Session::from_bytes`](crate::Session::from_bytes) refuses them.
     pub fn from_bytes(bytes: &[u8]) -> Result<Table, BadBytes> {
         record::check_length(Table::BYTES, bytes.len())?;
         let (sessions, day) = bytes.split_at(GROUPS * record::BYTES);
         let mut table = Table::new();
         for (place, session) in sessions.chunks_exact(record::BYTES).zip(table.sessions.iter_mut()) {
-            record::load(session, place.try_into().expect("chunks have this length"))?;
+            record::load(session, place)?;
         }
         let number = |bytes: &[u8]| u32::from_le_bytes(bytes.try_into().expect("four bytes"));
         table.day = Day { spent: number(&day[..4]), allowance: number(&day[4..]) };

@@ -1,8 +1,21 @@
 //! The safe types: stored bytes, refusals, and what is shown.
 
-use pevghazo::{BadBytes, Day, GROUPS, Number, Refusal, Session, Table, envelope, raw, wipe};
+use pevghazo::{
+    Arrival, BadBytes, Day, GROUPS, INDEX_MAX, Number, Plain, Refusal, Session, TEXT_MAX, Table, Wrapped, envelope,
+    raw, wipe,
+};
 
 const KEY: &[u8] = b"a key for the tests here";
+
+/// A message without metadata.
+fn plain(message: &[u8]) -> Plain<'_> {
+    Plain { metadata: b"", message }
+}
+
+/// The arrival of a message without metadata.
+fn arrival(wrapped: &Wrapped) -> Arrival<'_> {
+    Arrival { metadata: b"", cryptogram: &wrapped.cryptogram, tag: &wrapped.tag }
+}
 
 #[test]
 fn every_number_has_its_sentence() {
@@ -23,21 +36,23 @@ fn refusals_of_a_session() {
     let refused = |answer: Result<u32, Refusal>| answer.unwrap_err().number;
     let (mut out, mut tag) = ([0xAA; 4], [0xBB; 32]);
     assert_eq!(Session::start(&[0; 48]).unwrap_err(), Refusal { number: Number::BadKey, count: 0 });
-    assert_eq!(refused(session.wrap(&[0; 16_385], b"", &mut out, &mut tag)), Number::TooLong);
-    assert_eq!(refused(session.wrap(b"", b"12345", &mut out, &mut tag)), Number::NoRoom);
+    let long = Plain { metadata: &[0; TEXT_MAX + 1], message: b"" };
+    assert_eq!(refused(session.wrap_to(&long, &mut out, &mut tag)), Number::TooLong);
+    assert_eq!(refused(session.wrap_to(&plain(b"12345"), &mut out, &mut tag)), Number::NoRoom);
     assert_eq!((out, tag), ([0xAA; 4], [0xBB; 32]));
-    assert_eq!(session.unwrap(b"", b"123", &tag, &mut out), Err(Refusal { number: Number::WrongTag, count: 6 }));
+    let forged = Arrival { metadata: b"", cryptogram: b"123", tag: &tag };
+    assert_eq!(session.unwrap_to(&forged, &mut out), Err(Refusal { number: Number::WrongTag, count: 6 }));
     assert_eq!(out, [0, 0, 0, 0xAA]);
     assert_eq!((session.index(), session.toggle()), (0, false));
 
-    let mut bytes = session.to_bytes();
-    bytes[96..100].copy_from_slice(&1_048_575_u32.to_le_bytes());
+    let mut bytes = session.to_bytes().to_vec();
+    bytes[96..100].copy_from_slice(&(INDEX_MAX - 1).to_le_bytes());
     let mut full = Session::from_bytes(&bytes).unwrap();
-    assert_eq!(full.seal(b"", b"").unwrap_err().number, Number::IndexFull);
+    assert_eq!(full.wrap(&plain(b"")).unwrap_err().number, Number::IndexFull);
     let mut closed = Session::from_bytes(&[0; Session::BYTES]).unwrap();
     assert!(!closed.is_open());
-    assert_eq!(closed.seal(b"", b"").unwrap_err().number, Number::NotOpen);
-    assert_eq!(closed.open(b"", b"", &tag).unwrap_err().number, Number::NotOpen);
+    assert_eq!(closed.wrap(&plain(b"")).unwrap_err().number, Number::NotOpen);
+    assert_eq!(closed.unwrap(&Arrival { cryptogram: b"", ..forged }).unwrap_err().number, Number::NotOpen);
 }
 
 #[test]
@@ -45,28 +60,57 @@ fn stored_sessions_go_on() {
     let (mut here, _) = Session::start(KEY).unwrap();
     let (mut there, _) = Session::start(KEY).unwrap();
     for i in 0..20_u8 {
-        let sealed = here.seal(&[i], &vec![i; usize::from(i) * 7]).unwrap();
+        let message = vec![i; usize::from(i) * 7];
+        let wrapped = here.wrap(&plain(&message)).unwrap();
         there = Session::from_bytes(&there.to_bytes()).unwrap();
-        assert_eq!(there.open(&[i], &sealed.cryptogram, &sealed.tag).unwrap(), vec![i; usize::from(i) * 7]);
-        assert_eq!(here.to_bytes(), there.to_bytes());
+        assert_eq!(there.unwrap(&arrival(&wrapped)).unwrap().message, message);
+        assert_eq!(*here.to_bytes(), *there.to_bytes());
         std::mem::swap(&mut here, &mut there);
     }
+}
+
+/// What a second session in one state would do, which is why there is none: no keystream is shared, but equal messages show as
+/// equal, and one is taken in the place of the other.
+#[test]
+fn a_state_that_is_used_twice() {
+    let (mut first, _) = Session::start(KEY).unwrap();
+    let again = || Session::from_bytes(&Session::start(KEY).unwrap().0.to_bytes()).unwrap();
+    let (a, b) = (first.wrap(&plain(&[1; 48])).unwrap(), again().wrap(&plain(&[2; 48])).unwrap());
+    let shared = a.cryptogram.iter().zip(&b.cryptogram).filter(|(a, b)| *a ^ *b == 1 ^ 2).count();
+    assert!(shared < 8, "{shared} of 48 bytes have one keystream");
+    assert_eq!(again().wrap(&plain(&[1; 48])).unwrap(), a, "equal messages show as equal");
+    assert_eq!(again().unwrap(&arrival(&a)).unwrap().message, [1; 48]);
+    assert_eq!(again().unwrap(&arrival(&b)).unwrap().message, [2; 48], "one takes the place of the other");
 }
 
 #[test]
 fn stored_bytes_are_checked() {
     let (session, _) = Session::start(KEY).unwrap();
     let bytes = session.to_bytes();
+    let refused = |place: usize, value: &[u8], why: BadBytes| {
+        let mut bad = bytes.to_vec();
+        bad[place..place + value.len()].copy_from_slice(value);
+        assert_eq!(Session::from_bytes(&bad).unwrap_err(), why);
+        let mut table = Table::new().to_bytes().to_vec();
+        table[31 * Session::BYTES..][..Session::BYTES].copy_from_slice(&bad);
+        assert_eq!(Table::from_bytes(&table).unwrap_err(), why);
+    };
     for place in [100, 101] {
-        for value in 2..=255 {
-            let mut bad = bytes;
-            bad[place] = value;
-            assert_eq!(Session::from_bytes(&bad).unwrap_err(), BadBytes::Flag);
-            let mut bad = Table::new().to_bytes();
-            bad[31 * Session::BYTES + place] = value;
-            assert_eq!(Table::from_bytes(&bad).unwrap_err(), BadBytes::Flag);
-        }
+        (2..=255).for_each(|value| refused(place, &[value], BadBytes::Flag));
     }
+    for index in [INDEX_MAX + 1, INDEX_MAX + 2, u32::MAX] {
+        refused(96, &index.to_le_bytes(), BadBytes::Index);
+    }
+    refused(101, &[0], BadBytes::Closed);
+    for place in 0..=100 {
+        let mut bad = [0; Session::BYTES];
+        bad[place] = 1;
+        let why = if place == 99 { BadBytes::Index } else { BadBytes::Closed };
+        assert_eq!(Session::from_bytes(&bad).unwrap_err(), why, "{place}");
+    }
+    let mut full = bytes.to_vec();
+    full[96..100].copy_from_slice(&INDEX_MAX.to_le_bytes());
+    assert_eq!(Session::from_bytes(&full).unwrap().index(), INDEX_MAX);
     for length in (0..200).filter(|length| *length != Session::BYTES) {
         let error = Session::from_bytes(&vec![0; length]).unwrap_err();
         assert_eq!(error, BadBytes::Length { expected: Session::BYTES, found: length });
@@ -75,26 +119,32 @@ fn stored_bytes_are_checked() {
         assert!(Table::from_bytes(&vec![0; length]).is_err());
     }
     assert_eq!(BadBytes::Flag.to_string(), "The stored bytes hold a flag that is neither 0 nor 1.");
+    assert_eq!(BadBytes::Index.to_string(), "The stored bytes hold an index above 1,048,576.");
+    assert_eq!(BadBytes::Closed.to_string(), "The stored bytes are those of a closed session that is not all zero.");
 }
 
 #[test]
 fn layout_of_stored_bytes() {
-    let bytes: Vec<u8> = (0..100).chain([1, 0]).collect();
+    let bytes: Vec<u8> = (0..96).chain([1, 2, 3, 0, 1, 1]).collect();
     let session = Session::from_bytes(&bytes).unwrap();
-    assert_eq!(session.to_bytes().as_slice(), bytes);
-    assert_eq!((session.index(), session.toggle(), session.is_open()), (0x6362_6160, true, false));
+    assert_eq!(*session.to_bytes(), bytes);
+    assert_eq!((session.index(), session.toggle(), session.is_open()), (0x0003_0201, true, true));
 
     let mut table = Vec::new();
     for group in 0..GROUPS as u8 {
-        table.extend((0..100).map(|i| group.wrapping_mul(i)).chain([group % 2, group / 16]));
+        if group < 16 {
+            table.extend([0; Session::BYTES]);
+        } else {
+            table.extend((0..98).map(|i| group.wrapping_mul(i)).chain([3, 0, group % 2, 1]));
+        }
     }
     table.extend([1, 2, 3, 4, 5, 6, 7, 8]);
     let read = Table::from_bytes(&table).unwrap();
-    assert_eq!(read.to_bytes(), table);
+    assert_eq!(*read.to_bytes(), table);
     assert_eq!((read.day().spent, read.day().allowance), (0x0403_0201, 0x0807_0605));
     let group = read.group(17).unwrap();
     assert_eq!((group.toggle, group.is_open), (true, true));
-    assert_eq!(group.index, u32::from_le_bytes([96, 97, 98, 99].map(|i: u8| i.wrapping_mul(17))));
+    assert_eq!(group.index, u32::from_le_bytes([96_u8.wrapping_mul(17), 97_u8.wrapping_mul(17), 3, 0]));
     assert_eq!(read.group(32), None);
     assert_eq!(read.groups().count(), GROUPS);
 }
@@ -104,13 +154,14 @@ fn a_new_table() {
     let (mut table, mut tag) = (Table::new(), [0; 32]);
     assert_eq!(raw::no_day(), Day { spent: 0, allowance: 0 });
     assert_eq!((Day::none(), Day::default(), table.day()), (raw::no_day(), raw::no_day(), raw::no_day()));
-    assert_eq!(table.to_bytes(), vec![0; Table::BYTES], "zero in all bytes");
+    assert_eq!(*table.to_bytes(), [0; Table::BYTES], "zero in all bytes");
     for allowance in [0, u32::MAX] {
         table.start_day(allowance);
         for group in 0..GROUPS as u32 {
             let closed = Refusal { number: Number::NotOpen, count: 0 };
-            assert_eq!(table.wrap_group(group, b"size C", b"12001", &mut [0; 5], &mut tag), Err(closed));
-            assert_eq!(table.unwrap_group(group, b"size C", b"12001", &tag, &mut [0; 5]), Err(closed));
+            assert_eq!(table.wrap_to(group, &plain(b"12001"), &mut [0; 5], &mut tag), Err(closed));
+            let arrival = Arrival { metadata: b"size C", cryptogram: b"12001", tag: &tag };
+            assert_eq!(table.unwrap_to(group, &arrival, &mut [0; 5]), Err(closed));
         }
         assert_eq!(table.nearly_full(0), None);
     }
@@ -123,7 +174,8 @@ fn a_refused_start_closes_the_record() {
     assert_eq!(raw::start(&mut record, KEY), raw::Answer { number: 0, count: 1 });
     assert!(record.opened);
     assert_eq!(raw::start(&mut record, &KEY[..15]), raw::Answer { number: 4, count: 0 });
-    assert!(record == raw::Record::closed(), "the old session is lost");
+    assert_eq!((record.acc, record.mask), ([0; 12], [0; 12]), "the old session is lost");
+    assert_eq!((record.index, record.toggle, record.opened), (0, false, false));
 }
 
 #[test]
@@ -134,16 +186,71 @@ fn a_table_and_its_refusals() {
     assert_eq!(office.open_group(0, b"short").unwrap_err().number, Number::BadKey);
     assert_eq!(office.open_group(0, KEY), Ok(1));
     let (mut group, _) = Session::start(KEY).unwrap();
-    let sealed = group.seal(b"", b"returned").unwrap();
-    let mut tag = sealed.tag;
+    let wrapped = group.wrap(&plain(b"returned")).unwrap();
+    let mut tag = wrapped.tag;
     tag[31] ^= 0x80;
-    let refusal = office.open(0, b"", &sealed.cryptogram, &tag).unwrap_err();
-    assert_eq!(refusal, Refusal { number: Number::WrongTag, count: sealed.count });
-    assert_eq!(office.day().spent, 1 + sealed.count);
-    assert_eq!(office.open(0, b"", &sealed.cryptogram, &sealed.tag).unwrap(), b"returned");
+    let refusal = office.unwrap(0, &Arrival { tag: &tag, ..arrival(&wrapped) }).unwrap_err();
+    assert_eq!(refusal, Refusal { number: Number::WrongTag, count: wrapped.count });
+    assert_eq!(office.day().spent, 1 + wrapped.count);
+    let unwrapped = office.unwrap(0, &arrival(&wrapped)).unwrap();
+    assert_eq!((&unwrapped.message[..], unwrapped.count), (&b"returned"[..], wrapped.count));
     assert_eq!(office.nearly_full(0), Some(0));
     assert_eq!(office.nearly_full(2), None);
     assert_eq!(office.group(0).unwrap().index, 2);
+}
+
+/// Sealing is wrapping and writing, opening is reading and unwrapping, and the first check that is met is the one that is named.
+#[test]
+fn envelopes_of_a_session_and_of_a_table() {
+    let mut office = Table::new();
+    office.start_day(1_000);
+    office.open_group(7, KEY).unwrap();
+    let start = || Session::start(KEY).unwrap().0;
+    let (mut group, mut by_hand) = (start(), start());
+    for length in [0, 1, 48, TEXT_MAX] {
+        office.start_day(3_000);
+        let text = vec![length as u8 ^ 0x55; length];
+        let plain = Plain { metadata: b"size C", message: &text };
+        let sealed = office.seal(7, &plain).unwrap();
+        let wrapped = by_hand.wrap(&plain).unwrap();
+        assert_eq!(sealed.envelope, envelope::write(7, b"size C", &wrapped.cryptogram, &wrapped.tag).unwrap());
+        assert_eq!((sealed.count, office.day().spent), (wrapped.count, wrapped.count));
+        let followed = [&sealed.envelope[..], b"more"].concat();
+        let opened = group.open(&followed).unwrap();
+        assert_eq!((opened.group, opened.metadata, opened.count), (7, &b"size C"[..], wrapped.count));
+        assert!(opened.message == text && opened.rest == b"more");
+
+        let back = group.seal(7, &plain).unwrap();
+        assert_eq!(by_hand.seal(7, &plain).unwrap(), back);
+        let opened = office.open(&back.envelope).unwrap();
+        assert!(opened.group == 7 && opened.message == text && opened.rest.is_empty());
+        let repeated = office.open(&back.envelope).unwrap_err();
+        assert_eq!(repeated, Refusal { number: Number::WrongTag, count: back.count });
+    }
+    assert_eq!(*group.to_bytes(), *by_hand.to_bytes());
+
+    let long = Plain { metadata: b"", message: &[0; TEXT_MAX + 1] };
+    let number = |refused: Refusal| (refused.number, refused.count);
+    let mut closed = Session::from_bytes(&[0; Session::BYTES]).unwrap();
+    assert_eq!(number(closed.seal(32, &long).unwrap_err()), (Number::BadGroup, 0));
+    assert_eq!(number(closed.seal(31, &long).unwrap_err()), (Number::NotOpen, 0));
+    assert_eq!(number(group.seal(32, &long).unwrap_err()), (Number::BadGroup, 0));
+    assert_eq!(number(group.seal(0, &long).unwrap_err()), (Number::TooLong, 0));
+    assert_eq!(number(office.seal(u32::MAX, &long).unwrap_err()), (Number::BadGroup, 0));
+    assert_eq!(number(office.seal(8, &long).unwrap_err()), (Number::NotOpen, 0));
+    office.start_day(0);
+    assert_eq!(number(office.seal(7, &long).unwrap_err()), (Number::TooLong, 0));
+    assert_eq!(number(office.seal(7, &plain(b"")).unwrap_err()), (Number::Allowance, 0));
+    assert_eq!(*group.to_bytes(), *by_hand.to_bytes(), "a refused sealing leaves the session");
+    let envelope = by_hand.seal(8, &plain(b"12001")).unwrap().envelope;
+    assert_eq!(number(office.open(&envelope).unwrap_err()), (Number::NotOpen, 0));
+    for session_refuses in [closed.open(b"S,32,0,0,"), group.open(b"")] {
+        assert_eq!(number(session_refuses.unwrap_err()), (Number::BadHeader, 0));
+    }
+    assert_eq!(number(group.open(&envelope[1..]).unwrap_err()), (Number::BadHeader, 0));
+    assert_eq!(number(group.open(&envelope[..envelope.len() - 1]).unwrap_err()), (Number::TooFewBytes, 0));
+    assert_eq!(number(closed.open(&envelope).unwrap_err()), (Number::NotOpen, 0));
+    assert_eq!(group.open(&envelope).unwrap().group, 8, "the header is not under the tag");
 }
 
 #[test]
@@ -182,7 +289,34 @@ fn secrets_are_not_shown() {
         "Table { day: Day { spent: 1, allowance: 9 }, \
          open: [Group { group: 3, is_open: true, index: 0, toggle: false }], .. }"
     );
-    let mut bytes = session.to_bytes();
-    wipe(&mut bytes);
-    assert_eq!(bytes, [0; Session::BYTES]);
+    let bytes = session.to_bytes();
+    assert_eq!(format!("{bytes:?}"), "Secret(102 bytes)");
+    let mut copy = bytes.to_vec();
+    wipe(&mut copy);
+    assert_eq!(copy, [0; Session::BYTES]);
+    let (mut here, mut there) = (session, Session::start(KEY).unwrap().0);
+    let plain = Plain { metadata: b"C", message: b"12001" };
+    assert_eq!(format!("{plain:?}"), "Plain { metadata: [67], .. }");
+    let sealed = here.seal(7, &plain).unwrap();
+    let opened = there.open(&sealed.envelope).unwrap();
+    assert_eq!(format!("{opened:?}"), "Opened { group: 7, metadata: [67], count: 7, .. }");
+}
+
+/// The library has no globals, so sessions and tables go from thread to thread; one call at a time is what `&mut` says.
+#[test]
+fn sessions_and_tables_go_to_other_threads() {
+    fn goes<T: Send + Sync>(_: &T) {}
+    let (mut here, _) = Session::start(KEY).unwrap();
+    let (mut there, _) = Session::start(KEY).unwrap();
+    goes(&Table::new());
+    let sealed = std::thread::spawn(move || {
+        let envelopes: Vec<_> = (0..50).map(|i| here.seal(7, &plain(&[i; 99])).unwrap().envelope).collect();
+        (here, envelopes)
+    });
+    let (here, envelopes) = sealed.join().unwrap();
+    let opened = std::thread::spawn(move || {
+        envelopes.iter().zip(0..).for_each(|(envelope, i)| assert_eq!(there.open(envelope).unwrap().message, [i; 99]));
+        there
+    });
+    assert_eq!(*opened.join().unwrap().to_bytes(), *here.to_bytes());
 }

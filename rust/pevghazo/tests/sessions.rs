@@ -4,7 +4,7 @@
 mod common;
 
 use common::{
-    Arrival, Both, answer_of, any_session, cases, is_whole_run, key, maybe_long, other_length, record_of, text,
+    Arrival, Both, answer_of, any_session, cases, is_whole_run, key, maybe_long, other_length, record_of, same, text,
 };
 use pevghazo::raw;
 use pevghazo_reference::limits::INDEX_MAX;
@@ -85,7 +85,7 @@ fn messages_both_ways() {
             }
             refuse(random, &mut ends[from], &arrival);
             accept(random, &mut ends[1 - from], &arrival, &mut numbers);
-            assert!(ends[0].library == ends[1].library, "the ends' records differ");
+            assert!(same(&ends[0].library, &ends[1].library), "the ends' records differ");
             refuse(random, &mut ends[1 - from], &arrival);
             refuse(random, &mut ends[from], &arrival);
             forged += 3;
@@ -122,7 +122,7 @@ fn every_pair_of_edges() {
                 let mut back = random.bytes(room);
                 let answer = other.unwrap(&metadata, &out[..m], &tag, &mut back);
                 assert_eq!((answer, &back[..m]), (answer_of(Ok(count(a, m))), &message[..]));
-                assert!(both.library == other.library);
+                assert!(same(&both.library, &other.library));
             }
         }
     }
@@ -194,7 +194,7 @@ fn indexes_near_the_limit() {
         let mut there = Both::of(session);
         let mut back = random.bytes(message.len());
         assert_eq!(there.unwrap(&metadata, &out, &tag, &mut back), answer);
-        assert!(answer.number == 9 || (back == message && here.library == there.library));
+        assert!(answer.number == 9 || (back == message && same(&here.library, &there.library)));
     });
 }
 
@@ -222,7 +222,7 @@ fn one_long_session_up_to_the_limit() {
         let mut back = vec![0; 16_384];
         let answer = raw::unwrap(&mut far, &message, &out, &tag, &mut back);
         assert_eq!(answer.number, number);
-        assert!(far == both.library);
+        assert!(same(&far, &both.library));
         if number != 0 {
             assert_eq!(number, 9);
             break;

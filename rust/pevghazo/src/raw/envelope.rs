@@ -4,6 +4,7 @@ use std::mem::{offset_of, size_of};
 
 /// An envelope as it was read: the places where its parts begin, and the place after it.
 #[repr(C)]
+#[must_use = "the reading may have been refused"]
 #[derive(Clone, Copy, Debug, PartialEq, Eq)]
 pub struct Parts {
     /// 0, or the refusal's number.
@@ -22,6 +23,7 @@ pub struct Parts {
 
 /// An envelope as it was written.
 #[repr(C)]
+#[must_use = "the writing may have been refused"]
 #[derive(Clone, Copy, Debug, PartialEq, Eq)]
 pub struct Written {
     /// 0, or the refusal's number.

@@ -5,16 +5,29 @@
 //! and takes tags and tables of any length, which the tests need.
 //!
 //! Each call hands over the pointers and lengths of slices and references, so they are not null and hold what the types say;
-//! an altered one is borrowed alone, so it overlaps no other. That is all that the header asks for.
+//! an altered one is borrowed alone, so it overlaps no other. That is all that the header asks for. After a call on records
+//! the stack that it used is overwritten.
+//!
+//! The answers' numbers must not be ignored:
+//!
+//! ```compile_fail
+//! #![deny(unused_must_use)]
+//! use pevghazo::raw;
+//!
+//! let mut record = raw::Record::closed();
+//! raw::start(&mut record, &[7; 16]);
+//! ```
 
 use std::sync::atomic::{Ordering, compiler_fence};
 
 mod envelope;
 mod session;
+mod stack;
 mod table;
 
 pub use envelope::{Parts, Written, read_envelope, write_envelope};
 pub use session::{Answer, Record, start, unwrap, wrap};
+pub(crate) use stack::clear_stack;
 pub use table::{Day, Found, GroupAnswer, nearly_full, no_day, open_group, start_day, unwrap_group, wrap_group};
 
 /// Sets bytes to zero, also where nobody reads them afterwards.

@@ -3,9 +3,19 @@
 use std::mem::{offset_of, size_of};
 use std::sync::atomic::{Ordering, compiler_fence};
 
-/// A session's record. It is secret, and its memory is set to zero when it is dropped.
+use super::stack::clear_stack;
+
+/// A session's record. It is secret, and its memory is set to zero when it is dropped; one that is moved leaves its old memory as it was,
+/// so [`Session`](crate::Session) and [`Table`](crate::Table) keep theirs in boxes.
+///
+/// Records cannot be compared by `==`, whose time would tell where they differ:
+///
+/// ```compile_fail,E0369
+/// use pevghazo::raw::Record;
+///
+/// assert!(Record::closed() == Record::closed());
+/// ```
 #[repr(C)]
-#[derive(PartialEq, Eq)]
 pub struct Record {
     /// The accumulator of the history.
     pub acc: [u32; 12],
@@ -21,6 +31,7 @@ pub struct Record {
 
 /// What a call on a lone session gives: its number, and the permutations done.
 #[repr(C)]
+#[must_use = "the call may have been refused"]
 #[derive(Clone, Copy, Debug, PartialEq, Eq)]
 pub struct Answer {
     /// 0, or the refusal's number.
@@ -35,8 +46,8 @@ const _: () = assert!(offset_of!(Record, toggle) == 100 && offset_of!(Record, op
 const _: () = assert!(size_of::<Answer>() == 8);
 
 unsafe extern "C" {
-    fn pevghazo_start(session: *mut Record, key: *const u8, key_len: usize) -> Answer;
-    fn pevghazo_wrap(
+    pub(super) fn pevghazo_start(session: *mut Record, key: *const u8, key_len: usize) -> Answer;
+    pub(super) fn pevghazo_wrap(
         session: *mut Record,
         metadata: *const u8,
         metadata_len: usize,
@@ -47,7 +58,7 @@ unsafe extern "C" {
         tag: *mut u8,
         tag_len: usize,
     ) -> Answer;
-    fn pevghazo_unwrap(
+    pub(super) fn pevghazo_unwrap(
         session: *mut Record,
         metadata: *const u8,
         metadata_len: usize,
@@ -63,13 +74,15 @@ unsafe extern "C" {
 /// Starts a session in this record. Check 4; a refused start closes the record, and the session that it held is lost.
 pub fn start(session: &mut Record, key: &[u8]) -> Answer {
     // SAFETY: see the module's head.
-    unsafe { pevghazo_start(session, key.as_ptr(), key.len()) }
+    let answer = unsafe { pevghazo_start(session, key.as_ptr(), key.len()) };
+    clear_stack();
+    answer
 }
 
 /// Wraps. Checks 5 to 9.
 pub fn wrap(session: &mut Record, metadata: &[u8], message: &[u8], out: &mut [u8], tag: &mut [u8]) -> Answer {
     // SAFETY: see the module's head.
-    unsafe {
+    let answer = unsafe {
         pevghazo_wrap(
             session,
             metadata.as_ptr(),
@@ -81,13 +94,15 @@ pub fn wrap(session: &mut Record, metadata: &[u8], message: &[u8], out: &mut [u8
             tag.as_mut_ptr(),
             tag.len(),
         )
-    }
+    };
+    clear_stack();
+    answer
 }
 
 /// Unwraps. Checks 5 to 9 and 11.
 pub fn unwrap(session: &mut Record, metadata: &[u8], cryptogram: &[u8], tag: &[u8], out: &mut [u8]) -> Answer {
     // SAFETY: see the module's head.
-    unsafe {
+    let answer = unsafe {
         pevghazo_unwrap(
             session,
             metadata.as_ptr(),
@@ -99,7 +114,9 @@ pub fn unwrap(session: &mut Record, metadata: &[u8], cryptogram: &[u8], tag: &[u
             out.as_mut_ptr(),
             out.len(),
         )
-    }
+    };
+    clear_stack();
+    answer
 }
 
 impl Record {
@@ -132,6 +149,7 @@ mod tests {
             place.assume_init_drop();
             place.assume_init_ref()
         };
-        assert!(*record == Record::closed());
+        assert_eq!((record.acc, record.mask), ([0; 12], [0; 12]));
+        assert_eq!((record.index, record.toggle, record.opened), (0, false, false));
     }
 }

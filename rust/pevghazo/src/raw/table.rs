@@ -3,6 +3,7 @@
 use std::mem::{offset_of, size_of};
 
 use super::Record;
+use super::stack::clear_stack;
 
 /// A day of the table: the permutations counted since it began, and the most that are allowed.
 #[repr(C)]
@@ -16,6 +17,7 @@ pub struct Day {
 
 /// What a call for a group gives: its number, the permutations done, and the day after it.
 #[repr(C)]
+#[must_use = "the call may have been refused, and the next one takes this one's day"]
 #[derive(Clone, Copy, Debug, PartialEq, Eq)]
 pub struct GroupAnswer {
     /// 0, or the refusal's number.
@@ -28,6 +30,7 @@ pub struct GroupAnswer {
 
 /// What the nearly-full question gives.
 #[repr(C)]
+#[must_use = "the question may have been refused"]
 #[derive(Clone, Copy, Debug, PartialEq, Eq)]
 pub struct Found {
     /// 0, or the refusal's number.
@@ -45,7 +48,7 @@ const _: () = assert!(size_of::<Found>() == 12 && offset_of!(Found, group) == 8)
 unsafe extern "C" {
     fn pevghazo_no_day() -> Day;
     fn pevghazo_start_day(allowance: u32) -> Day;
-    fn pevghazo_open_group(
+    pub(super) fn pevghazo_open_group(
         sessions: *mut Record,
         sessions_len: usize,
         group: u32,
@@ -53,7 +56,7 @@ unsafe extern "C" {
         key: *const u8,
         key_len: usize,
     ) -> GroupAnswer;
-    fn pevghazo_wrap_group(
+    pub(super) fn pevghazo_wrap_group(
         sessions: *mut Record,
         sessions_len: usize,
         group: u32,
@@ -67,7 +70,7 @@ unsafe extern "C" {
         tag: *mut u8,
         tag_len: usize,
     ) -> GroupAnswer;
-    fn pevghazo_unwrap_group(
+    pub(super) fn pevghazo_unwrap_group(
         sessions: *mut Record,
         sessions_len: usize,
         group: u32,
@@ -85,12 +88,14 @@ unsafe extern "C" {
 }
 
 /// The day before the first: count and allowance are 0.
+#[must_use]
 pub fn no_day() -> Day {
     // SAFETY: plain numbers.
     unsafe { pevghazo_no_day() }
 }
 
 /// A day with this allowance and a count of 0.
+#[must_use]
 pub fn start_day(allowance: u32) -> Day {
     // SAFETY: plain numbers.
     unsafe { pevghazo_start_day(allowance) }
@@ -99,7 +104,10 @@ pub fn start_day(allowance: u32) -> Day {
 /// Opens a group. Checks 3, 4 and 10; a refusal leaves the old session.
 pub fn open_group(sessions: &mut [Record], group: u32, day: Day, key: &[u8]) -> GroupAnswer {
     // SAFETY: see the module's head.
-    unsafe { pevghazo_open_group(sessions.as_mut_ptr(), sessions.len(), group, day, key.as_ptr(), key.len()) }
+    let answer =
+        unsafe { pevghazo_open_group(sessions.as_mut_ptr(), sessions.len(), group, day, key.as_ptr(), key.len()) };
+    clear_stack();
+    answer
 }
 
 /// Wraps for a group. Checks 3 and 5 to 10.
@@ -113,7 +121,7 @@ pub fn wrap_group(
     tag: &mut [u8],
 ) -> GroupAnswer {
     // SAFETY: see the module's head.
-    unsafe {
+    let answer = unsafe {
         pevghazo_wrap_group(
             sessions.as_mut_ptr(),
             sessions.len(),
@@ -128,7 +136,9 @@ pub fn wrap_group(
             tag.as_mut_ptr(),
             tag.len(),
         )
-    }
+    };
+    clear_stack();
+    answer
 }
 
 /// Unwraps for a group. Checks 3 and 5 to 11.
@@ -142,7 +152,7 @@ pub fn unwrap_group(
     out: &mut [u8],
 ) -> GroupAnswer {
     // SAFETY: see the module's head.
-    unsafe {
+    let answer = unsafe {
         pevghazo_unwrap_group(
             sessions.as_mut_ptr(),
             sessions.len(),
@@ -157,11 +167,15 @@ pub fn unwrap_group(
             out.as_mut_ptr(),
             out.len(),
         )
-    }
+    };
+    clear_stack();
+    answer
 }
 
 /// An open group whose index is above the mark. Check 3.
 pub fn nearly_full(sessions: &[Record], mark: u32) -> Found {
     // SAFETY: see the module's head.
-    unsafe { pevghazo_nearly_full(sessions.as_ptr(), sessions.len(), mark) }
+    let found = unsafe { pevghazo_nearly_full(sessions.as_ptr(), sessions.len(), mark) };
+    clear_stack();
+    found
 }

@@ -109,6 +109,11 @@ pub fn copy(record: &Record) -> Record {
     Record { acc: record.acc, mask: record.mask, index: record.index, toggle: record.toggle, opened: record.opened }
 }
 
+/// Whether two records have the same content. Only tests compare them.
+pub fn same(a: &Record, b: &Record) -> bool {
+    (a.acc, a.mask, a.index, a.toggle, a.opened) == (b.acc, b.mask, b.index, b.toggle, b.opened)
+}
+
 /// The library's record for one of the reference.
 pub fn record_of(session: &Session) -> Record {
     Record {

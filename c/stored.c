@@ -1,0 +1,63 @@
+/* A session as bytes. Nothing here branches on a lane of an open session, or takes an address from one. */
+#include "pevghazo/stored.h"
+
+/* Where index, toggle and openness stand in the bytes. */
+enum { INDEX = 96, TOGGLE = 100, OPENED = 101 };
+
+/* A byte of a record. A flag is looked at in this way, since what another byte than 0 and 1 means there is not defined. */
+static uint8_t byte_of(const pevghazo_session *session, size_t offset) { return ((const uint8_t *)session)[offset]; }
+
+/* The checks that store and load share; `others` is zero where all numbers but openness are. */
+static uint32_t check(uint8_t toggle, uint8_t opened, uint32_t index, uint32_t others) {
+    if (toggle > 1 || opened > 1) return PEVGHAZO_STORED_FLAG;
+    if (index > PEVGHAZO_INDEX_MAX) return PEVGHAZO_STORED_INDEX;
+    if (opened == 0 && others != 0) return PEVGHAZO_STORED_CLOSED;
+    return PEVGHAZO_ACCEPTED;
+}
+
+/* 32 bits, the lowest byte first. */
+static void put(uint8_t *place, uint32_t number) {
+    place[0] = (uint8_t)(number & 0xFF);
+    place[1] = (uint8_t)(number >> 8 & 0xFF);
+    place[2] = (uint8_t)(number >> 16 & 0xFF);
+    place[3] = (uint8_t)(number >> 24);
+}
+
+static uint32_t get(const uint8_t *place) {
+    return (uint32_t)place[0] | (uint32_t)place[1] << 8 | (uint32_t)place[2] << 16 | (uint32_t)place[3] << 24;
+}
+
+uint32_t pevghazo_store_session(const pevghazo_session *session, uint8_t *bytes, size_t bytes_len) {
+    const uint8_t toggle = byte_of(session, offsetof(pevghazo_session, toggle)), opened = byte_of(session, offsetof(pevghazo_session, opened));
+    uint32_t others = session->index | toggle, number;
+    size_t i;
+    if (bytes_len != PEVGHAZO_SESSION_BYTES) return PEVGHAZO_STORED_LENGTH;
+    for (i = 0; i < 12; i++) others |= session->acc[i] | session->mask[i];
+    number = check(toggle, opened, session->index, others);
+    if (number != PEVGHAZO_ACCEPTED) return number;
+    for (i = 0; i < 12; i++) {
+        put(bytes + 4 * i, session->acc[i]);
+        put(bytes + 48 + 4 * i, session->mask[i]);
+    }
+    put(bytes + INDEX, session->index);
+    bytes[TOGGLE] = toggle;
+    bytes[OPENED] = opened;
+    return PEVGHAZO_ACCEPTED;
+}
+
+uint32_t pevghazo_load_session(pevghazo_session *session, const uint8_t *bytes, size_t bytes_len) {
+    uint32_t others = 0, number;
+    size_t i;
+    if (bytes_len != PEVGHAZO_SESSION_BYTES) return PEVGHAZO_STORED_LENGTH;
+    for (i = 0; i < OPENED; i++) others |= bytes[i];
+    number = check(bytes[TOGGLE], bytes[OPENED], get(bytes + INDEX), others);
+    if (number != PEVGHAZO_ACCEPTED) return number;
+    for (i = 0; i < 12; i++) {
+        session->acc[i] = get(bytes + 4 * i);
+        session->mask[i] = get(bytes + 48 + 4 * i);
+    }
+    session->index = get(bytes + INDEX);
+    session->toggle = bytes[TOGGLE] == 1;
+    session->opened = bytes[OPENED] == 1;
+    return PEVGHAZO_ACCEPTED;
+}

@@ -1,0 +1,28 @@
+/* Texts for people: the version, and a sentence for each number. */
+#include "pevghazo/numbers.h"
+#include "pevghazo/stored.h"
+#include "pevghazo/version.h"
+
+const char *pevghazo_version(void) { return PEVGHAZO_VERSION; }
+
+const char *pevghazo_number_text(uint32_t number) {
+    switch (number) {
+    case PEVGHAZO_ACCEPTED: return "Accepted.";
+    case PEVGHAZO_BAD_HEADER: return "This is not an envelope: its header does not follow the layout.";
+    case PEVGHAZO_TOO_FEW_BYTES: return "The envelope ends before all that its header announces.";
+    case PEVGHAZO_BAD_GROUP: return "There is no such group: groups are numbered 0 to 31.";
+    case PEVGHAZO_BAD_KEY: return "The key must have 16 to 47 bytes.";
+    case PEVGHAZO_NOT_OPEN: return "The session is not open.";
+    case PEVGHAZO_TOO_LONG: return "The metadata or the message has more than 16,384 bytes.";
+    case PEVGHAZO_BAD_TAG_LENGTH: return "The tag must have 32 bytes.";
+    case PEVGHAZO_NO_ROOM: return "The output buffer is too short.";
+    case PEVGHAZO_INDEX_FULL: return "The session is full: start a new one with a new key.";
+    case PEVGHAZO_ALLOWANCE: return "The day's allowance does not cover this call.";
+    case PEVGHAZO_WRONG_TAG: return "The tag is wrong: the arrival is damaged, repeated, out of order or not meant for this session.";
+    case PEVGHAZO_STORED_LENGTH: return "The stored bytes are too few or too many.";
+    case PEVGHAZO_STORED_FLAG: return "The stored bytes hold a flag that is neither 0 nor 1.";
+    case PEVGHAZO_STORED_INDEX: return "The stored bytes hold an index above 1,048,576.";
+    case PEVGHAZO_STORED_CLOSED: return "The stored bytes are those of a closed session that is not all zero.";
+    default: return "There is no such number.";
+    }
+}

@@ -1,0 +1,32 @@
+/* Pevghazo: setting secrets in memory to zero. These functions are plain C and not proved.
+ *
+ * The proved functions keep nothing between calls and use no memory of their own but the stack. There, below the frame of the function that
+ * called them, lanes of mask and accumulator stay behind: pevghazo_wipe_stack takes them away. What a program still has to see to:
+ *
+ *   - keys, records, stored bytes and messages: pevghazo_wipe, before their memory is given back;
+ *   - copies: assigning a pevghazo_session makes a second one, and a buffer that is grown may leave the old one behind;
+ *   - what the system writes elsewhere: swapped pages and core dumps (mlock and setrlimit help against these). */
+#ifndef PEVGHAZO_MEMORY_H
+#define PEVGHAZO_MEMORY_H
+
+#include "language.h"
+
+#ifdef __cplusplus
+extern "C" {
+#endif
+
+/* The bytes of stack that pevghazo_wipe_stack overwrites, more than three times what the deepest call uses. */
+enum { PEVGHAZO_STACK_BYTES = 8192 };
+
+/* Sets bytes to zero, also where nobody reads them afterwards. `memory` is not NULL, also where the length is 0. */
+void pevghazo_wipe(void *memory, size_t len);
+
+/* Overwrites the stack that calls of this library used, and the vector registers. The function that made the calls calls it, after the last
+ * one and before it returns. */
+void pevghazo_wipe_stack(void);
+
+#ifdef __cplusplus
+}
+#endif
+
+#endif

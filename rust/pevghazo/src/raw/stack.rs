@@ -1,0 +1,126 @@
+//! Overwriting what a call left on the stack.
+//!
+//! The library keeps nothing between calls, but lanes of mask and accumulator stay in the frames that its functions had. Each
+//! call of this crate that works on a record is followed by [`clear_stack`], from the same frame, so they are gone before
+//! anybody else sees them.
+
+use std::mem::MaybeUninit;
+use std::sync::atomic::{Ordering, compiler_fence};
+
+/// The bytes of stack that are overwritten. The deepest call takes less than a third of them, as the test below measures; the
+/// rest is for programs that look up the C library's functions at their first use, which takes some 2,500 bytes more.
+const STACK_BYTES: usize = 8_192;
+
+/// Writes zeros to the stack below the caller's frame, and to the vector registers.
+#[inline(never)]
+pub(crate) fn clear_stack() {
+    let mut frame = [const { MaybeUninit::<u64>::uninit() }; STACK_BYTES / 8];
+    for word in &mut frame {
+        // SAFETY: a reference may be written to. The write is volatile, so that it is not left out as one that nobody reads.
+        unsafe { word.as_mut_ptr().write_volatile(0) };
+    }
+    compiler_fence(Ordering::SeqCst);
+    clear_registers();
+}
+
+/// Sets the vector registers to zero, which the permutation leaves full of lanes: the next function might put them on its
+/// stack.
+#[cfg(target_arch = "x86_64")]
+fn clear_registers() {
+    // SAFETY: all registers that are written to are named.
+    unsafe {
+        std::arch::asm!(
+            "pxor xmm0, xmm0", "pxor xmm1, xmm1", "pxor xmm2, xmm2", "pxor xmm3, xmm3",
+            "pxor xmm4, xmm4", "pxor xmm5, xmm5", "pxor xmm6, xmm6", "pxor xmm7, xmm7",
+            "pxor xmm8, xmm8", "pxor xmm9, xmm9", "pxor xmm10, xmm10", "pxor xmm11, xmm11",
+            "pxor xmm12, xmm12", "pxor xmm13, xmm13", "pxor xmm14, xmm14", "pxor xmm15, xmm15",
+            out("xmm0") _, out("xmm1") _, out("xmm2") _, out("xmm3") _,
+            out("xmm4") _, out("xmm5") _, out("xmm6") _, out("xmm7") _,
+            out("xmm8") _, out("xmm9") _, out("xmm10") _, out("xmm11") _,
+            out("xmm12") _, out("xmm13") _, out("xmm14") _, out("xmm15") _,
+            options(nomem, nostack, preserves_flags),
+        );
+    }
+}
+
+#[cfg(not(target_arch = "x86_64"))]
+fn clear_registers() {}
+
+#[cfg(test)]
+mod tests {
+    use super::*;
+    use crate::raw::{Record, session, table};
+    use crate::{GROUPS, KEY_MAX, TAG_LENGTH, TEXT_MAX};
+    use std::fs::File;
+    use std::os::unix::fs::FileExt;
+
+    const PAINT: u8 = 0xA5;
+    const PAINTED: usize = 16 * STACK_BYTES;
+
+    #[inline(never)]
+    fn paint() {
+        let mut frame = [const { MaybeUninit::<u8>::uninit() }; PAINTED];
+        for byte in &mut frame {
+            // SAFETY: a reference may be written to.
+            unsafe { byte.as_mut_ptr().write_volatile(PAINT) };
+        }
+    }
+
+    /// The bytes of the stack below this function's caller, the nearest last.
+    #[inline(never)]
+    fn below(memory: &File, bytes: &mut [u8]) {
+        let here = 0_u8;
+        let end = &raw const here as u64;
+        memory.read_exact_at(bytes, end - bytes.len() as u64).expect("the stack");
+    }
+
+    /// How far down the stack is altered by a call; what the reading itself takes is less.
+    #[inline(never)]
+    fn depth(call: &mut dyn FnMut()) -> usize {
+        let memory = File::open("/proc/self/mem").expect("the system shows a process its memory");
+        let mut bytes = vec![0; PAINTED / 2];
+        paint();
+        call();
+        below(&memory, &mut bytes);
+        bytes.len() - bytes.iter().position(|byte| *byte != PAINT).expect("the call takes some stack")
+    }
+
+    /// The library's functions themselves, without the clearing, at their longest.
+    #[test]
+    fn the_deepest_call_is_covered() {
+        let (key, text) = ([7_u8; KEY_MAX], vec![1_u8; TEXT_MAX]);
+        let (mut out, mut tag) = (vec![0_u8; TEXT_MAX], [0_u8; TAG_LENGTH]);
+        let mut lone = Record::closed();
+        let mut all: Vec<Record> = (0..GROUPS).map(|_| Record::closed()).collect();
+        let day = table::start_day(u32::MAX);
+        let mut deepest = 0;
+        // The first turn may look up functions of the C library.
+        for call in (0..6).chain(0..6) {
+            let depth = depth(&mut || {
+                let (k, t, n) = (key.as_ptr(), text.as_ptr(), TEXT_MAX);
+                let (out, tag) = (out.as_mut_ptr(), tag.as_mut_ptr());
+                let all = all.as_mut_ptr();
+                // SAFETY: pointers and lengths are those of the slices and arrays above.
+                let number = unsafe {
+                    match call {
+                        0 => session::pevghazo_start(&mut lone, k, KEY_MAX).number,
+                        1 => session::pevghazo_wrap(&mut lone, t, n, t, n, out, n, tag, TAG_LENGTH).number,
+                        2 => session::pevghazo_unwrap(&mut lone, t, n, t, n, tag, TAG_LENGTH, out, n).number,
+                        3 => table::pevghazo_open_group(all, GROUPS, 7, day, k, KEY_MAX).number,
+                        4 => {
+                            table::pevghazo_wrap_group(all, GROUPS, 7, day, t, n, t, n, out, n, tag, TAG_LENGTH).number
+                        }
+                        _ => {
+                            table::pevghazo_unwrap_group(all, GROUPS, 7, day, t, n, t, n, tag, TAG_LENGTH, out, n)
+                                .number
+                        }
+                    }
+                };
+                assert_eq!(number, if call % 3 == 2 { 11 } else { 0 });
+            });
+            println!("call {call}: {depth} bytes of stack");
+            deepest = deepest.max(depth);
+        }
+        assert!(deepest > 200 && deepest * 3 < STACK_BYTES, "{deepest} of {STACK_BYTES}: too little margin");
+    }
+}

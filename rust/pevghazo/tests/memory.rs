@@ -1,0 +1,192 @@
+//! What stays of a session's secrets in memory: after each call one copy, the session's own, and after its end none.
+//!
+//! A process of its own makes the calls and looks through all of its memory, as a debugger or a core dump would show it. The
+//! lanes that it looks for are worked out here by the independent implementation and handed over as their complements, so that
+//! looking for them puts none there.
+
+use std::collections::BTreeSet;
+use std::fs::{self, File};
+use std::os::unix::fs::FileExt;
+use std::process::Command;
+
+use pevghazo::{Arrival, Plain, Session, Table};
+use pevghazo_reference::rolling::roll_input;
+use pevghazo_reference::session::Session as Reference;
+
+const KEY: &[u8] = b"a key for the memory's test";
+const METADATA: &[u8] = b"size C";
+const GROUP: u32 = 7;
+const VARIABLE: &str = "PEVGHAZO_LANES";
+
+/// The messages that go out, longer and longer.
+fn messages() -> [Vec<u8>; 3] {
+    [vec![], vec![0x31; 40], vec![0x32; 400]]
+}
+
+/// All lanes of mask and accumulator from the start to the last message, also those of the masks in between.
+fn lanes() -> BTreeSet<u32> {
+    let mut session = Reference::start(KEY).unwrap();
+    let mut states = vec![session.mask];
+    for message in messages() {
+        session.wrap(METADATA, &message, &mut vec![0; message.len()], &mut [0; 32]).unwrap();
+        states.extend([session.accumulator, session.mask]);
+    }
+    let mut mask = states[0];
+    while mask != session.mask {
+        mask = roll_input(&mask);
+        states.push(mask);
+    }
+    // Small numbers and runs of one byte stand in memory for other reasons.
+    states.into_iter().flatten().filter(|lane| *lane > 0xFFFF && lane.to_le_bytes() != [*lane as u8; 4]).collect()
+}
+
+#[test]
+fn what_stays_in_memory() {
+    let hidden: Vec<String> = lanes().iter().map(|lane| (!lane).to_string()).collect();
+    let output = Command::new(std::env::current_exe().unwrap())
+        .args(["--exact", "child", "--ignored", "--nocapture", "--test-threads=1"])
+        .env(VARIABLE, hidden.join(" "))
+        .output()
+        .unwrap();
+    let said = String::from_utf8_lossy(&output.stdout);
+    assert!(
+        output.status.success() && said.contains("memory looked through"),
+        "{said}{}",
+        String::from_utf8_lossy(&output.stderr)
+    );
+}
+
+/// The places of this process's memory that hold a lane, and what kind of memory each is.
+struct Memory {
+    hidden: BTreeSet<u32>,
+    file: File,
+    buffer: Vec<u8>,
+}
+
+impl Memory {
+    fn new() -> Memory {
+        let hidden = std::env::var(VARIABLE).expect("what_stays_in_memory sets it");
+        let hidden = hidden.split(' ').map(|number| number.parse().unwrap()).collect();
+        Memory { hidden, file: File::open("/proc/self/mem").unwrap(), buffer: vec![0; 1 << 16] }
+    }
+
+    /// Looks through all that can be written to.
+    fn places(&mut self) -> Vec<(u64, String)> {
+        let mut found = Vec::new();
+        for line in fs::read_to_string("/proc/self/maps").unwrap().lines() {
+            let words: Vec<&str> = line.split_whitespace().collect();
+            if !words[1].starts_with("rw") {
+                continue;
+            }
+            let (start, end) = words[0].split_once('-').unwrap();
+            let (mut place, end) = (u64::from_str_radix(start, 16).unwrap(), u64::from_str_radix(end, 16).unwrap());
+            while place < end {
+                let length = self.buffer.len().min((end - place) as usize);
+                self.look(place, length, words.get(5).unwrap_or(&"a mapping"), &mut found);
+                place += length as u64;
+            }
+        }
+        found
+    }
+
+    fn look(&mut self, place: u64, length: usize, name: &str, found: &mut Vec<(u64, String)>) {
+        if self.file.read_exact_at(&mut self.buffer[..length], place).is_err() {
+            return;
+        }
+        let own = self.buffer.as_ptr_range();
+        // A stored record may stand at any even place of its table's bytes.
+        for (i, word) in self.buffer[..length].windows(4).enumerate().step_by(2) {
+            let at = place + i as u64;
+            let is_own = (own.start as u64..own.end as u64).contains(&at);
+            if !is_own && self.hidden.contains(&!u32::from_le_bytes(word.try_into().unwrap())) {
+                found.push((at, name.to_string()));
+            }
+        }
+        self.buffer.fill(0);
+    }
+
+    /// While a session lives, its lanes stand in one record.
+    fn one_record(&mut self, when: &str) {
+        let places = self.places();
+        let (first, last) = (places.first(), places.last());
+        let (Some((first, _)), Some((last, _))) = (first, last) else { panic!("{when}: this test sees nothing") };
+        assert!(last - first < 96, "{when}: lanes stand in more than one place: {places:x?}");
+    }
+
+    fn nothing(&mut self, when: &str) {
+        let places = self.places();
+        assert!(places.is_empty(), "{when}: lanes are left: {places:x?}");
+    }
+}
+
+/// Runs in the process whose memory is looked through.
+#[test]
+#[ignore = "what_stays_in_memory runs it in a process of its own"]
+fn child() {
+    let mut memory = Memory::new();
+    memory.nothing("before the first call");
+    lone(&mut memory);
+    table(&mut memory);
+    println!("memory looked through");
+}
+
+/// One session, which wraps; and one that unwraps what it gave.
+fn lone(memory: &mut Memory) {
+    let mut sent = Vec::new();
+    let (mut session, _) = Session::start(KEY).unwrap();
+    memory.one_record("after start");
+    for message in messages() {
+        sent.push(session.wrap(&Plain { metadata: METADATA, message: &message }).unwrap());
+        memory.one_record("after wrap");
+    }
+    drop(session);
+    memory.nothing("after the end of a session");
+
+    let (mut session, _) = Session::start(KEY).unwrap();
+    for wrapped in &sent {
+        let arrival = Arrival { metadata: METADATA, cryptogram: &wrapped.cryptogram, tag: &wrapped.tag };
+        assert!(session.unwrap(&Arrival { tag: &[0; 32], ..arrival }).is_err());
+        memory.one_record("after a refused unwrap");
+        let _ = session.unwrap(&arrival).unwrap();
+        memory.one_record("after unwrap");
+        let moved = Box::new(session);
+        session = *moved;
+        let bytes = session.to_bytes();
+        drop(session);
+        memory.one_record("while it is stored");
+        session = Session::from_bytes(&bytes).unwrap();
+        drop(bytes);
+        memory.one_record("after storing and loading");
+    }
+    drop(session);
+    memory.nothing("after the end of a second session");
+}
+
+/// The same for a group of a table.
+fn table(memory: &mut Memory) {
+    let mut office = Table::new();
+    office.start_day(u32::MAX);
+    office.open_group(GROUP, KEY).unwrap();
+    memory.one_record("after opening a group");
+    let mut sent = Vec::new();
+    for message in messages() {
+        sent.push(office.seal(GROUP, &Plain { metadata: METADATA, message: &message }).unwrap());
+        memory.one_record("after sealing for a group");
+    }
+    assert_eq!(office.nearly_full(1), Some(GROUP));
+    memory.one_record("after the nearly-full question");
+    office.start_day(u32::MAX);
+    office.open_group(GROUP, KEY).unwrap();
+    for sealed in &sent {
+        let _ = office.open(&sealed.envelope).unwrap();
+        memory.one_record("after opening an envelope of a group");
+    }
+    let bytes = office.to_bytes();
+    drop(office);
+    memory.one_record("while the table is stored");
+    office = Table::from_bytes(&bytes).unwrap();
+    drop(bytes);
+    memory.one_record("after storing and loading a table");
+    drop(office);
+    memory.nothing("after the end of a table");
+}

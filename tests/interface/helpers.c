@@ -1,0 +1,120 @@
+/* The functions in plain C beside the proved ones, in old C: texts, version, and sessions as bytes. `print` as an argument prints what the Rust
+ * crate must print, too: the sentences, and a session's bytes. */
+#include <pevghazo.h>
+#include <stdio.h>
+#include <stdlib.h>
+#include <string.h>
+
+static void check(const char *what, int holds) {
+    if (holds) return;
+    fprintf(stderr, "helpers: %s\n", what);
+    exit(1);
+}
+
+static const uint8_t key[] = "a key for the stored bytes", metadata[] = "size C", message[] = "12001-12100";
+static pevghazo_session session, zero;
+static uint8_t stored[PEVGHAZO_SESSION_BYTES];
+
+static void texts(void) {
+    const char *none = pevghazo_number_text(12);
+    char version[32];
+    uint32_t i, j;
+    sprintf(version, "%d.%d.%d", PEVGHAZO_VERSION_MAJOR, PEVGHAZO_VERSION_MINOR, PEVGHAZO_VERSION_PATCH);
+    check("the version's text is another than its numbers", strcmp(version, PEVGHAZO_VERSION) == 0);
+    check("the library's version is another than the headers'", strcmp(version, pevghazo_version()) == 0);
+    for (i = 0; i <= 300; i++) {
+        const char *text = pevghazo_number_text(i);
+        const int is_number = i <= PEVGHAZO_WRONG_TAG || (i >= PEVGHAZO_STORED_LENGTH && i <= PEVGHAZO_STORED_CLOSED);
+        check("a text is no sentence", strlen(text) > 5 && text[strlen(text) - 1] == '.');
+        check("a number has no text, or a text no number", (strcmp(text, none) != 0) == is_number);
+        for (j = 0; is_number && j < i; j++) check("two numbers have one text", strcmp(text, pevghazo_number_text(j)) != 0);
+    }
+    check("the highest number has a text", strcmp(pevghazo_number_text(0xFFFFFFFF), none) == 0);
+}
+
+/* The record and the bytes stay where a call is refused. */
+static void refused(uint32_t number, const pevghazo_session *bad, const uint8_t *bytes, size_t bytes_len) {
+    static uint8_t out[300], before[300];
+    pevghazo_session record = session;
+    memset(out, 0xA5, sizeof out);
+    memcpy(before, out, sizeof out);
+    if (bad != NULL) check("storing gives another number", pevghazo_store_session(bad, out, bytes_len) == number);
+    check("a refused storing alters the bytes", memcmp(out, before, sizeof out) == 0);
+    if (bytes != NULL) check("loading gives another number", pevghazo_load_session(&record, bytes, bytes_len) == number);
+    check("a refused loading alters the record", memcmp(&record, &session, sizeof record) == 0);
+}
+
+/* A session with one byte of its record and of its stored bytes altered; the two stand at the same place. */
+static void altered(uint32_t number, const pevghazo_session *from, const uint8_t *from_bytes, size_t place, unsigned value) {
+    pevghazo_session bad = *from;
+    uint8_t bytes[PEVGHAZO_SESSION_BYTES];
+    memcpy(bytes, from_bytes, sizeof bytes);
+    bytes[place] = (uint8_t)value;
+    ((uint8_t *)&bad)[place] = (uint8_t)value;
+    refused(number, &bad, bytes, sizeof bytes);
+}
+
+static void sessions(void) {
+    static const uint8_t zeros[PEVGHAZO_SESSION_BYTES];
+    static uint8_t longer[300], out[sizeof message], tag[PEVGHAZO_TAG_LENGTH];
+    pevghazo_session back;
+    unsigned value;
+    size_t i;
+    check("starting is refused", pevghazo_start(&session, key, sizeof key - 1).number == PEVGHAZO_ACCEPTED);
+    check("wrapping is refused",
+          pevghazo_wrap(&session, metadata, sizeof metadata - 1, message, sizeof message - 1, out, sizeof out, tag, sizeof tag).number
+              == PEVGHAZO_ACCEPTED);
+    check("storing is refused", pevghazo_store_session(&session, stored, sizeof stored) == PEVGHAZO_ACCEPTED);
+    memset(&back, 0, sizeof back);
+    check("loading is refused", pevghazo_load_session(&back, stored, sizeof stored) == PEVGHAZO_ACCEPTED);
+    check("another session comes back", memcmp(back.acc, session.acc, sizeof back.acc) == 0 && memcmp(back.mask, session.mask, sizeof back.mask) == 0
+          && back.index == session.index && back.toggle == session.toggle && back.opened == session.opened);
+    check("a closed session is refused", pevghazo_load_session(&back, zeros, sizeof zeros) == PEVGHAZO_ACCEPTED && !back.opened);
+    check("a closed session has other bytes", pevghazo_store_session(&zero, longer, sizeof zeros) == PEVGHAZO_ACCEPTED
+          && memcmp(longer, zeros, sizeof zeros) == 0);
+    for (i = 0; i <= 300; i++)
+        if (i != PEVGHAZO_SESSION_BYTES) refused(PEVGHAZO_STORED_LENGTH, &session, longer, i);
+    for (value = 2; value < 256; value++) {
+        altered(PEVGHAZO_STORED_FLAG, &session, stored, 100, value);
+        altered(PEVGHAZO_STORED_FLAG, &session, stored, 101, value);
+    }
+    altered(PEVGHAZO_STORED_INDEX, &session, stored, 98, 0x11);
+    altered(PEVGHAZO_STORED_INDEX, &session, stored, 99, 1);
+    altered(PEVGHAZO_STORED_CLOSED, &session, stored, 101, 0);
+    for (i = 0; i <= 100; i++) altered(i == 99 ? PEVGHAZO_STORED_INDEX : PEVGHAZO_STORED_CLOSED, &zero, zeros, i, 1);
+    back = session;
+    back.index = PEVGHAZO_INDEX_MAX;
+    check("a full session is refused", pevghazo_store_session(&back, longer, sizeof stored) == PEVGHAZO_ACCEPTED
+          && pevghazo_load_session(&back, longer, sizeof stored) == PEVGHAZO_ACCEPTED && back.index == PEVGHAZO_INDEX_MAX);
+    back.index = PEVGHAZO_INDEX_MAX + 1;
+    refused(PEVGHAZO_STORED_INDEX, &back, NULL, sizeof stored);
+}
+
+/* Wiped memory is zero, and what is beside it stays. */
+static void wiped(void) {
+    uint8_t bytes[64];
+    size_t i;
+    memset(bytes, 0xA5, sizeof bytes);
+    pevghazo_wipe(bytes, 0);
+    check("nothing is wiped as something", bytes[0] == 0xA5);
+    pevghazo_wipe(bytes + 1, sizeof bytes - 2);
+    for (i = 0; i < sizeof bytes; i++) check("other bytes are wiped", bytes[i] == (i == 0 || i == sizeof bytes - 1 ? 0xA5 : 0));
+    pevghazo_wipe_stack();
+}
+
+static void print(void) {
+    uint32_t number;
+    size_t i;
+    for (number = PEVGHAZO_BAD_HEADER; number <= PEVGHAZO_WRONG_TAG; number++) puts(pevghazo_number_text(number));
+    for (number = PEVGHAZO_STORED_FLAG; number <= PEVGHAZO_STORED_CLOSED; number++) puts(pevghazo_number_text(number));
+    for (i = 0; i < sizeof stored; i++) printf("%02x", stored[i]);
+    putchar('\n');
+}
+
+int main(int argc, char **argv) {
+    texts();
+    sessions();
+    wiped();
+    if (argc == 2 && strcmp(argv[1], "print") == 0) print();
+    return 0;
+}

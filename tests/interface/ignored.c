@@ -1,0 +1,15 @@
+/* A program that ignores what CALL gives; it must not compile where warnings are errors. With USED it looks at it, and must. */
+#include <pevghazo.h>
+
+int main(void) {
+    static pevghazo_session s[PEVGHAZO_GROUPS];
+    static pevghazo_day d;
+    static uint8_t a[200], b[200], c[200];
+    (void)s, (void)d, (void)a, (void)b, (void)c;
+#ifdef USED
+    return sizeof(CALL) == 0;
+#else
+    CALL;
+    return 0;
+#endif
+}

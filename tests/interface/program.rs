@@ -1,0 +1,23 @@
+//! A program outside the repository, over the installed library: prints the sentences of the numbers and a session's stored bytes,
+//! which must be those that the C functions give.
+
+use pevghazo::{BadBytes, Number, Plain, Refusal, Session, Table};
+
+fn main() -> Result<(), Refusal> {
+    let key = b"a key for the stored bytes";
+    let plain = Plain { metadata: b"size C", message: b"12001-12100" };
+    let (mut session, _) = Session::start(key)?;
+    let mut office = Table::new();
+    office.start_day(100);
+    office.open_group(7, key)?;
+    let sealed = office.seal(7, &plain)?;
+    assert_eq!(session.open(&sealed.envelope)?.message, plain.message);
+    for number in Number::ALL {
+        println!("{}", number.sentence());
+    }
+    for bad in [BadBytes::Flag, BadBytes::Index, BadBytes::Closed] {
+        println!("{bad}");
+    }
+    println!("{}", session.to_bytes().iter().map(|byte| format!("{byte:02x}")).collect::<String>());
+    Ok(())
+}

@@ -1,0 +1,100 @@
+/* What stays of a session in memory: the lanes that a call leaves on the stack are seen here, and gone after pevghazo_wipe_stack; a buffer that
+ * nobody reads any more is zero after pevghazo_wipe. The memory is read through /proc/self/mem, as a debugger or a core dump would show it. */
+#include <fcntl.h>
+#include <pevghazo.h>
+#include <stdio.h>
+#include <stdlib.h>
+#include <string.h>
+#include <unistd.h>
+
+enum { BELOW = 3 * PEVGHAZO_STACK_BYTES };
+
+static int memory;
+static pevghazo_session office[PEVGHAZO_GROUPS], lone;
+static const uint8_t key[] = "a key for the memory's test", metadata[] = "size C";
+static uint8_t message[300], out[300], tag[PEVGHAZO_TAG_LENGTH];
+
+static void fail(const char *what, const char *when) {
+    fprintf(stderr, "memory: %s: %s\n", when, what);
+    exit(1);
+}
+
+static void look(uintptr_t from, void *to, size_t n) {
+    if (pread(memory, to, n, (off_t)from) != (ssize_t)n) fail("/proc/self/mem cannot be read", "look");
+}
+
+/* The words below this function's frame that are a lane of this session. */
+__attribute__((noinline)) static unsigned lanes_below(const pevghazo_session *session) {
+    static uint32_t words[BELOW / 4];
+    unsigned found = 0;
+    uintptr_t here = (uintptr_t)__builtin_frame_address(0) & ~(uintptr_t)15;
+    look(here - sizeof words, words, sizeof words);
+    for (size_t i = 0; i < BELOW / 4; i++)
+        for (int k = 0; k < 12; k++)
+            found += (session->acc[k] != 0 && words[i] == session->acc[k]) || (session->mask[k] != 0 && words[i] == session->mask[k]);
+    memset(words, 0, sizeof words);
+    return found;
+}
+
+/* The calls that leave something behind. */
+enum { START, WRAP, UNWRAP, OPEN_GROUP, WRAP_GROUP, UNWRAP_GROUP, CALLS };
+static const char *const names[CALLS] = {"start", "wrap", "unwrap", "open a group", "wrap for a group", "unwrap for a group"};
+
+static uint32_t call(int which, size_t n) {
+    pevghazo_day day = pevghazo_start_day(UINT32_MAX);
+    switch (which) {
+    case START: return pevghazo_start(&lone, key, sizeof key).number;
+    case WRAP: return pevghazo_wrap(&lone, metadata, sizeof metadata, message, n, out, n, tag, sizeof tag).number;
+    case UNWRAP: return pevghazo_unwrap(&lone, metadata, sizeof metadata, out, n, tag, sizeof tag, message, n).number;
+    case OPEN_GROUP: return pevghazo_open_group(office, PEVGHAZO_GROUPS, 7, day, key, sizeof key).number;
+    case WRAP_GROUP:
+        return pevghazo_wrap_group(office, PEVGHAZO_GROUPS, 7, day, metadata, sizeof metadata, message, n, out, n, tag, sizeof tag).number;
+    default:
+        return pevghazo_unwrap_group(office, PEVGHAZO_GROUPS, 7, day, metadata, sizeof metadata, out, n, tag, sizeof tag, message, n).number;
+    }
+}
+
+/* A call, alone or with the stack wiped after it. */
+__attribute__((noinline)) static uint32_t called(int which, size_t n, int wiped) {
+    uint32_t number = call(which, n);
+    if (wiped) pevghazo_wipe_stack();
+    return number;
+}
+
+static void on_the_stack(int which, size_t n) {
+    const pevghazo_session *session = which < OPEN_GROUP ? &lone : &office[7];
+    (void)called(which, n, 0);
+    if (lanes_below(session) == 0) fail("no lane is found on the stack, so this test sees nothing", names[which]);
+    (void)called(which, n, 1);
+    if (lanes_below(session) != 0) fail("lanes are left on the stack", names[which]);
+}
+
+/* A secret that nobody reads after the wipe: a compiler that looked at all files at once would see that. */
+__attribute__((noinline)) static void dead_secret(int wiped, uintptr_t *place) {
+    uint8_t secret[64];
+    for (unsigned i = 0; i < sizeof secret; i++) ((volatile uint8_t *)secret)[i] = (uint8_t)(0xA0 + i);
+    if (wiped) pevghazo_wipe(secret, sizeof secret);
+    *place = (uintptr_t)secret;
+}
+
+static unsigned bytes_of_the_secret(int wiped) {
+    static uint8_t bytes[64];
+    unsigned found = 0;
+    uintptr_t place;
+    dead_secret(wiped, &place);
+    look(place, bytes, sizeof bytes);
+    for (unsigned i = 0; i < sizeof bytes; i++) found += bytes[i] == (uint8_t)(0xA0 + i);
+    return found;
+}
+
+int main(void) {
+    memory = open("/proc/self/mem", O_RDONLY);
+    if (memory < 0) fail("/proc/self/mem cannot be opened", "start");
+    for (unsigned i = 0; i < sizeof message; i++) message[i] = (uint8_t)(7 * i + 1);
+    for (int which = 0; which < CALLS; which++)
+        for (size_t n = 0; n <= sizeof message; n += 100) on_the_stack(which, n);
+    if (bytes_of_the_secret(0) < 16) fail("a buffer's bytes are not found, so this test sees nothing", "wipe");
+    if (bytes_of_the_secret(1) != 0) fail("a wiped buffer holds its bytes", "wipe");
+    puts("memory: calls leave lanes on the stack, and the wipes take them away");
+    return 0;
+}
