@@ -3,10 +3,12 @@
 //! Rust's runtime opens `/dev/null` in the place of a standard stream that is closed, before `main`, and its own standard
 //! streams take a failed read for an end and a failed write for a success. A closed input would be sealed as an empty message,
 //! and an envelope for a closed output would be lost. So a function that the system calls before the runtime (`.init_array`)
-//! notes whether the input can be read and the output written to, and reads and writes go to the descriptors themselves, with no
-//! memory in between that would keep what went through it. A plain `< /dev/null` is an empty input, and `> /dev/null` an output.
+//! notes whether the input can be read and the output written to, and puts the root folder in the place of a closed one: it can
+//! neither be read nor written to, by whichever name, as `/dev/stdin`. Reads and writes go to the descriptors themselves, with
+//! no memory in between that would keep what went through it. A plain `< /dev/null` is an empty input, and `> /dev/null` an
+//! output.
 
-use std::ffi::c_int;
+use std::ffi::{c_char, c_int};
 use std::fs::File;
 use std::io::{self, Write, stdin, stdout};
 use std::os::fd::AsFd;
@@ -15,6 +17,8 @@ use std::sync::atomic::{AtomicBool, Ordering};
 unsafe extern "C" {
     /// Asks about an open file, among other things.
     fn fcntl(file: c_int, question: c_int, ...) -> c_int;
+    /// Opens a file under the lowest number that is free.
+    fn open(path: *const c_char, flags: c_int, ...) -> c_int;
 }
 
 /// Whether the standard input cannot be read.
@@ -23,7 +27,7 @@ static NO_INPUT: AtomicBool = AtomicBool::new(false);
 /// Whether the standard output cannot be written to.
 static NO_OUTPUT: AtomicBool = AtomicBool::new(false);
 
-/// Looks at the two streams.
+/// Looks at the two streams, in their order.
 extern "C" fn look() {
     /// How a file was opened.
     const FLAGS: c_int = 3;
@@ -34,6 +38,10 @@ extern "C" fn look() {
     let access = |file| {
         // SAFETY: this question takes no more arguments and alters nothing.
         let flags = unsafe { fcntl(file, FLAGS) };
+        if flags == -1 {
+            // SAFETY: the path is a string that ends in a zero. The lowest free number is that of this stream.
+            unsafe { open(c"/".as_ptr(), READ_ONLY) };
+        }
         (flags != -1).then_some(flags & ACCESS)
     };
     NO_INPUT.store(matches!(access(0), None | Some(WRITE_ONLY)), Ordering::Relaxed);

@@ -39,6 +39,19 @@ fn a_closed_standard_input_or_output_is_refused() {
         assert_eq!(folder.read("out"), None);
     }
     assert_eq!(folder.read("new"), None);
+    // By their other names too.
+    for (shell, line) in [
+        ("exec <&-", "office --state office seal --group 5 --message /dev/stdin --out out"),
+        ("exec <&-", "office --state office seal --group 5 --message /proc/self/fd/0 --out out"),
+        ("exec <&-", "group --state new start --group 5 --key /dev/stdin"),
+        ("exec >&-", "office --state office seal --group 5 --message text --out /dev/stdout"),
+        ("exec <&- >&-", "office --state office seal --group 5 --message text --out /dev/fd/1"),
+    ] {
+        let run = after(&folder, shell, line);
+        assert_eq!(run.status, 4, "{shell}; {line}: {}", run.said);
+        assert!((folder.read("office"), folder.read("group")) == before, "{line}");
+        assert_eq!((folder.read("out"), folder.read("new")), (None, None));
+    }
     // A closed stream that is not used is no hindrance, nor is the standard error.
     let run = after(&folder, "exec <&- >&-", "office --state office seal --group 5 --message text --out first");
     assert_eq!((run.status, run.said.as_str()), (0, ""));

@@ -2,7 +2,8 @@
 //!
 //! A temporary file of `NAME` is called `.NAME.pevghazo-` and 16 random hexadecimal digits for a state file, and
 //! `.NAME.pevghazo-out-` and 16 for an output. It is created where nothing is, and is closed to others from the start. Nothing
-//! else is ever removed than a file with such a name of the process's own user, and no other name of the user's is taken.
+//! else is ever removed than a file with such a name of the process's own user, and no other name of the user's is taken. Of a
+//! `NAME` so long that this would not fit, the start and a checksum stand for it.
 
 use std::ffi::{OsStr, OsString};
 use std::fs::{self, File, OpenOptions, Permissions};
@@ -12,6 +13,7 @@ use std::os::unix::fs::{MetadataExt, OpenOptionsExt, PermissionsExt};
 use std::path::{Path, PathBuf};
 
 use crate::fault::step;
+use crate::format::crc64;
 use crate::system::{self, NO_FOLLOW, NO_WAIT};
 
 /// Readable and writable by the owner, closed to all others.
@@ -109,19 +111,33 @@ pub(crate) fn owner_only(file: &File) -> io::Result<()> {
 /// The digits of a temporary name.
 const DIGITS: usize = 16;
 
+/// What stands for a file's name in a temporary one: the name itself, if it is not too long.
+fn stem(name: &OsStr) -> OsString {
+    /// The most bytes of a name that stands for itself, and the bytes at the start of a longer one. A name has 255 at most.
+    const LONGEST: usize = 200;
+    const START: usize = 180;
+    let bytes = name.as_bytes();
+    if bytes.len() <= LONGEST {
+        return name.to_os_string();
+    }
+    let mut stem = OsStr::from_bytes(&bytes[..START]).to_os_string();
+    stem.push(format!("~{:016x}", crc64(bytes)));
+    stem
+}
+
 /// A temporary name for a file of this name.
 fn fresh_name(name: &OsStr, kind: Kind) -> io::Result<OsString> {
     let mut number = [0; DIGITS / 2];
     system::random(&mut number)?;
     let mut fresh = OsString::from(".");
-    fresh.push(name);
+    fresh.push(stem(name));
     fresh.push(format!("{}{:016x}", kind.mark(), u64::from_be_bytes(number)));
     Ok(fresh)
 }
 
 /// Whether a name is a temporary one of a file of this name.
 fn is_temporary(candidate: &OsStr, name: &OsStr, kind: Kind) -> bool {
-    let rest = candidate.as_bytes().strip_prefix(b".").and_then(|rest| rest.strip_prefix(name.as_bytes()));
+    let rest = candidate.as_bytes().strip_prefix(b".").and_then(|rest| rest.strip_prefix(stem(name).as_bytes()));
     rest.and_then(|rest| rest.strip_prefix(kind.mark().as_bytes())).is_some_and(|digits| {
         digits.len() == DIGITS && digits.iter().all(|digit| matches!(digit, b'0'..=b'9' | b'a'..=b'f'))
     })
@@ -180,5 +196,17 @@ mod tests {
             assert!(!is_temporary(OsStr::new(other), name, Kind::State), "{other}");
         }
         assert!(is_temporary(OsStr::new(".rings.txt.pevghazo-0123456789abcdef"), name, Kind::State));
+    }
+
+    #[test]
+    fn long_names_fit() {
+        for length in [200, 201, 255] {
+            let names = ["a", "b"].map(|last| OsString::from("x".repeat(length - 1) + last));
+            for kind in [Kind::State, Kind::Output] {
+                let fresh = fresh_name(&names[0], kind).unwrap();
+                assert!(fresh.len() <= 255, "{length}");
+                assert!(is_temporary(&fresh, &names[0], kind) && !is_temporary(&fresh, &names[1], kind), "{length}");
+            }
+        }
     }
 }

@@ -67,3 +67,19 @@ fn a_new_file_is_whole_or_not_there() {
     new_file::remove_leftovers(&path);
     assert!(temporaries(&folder.0).is_empty());
 }
+
+/// A name of the greatest length leaves room for its temporary one.
+#[test]
+fn a_new_file_may_have_a_long_name() {
+    let folder = Folder::new();
+    for length in [1, 200, 201, 255] {
+        let path = folder.0.join("n".repeat(length));
+        new_file::create(&path, b"text").unwrap();
+        assert_eq!(fs::read(&path).unwrap(), b"text");
+    }
+    let path = folder.0.join("s".repeat(250));
+    for text in [&b"one"[..], b"two"] {
+        common::put(&path, text);
+        assert_eq!(common::get(&path).as_deref(), Some(text));
+    }
+}
