@@ -1,6 +1,6 @@
 # demo: proves the library and plays a season with the command line over it.
 # test: everything, from nothing; the last line is 'N passed, M failed'.
-# lib: the proved C library target/staticlib/libcapi.a, and what is installed: archive and shared library with the helpers in plain C.
+# lib: the proved C library target/staticlib/libcapi.a, and what is installed: archive and shared library with the functions in plain C (c/).
 # install, uninstall: library, headers, pkg-config file, command, manual page and completions under PREFIX.
 # clean: removes all that was made, the proofs' results too; `make lib` then proves from nothing.
 .PHONY: demo test bench lib install uninstall clean
@@ -21,7 +21,7 @@ SONAME = libpevghazo.so.$(firstword $(subst ., ,$(INTERFACE)))
 
 LIBRARY = target/staticlib/libcapi.a
 HEADERS = include/pevghazo.h $(wildcard include/pevghazo/*.h)
-HELPERS = $(patsubst c/%.c,target/c/%.o,$(wildcard c/*.c))
+PLAIN = $(patsubst c/%.c,target/c/%.o,$(wildcard c/*.c))
 ARCHIVE = target/lib/libpevghazo.a
 SHARED = target/lib/libpevghazo.so.$(INTERFACE)
 COMMAND = rust/target/release/pevghazo
@@ -52,11 +52,11 @@ target/c/%.o: c/%.c $(HEADERS)
 	@mkdir -p $(@D)
 	gcc $(STRICT) $(CFLAGS) -fPIC -Iinclude -c $< -o $@
 
-# The proved library, with the helpers beside it.
-$(ARCHIVE): $(LIBRARY) $(HELPERS)
+# The proved library, with the functions in plain C beside it.
+$(ARCHIVE): $(LIBRARY) $(PLAIN)
 	@mkdir -p $(@D)
 	cp $(LIBRARY) $@.new
-	ar r $@.new $(HELPERS)
+	ar r $@.new $(PLAIN)
 	mv $@.new $@
 
 # Code that cannot be moved in memory is refused (text), and so is a name that no library has (defs).

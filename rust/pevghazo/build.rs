@@ -4,7 +4,7 @@
 use std::path::{Path, PathBuf};
 use std::process::{Command, exit};
 
-/// The names that the library goes by, with the file and the kind of linking: installed with its helpers, as `rt` makes it, shared.
+/// The names that the library goes by, with the file and the kind of linking: installed with the functions in plain C, as `rt` makes it, shared.
 const NAMES: [(&str, &str, &str); 3] =
     [("pevghazo", "libpevghazo.a", "static"), ("capi", "libcapi.a", "static"), ("pevghazo", "libpevghazo.so", "dylib")];
 

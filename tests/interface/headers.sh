@@ -1,4 +1,4 @@
-# The headers: each stands alone, in old C, later C and C++, and the helpers' sources too. Read by interface.sh.
+# The headers: each stands alone, in old C, later C and C++, and so do the sources in plain C. Read by interface.sh.
 for header in include/pevghazo.h include/pevghazo/*.h; do
   for compiler in "gcc -x c -std=c89" "gcc -x c -std=c99" "gcc -x c -std=c17" "clang -x c -std=c89" "clang -x c -std=c17" \
     "g++ -x c++ -std=c++98" "g++ -x c++ -std=c++17" "clang++ -x c++ -std=c++17"; do

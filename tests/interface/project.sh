@@ -19,7 +19,7 @@ grep -q 'The proved library is missing' "$out/log" || fail "the Rust project say
 said project cargo build --offline --quiet
 project cargo run --offline --quiet >"$out/rust.installed"
 project PKG_CONFIG_PATH= PKG_CONFIG_LIBDIR=/nowhere PEVGHAZO_LIB_DIR="$prefix/lib" cargo run --offline --quiet >"$out/rust.folder"
-"$out/helpers.shared" print >"$out/c"
+"$out/plain.shared" print >"$out/c"
 for rust in installed folder; do
   diff "$out/c" "$out/rust.$rust" || fail "C (left) and Rust (right) give other sentences or stored bytes"
 done

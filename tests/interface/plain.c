@@ -7,7 +7,7 @@
 
 static void check(const char *what, int holds) {
     if (holds) return;
-    fprintf(stderr, "helpers: %s\n", what);
+    fprintf(stderr, "plain: %s\n", what);
     exit(1);
 }
 
