@@ -79,10 +79,10 @@ pub fn wipe(bytes: &mut [u8]) {
     compiler_fence(Ordering::SeqCst);
 }
 
-/// Sets to zero what the calls before this one left on the stack, 256 KiB deep.
+/// Sets to zero what the calls before this one left on the stack, 64 KiB deep.
 #[inline(never)]
 pub fn wipe_stack() {
-    let mut room = [const { MaybeUninit::<u8>::uninit() }; 1 << 18];
+    let mut room = [const { MaybeUninit::<u8>::uninit() }; 1 << 16];
     for byte in &mut room {
         // SAFETY: a reference may be written to.
         unsafe { byte.as_mut_ptr().write_volatile(0) };
