@@ -1,18 +1,19 @@
-//! The words and options of a command line, checked against the list of commands.
+//! The words and options of a command line, checked against the table of commands.
 //!
 //! A command line is some words, as `office seal`, and options, as `--group 4` or `--group=4`, in any order.
 
 use std::ffi::{OsStr, OsString};
 use std::os::unix::ffi::{OsStrExt, OsStringExt};
 
-use crate::commands::{COMMANDS, Command, ENDS, Opt};
+use crate::completions;
 use crate::failure::Failure;
 use crate::help;
+use crate::table::{self, COMMON, Command, ENDS, Id, Opt, Value};
 
 /// What a command line asks for.
 #[derive(Debug)]
 pub enum Request {
-    /// A help text, or the version.
+    /// A help text, the version, or the completions of a shell.
     Print(String),
     /// A command with its options.
     Run(&'static Command, Arguments),
@@ -20,12 +21,15 @@ pub enum Request {
 
 /// The options of a command line, each at most once.
 #[derive(Debug, Default)]
-pub struct Arguments(Vec<(&'static str, OsString)>);
+pub struct Arguments(Given);
+
+/// Options as they were given.
+type Given = Vec<(&'static Opt, OsString)>;
 
 impl Arguments {
     /// An option's value, if it was given.
     pub fn value(&self, name: &str) -> Option<&OsStr> {
-        self.0.iter().find(|(known, _)| *known == name).map(|(_, value)| value.as_os_str())
+        self.0.iter().find(|(known, _)| known.name == name).map(|(_, value)| value.as_os_str())
     }
 
     /// Whether an option was given.
@@ -40,10 +44,11 @@ impl Arguments {
 
     /// The number that an option has as its value, if it was given.
     pub fn number(&self, name: &str) -> Result<Option<u32>, Failure> {
-        let Some(value) = self.value(name) else { return Ok(None) };
+        let Some((option, value)) = self.0.iter().find(|(known, _)| known.name == name) else { return Ok(None) };
         let digits = value.to_str().filter(|text| text.bytes().all(|byte| byte.is_ascii_digit()));
         digits.and_then(|text| text.parse().ok()).map(Some).ok_or_else(|| {
-            Failure::Usage(format!("The option --{name} needs a number from 0 to {}, in digits.", u32::MAX))
+            let highest = if let Value::Number(_, highest) = option.value { highest } else { u32::MAX };
+            Failure::Usage(format!("The option --{name} needs a number from 0 to {highest}, in digits."))
         })
     }
 
@@ -58,32 +63,44 @@ impl Arguments {
 pub fn parse(tokens: impl IntoIterator<Item = OsString>) -> Result<Request, Failure> {
     let (words, given) = split(tokens)?;
     let words: Vec<&str> = words.iter().map(String::as_str).collect();
-    let has = |name: &str| given.iter().any(|(known, _)| *known == name);
-    let (end, name) = match words[..] {
-        [] => ("", ""),
-        [word] if ENDS.contains(&word) => (word, ""),
-        [word] => ("", word),
-        [end, name] if ENDS.contains(&end) => (end, name),
-        [_, extra, ..] if !ENDS.contains(&words[0]) => return Err(unknown_word(extra)),
-        [_, _, extra, ..] => return Err(unknown_word(extra)),
-        [_, _] => return Err(unknown_word(words[0])),
-    };
-    let command = COMMANDS.iter().find(|command| command.end == end && command.name == name);
+    let has = |name: &str| given.iter().any(|(known, _)| known.name == name);
+    match words[..] {
+        ["completions", shell] if given.is_empty() => return completions::of(shell).map(Request::Print),
+        ["help", ref topic @ ..] if !topic.is_empty() && given.is_empty() => return help_on(topic),
+        _ => {}
+    }
+    let (end, command) = command_of(&words)?;
     match command {
-        None if !name.is_empty() => Err(unknown_word(name)),
         _ if has("help") => Ok(Request::Print(command.map_or_else(|| help::list(end), help::command))),
         None if has("version") => Ok(Request::Print(help::version())),
         None => Err(Failure::Usage(format!("Which command?\n\n{}", help::list(end).trim_end()))),
-        Some(command) => Ok(Request::Run(command, check(command, given)?)),
+        Some(command) => {
+            let arguments = check(command, given)?;
+            Ok(if command.id == Id::Help { Request::Print(help::list("")) } else { Request::Run(command, arguments) })
+        }
     }
+}
+
+/// The help text on a command, or on an end's commands.
+fn help_on(topic: &[&str]) -> Result<Request, Failure> {
+    let (end, command) = command_of(topic)?;
+    Ok(Request::Print(command.map_or_else(|| help::list(end), help::command)))
+}
+
+/// The end, or nothing, and the command of some words. The first word that fits nowhere is named.
+fn command_of<'a>(words: &[&'a str]) -> Result<(&'a str, Option<&'static Command>), Failure> {
+    let (end, rest) = match words {
+        [end, rest @ ..] if ENDS.contains(end) => (*end, rest),
+        words => ("", words),
+    };
+    let [name, extra @ ..] = rest else { return Ok((end, None)) };
+    let command = table::find(end, name).ok_or_else(|| unknown_word(name))?;
+    extra.first().map_or(Ok((end, Some(command))), |word| Err(unknown_word(word)))
 }
 
 fn unknown_word(word: &str) -> Failure {
     Failure::Usage(format!("There is no command {word:?} here: `pevghazo --help` lists them."))
 }
-
-/// Options as they were given.
-type Given = Vec<(&'static str, OsString)>;
 
 /// Splits a command line into its words and its options.
 fn split(tokens: impl IntoIterator<Item = OsString>) -> Result<(Vec<String>, Given), Failure> {
@@ -91,53 +108,69 @@ fn split(tokens: impl IntoIterator<Item = OsString>) -> Result<(Vec<String>, Giv
     let mut given = Given::new();
     let mut tokens = tokens.into_iter();
     while let Some(token) = tokens.next() {
-        let Some(option) = token.as_bytes().strip_prefix(b"--") else {
-            match token.into_string() {
-                Ok(word) if word == "-h" => given.push(("help", OsString::new())),
-                Ok(word) => words.push(word),
-                Err(word) => return Err(unknown_word(&word.to_string_lossy())),
-            }
+        let (option, value) = if let Some(option) = token.as_bytes().strip_prefix(b"--") {
+            long(option, &mut tokens)?
+        } else if let Some(option) = letter(&token) {
+            (option, OsString::new())
+        } else {
+            words.push(token.into_string().map_err(|word| unknown_word(&word.to_string_lossy()))?);
             continue;
         };
-        let (name, inside) = match option.iter().position(|byte| *byte == b'=') {
-            Some(place) => (&option[..place], Some(OsString::from_vec(option[place + 1..].to_vec()))),
-            None => (option, None),
-        };
-        let known = known(name)?;
-        let value = match (known.value.is_empty(), inside) {
-            (true, None) => OsString::new(),
-            (true, Some(_)) => return Err(Failure::Usage(format!("The option --{} takes no value.", known.name))),
-            (false, Some(value)) => value,
-            (false, None) => tokens.next().filter(|next| !next.as_bytes().starts_with(b"--")).ok_or_else(|| {
-                Failure::Usage(format!("The option --{} needs a value: --{0} {}.", known.name, known.value))
-            })?,
-        };
-        if given.iter().any(|(name, _)| *name == known.name) {
-            return Err(Failure::Usage(format!("The option --{} is given twice.", known.name)));
+        if given.iter().any(|(known, _)| known.name == option.name) {
+            return Err(Failure::Usage(format!("The option --{} is given twice.", option.name)));
         }
-        given.push((known.name, value));
+        given.push((option, value));
     }
     Ok((words, given))
 }
 
-/// The option of this name, of whichever command.
-fn known(name: &[u8]) -> Result<&'static Opt, Failure> {
-    let all = COMMANDS.iter().flat_map(|command| command.options).chain(&help::OPTIONS);
-    all.into_iter().find(|option| option.name.as_bytes() == name).ok_or_else(|| {
-        Failure::Usage(format!("There is no option {:?}: `--help` lists them.", String::from_utf8_lossy(name)))
-    })
+/// The option of a letter with a dash.
+fn letter(token: &OsStr) -> Option<&'static Opt> {
+    let letter = token.to_str()?.strip_prefix('-')?;
+    COMMON.iter().find(|option| option.letter.is_some_and(|known| letter.chars().eq([known])))
 }
 
-/// Checks that all options are the command's own, and that none is missing.
-fn check(command: &'static Command, given: Given) -> Result<Arguments, Failure> {
-    for (name, _) in &given {
-        if !command.options.iter().any(|option| option.name == *name) {
-            return Err(Failure::Usage(format!("`{}` has no option --{name}: see its --help.", command.title())));
+/// An option without its dashes, and its value: inside of it after `=`, or the next token.
+fn long(option: &[u8], tokens: &mut impl Iterator<Item = OsString>) -> Result<(&'static Opt, OsString), Failure> {
+    let (name, inside) = match option.iter().position(|byte| *byte == b'=') {
+        Some(place) => (&option[..place], Some(OsString::from_vec(option[place + 1..].to_vec()))),
+        None => (option, None),
+    };
+    let known = table::option(name).ok_or_else(|| {
+        Failure::Usage(format!("There is no option {:?}: `--help` lists them.", String::from_utf8_lossy(name)))
+    })?;
+    let value = match (known.value, inside) {
+        (Value::None, None) => OsString::new(),
+        (Value::None, Some(_)) => {
+            return Err(Failure::Usage(format!("The option --{} takes no value.", known.name)));
         }
+        (_, Some(value)) => value,
+        (_, None) => tokens
+            .next()
+            .filter(|next| !next.as_bytes().starts_with(b"--"))
+            .ok_or_else(|| Failure::Usage(format!("The option --{} needs a value: {known}.", known.name)))?,
+    };
+    Ok((known, value))
+}
+
+/// Checks that all options are the command's own, that none is missing, and that numbers are numbers.
+fn check(command: &'static Command, given: Given) -> Result<Arguments, Failure> {
+    let mut own = Given::new();
+    for (option, value) in given {
+        let name = option.name;
+        let Some(option) = command.options.iter().find(|option| option.name == name) else {
+            return Err(Failure::Usage(format!("`{}` has no option --{name}: see its --help.", command.title())));
+        };
+        own.push((option, value));
     }
-    let arguments = Arguments(given);
-    for option in command.options.iter().filter(|option| option.required) {
-        arguments.required(option.name)?;
+    let arguments = Arguments(own);
+    for option in command.options {
+        if option.required {
+            arguments.required(option.name)?;
+        }
+        if matches!(option.value, Value::Number(..)) {
+            arguments.number(option.name)?;
+        }
     }
     Ok(arguments)
 }
@@ -171,13 +204,33 @@ mod tests {
 
     #[test]
     fn numbers_are_digits_within_32_bits() {
-        for (text, number) in [("0", Some(0)), ("4294967295", Some(u32::MAX)), ("4294967296", None), ("+1", None)] {
+        for (text, number) in [("0", 0), ("007", 7), ("4294967295", u32::MAX)] {
             let line = format!("office day --state f --allowance {text}");
-            assert_eq!(options(&line).required_number("allowance").ok(), number, "{text}");
+            assert_eq!(options(&line).required_number("allowance").ok(), Some(number), "{text}");
         }
-        for text in ["", "-1", "1.5", "0x10", "ten"] {
+        for text in ["", "-1", "+1", "1.5", "0x10", "ten", "4294967296"] {
             let line = format!("office day --state f --allowance={text}");
-            assert_eq!(options(&line).number("allowance").unwrap_err().status(), 2, "{text}");
+            assert_eq!(parsed(&line).unwrap_err().status(), 2, "{text}");
+        }
+    }
+
+    #[test]
+    fn hints_name_the_first_word_that_fits_nowhere_and_the_range_of_a_number() {
+        for (line, word) in [
+            ("nothing show --state f", "nothing"),
+            ("nothing", "nothing"),
+            ("show office --state f", "show"),
+            ("office nothing more", "nothing"),
+            ("office show more --state f", "more"),
+            ("demo more", "more"),
+            ("help nothing show", "nothing"),
+        ] {
+            let said = parsed(line).unwrap_err().to_string();
+            assert!(said.starts_with(&format!("There is no command \"{word}\" here")), "{line}: {said}");
+        }
+        for group in ["-1", "x", "4294967296"] {
+            let said = parsed(&format!("office resend --state f --out o --group {group}")).unwrap_err().to_string();
+            assert_eq!(said, "The option --group needs a number from 0 to 31, in digits.", "{group}");
         }
     }
 
@@ -198,6 +251,15 @@ mod tests {
             "office show --state f --group 1",
             "office open-group --state f --group 1 --key f --replace=1",
             "office demo",
+            "office help",
+            "help nothing",
+            "help office nothing",
+            "help office show more",
+            "help --state f",
+            "completions",
+            "completions nothing",
+            "completions bash more",
+            "-x",
             "office day --state --allowance 1",
             "office show -state f",
             "--",

@@ -3,7 +3,7 @@
 use std::path::{Path, PathBuf};
 use std::{fmt, io};
 
-use pevghazo::Refusal;
+use pevghazo::{Number, Refusal};
 use pevghazo_store as store;
 
 /// Why a command failed. The display is one or more plain sentences.
@@ -44,6 +44,8 @@ pub enum Failure {
         /// The group of the state file.
         own: u32,
     },
+    /// The key was used in this state file before.
+    UsedKey,
     /// The proved library refused the call.
     Refused(Refusal),
     /// The library found a wrong tag, and the day's count could not be committed.
@@ -75,10 +77,12 @@ impl Failure {
         match self {
             Failure::Demo(_) => 1,
             Failure::Usage(_) => 2,
+            Failure::State(store::Error::Older { .. }) => 8,
             Failure::State(_) | Failure::Content { .. } | Failure::NotCounted(..) | Failure::NotNoted(_) => 3,
             Failure::File { .. } | Failure::OpenKey(_) | Failure::OutputExists(_) | Failure::LargeInput(_) => 4,
             Failure::NotNow(_) => 5,
             Failure::OtherGroup { .. } => 6,
+            Failure::UsedKey => 7,
             Failure::Refused(refusal) => 10 + refusal.number.number(),
             Failure::Kept { source, .. } => source.status(),
         }
@@ -101,6 +105,7 @@ impl fmt::Display for Failure {
     fn fmt(&self, f: &mut fmt::Formatter<'_>) -> fmt::Result {
         match self {
             Failure::Usage(sentence) | Failure::NotNow(sentence) => f.write_str(sentence),
+            Failure::State(error @ store::Error::Older { .. }) => write!(f, "{error} {OLDER}"),
             Failure::State(error) => error.fmt(f),
             Failure::Content { path, what } => write!(f, "The state file {} cannot be used: {what}.", path.display()),
             Failure::File { what, path, source } => write!(f, "Could not {what} {}: {source}.", path.display()),
@@ -114,6 +119,7 @@ impl fmt::Display for Failure {
             Failure::OtherGroup { asked, own } => {
                 write!(f, "This is for group {asked}, and the state file is that of group {own}.")
             }
+            Failure::UsedKey => f.write_str(USED_KEY),
             Failure::Refused(refusal) => refused(f, refusal),
             Failure::NotCounted(refusal, error) => {
                 refused(f, refusal)?;
@@ -130,7 +136,22 @@ impl fmt::Display for Failure {
     }
 }
 
+/// What is said of an older copy besides that it is one.
+const OLDER: &str = "\
+What is sealed from it takes the place of what was sealed since: replace its sessions under new keys. `--restore` takes it \
+all the same, which is right only if nothing was sealed or opened since the copy was made.";
+
+/// What is said of a key that was used before.
+const USED_KEY: &str = "\
+This key was used in this state file before: under it, old envelopes would be accepted again. Make a new one, as with \
+`pevghazo keygen`; `--reuse-key` takes it all the same.";
+
+/// What is said of a wrong tag besides that it is wrong.
+const WRONG_TAG: &str = "\
+Or both ends have sealed at once: then neither envelope can be opened, and the session is replaced under a new key.";
+
 /// The sentence of a refusal with its number.
 fn refused(f: &mut fmt::Formatter<'_>, refusal: &Refusal) -> fmt::Result {
-    write!(f, "Refused, number {}: {}", refusal.number.number(), refusal.number.sentence())
+    write!(f, "Refused, number {}: {}", refusal.number.number(), refusal.number.sentence())?;
+    if refusal.number == Number::WrongTag { write!(f, " {WRONG_TAG}") } else { Ok(()) }
 }

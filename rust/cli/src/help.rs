@@ -1,14 +1,8 @@
-//! The help texts, made from the list of commands.
+//! The help texts, made from the table of commands.
 
 use std::fmt::Write;
 
-use crate::commands::{COMMANDS, Command, Opt};
-
-/// The options that every command line may have.
-pub const OPTIONS: [Opt; 2] = [
-    Opt { name: "help", value: "", required: false, about: "print a help text" },
-    Opt { name: "version", value: "", required: false, about: "print the version" },
-];
+use crate::table::{COMMANDS, COMMON, Command};
 
 /// The version of this program.
 pub fn version() -> String {
@@ -21,25 +15,32 @@ pub fn list(end: &str) -> String {
     for command in COMMANDS.iter().filter(|command| end.is_empty() || command.end == end) {
         line(&mut text, &command.title(), command.about, 28);
     }
+    text.push('\n');
+    for option in &COMMON {
+        let letter = option.letter.map(|letter| format!(", -{letter}")).unwrap_or_default();
+        line(&mut text, &format!("{option}{letter}"), option.about, 28);
+    }
     text.push_str("\n`--help` after a command shows its options. A file `-` is the standard input or output.\n");
     text.push_str(
         "\nExit status: 0 done; 2 command line; 3 state file; 4 input or output; 5 not now; 6 another group's;\n",
     );
-    text.push_str("11 to 21 refused, 10 and the refusal's number. docs/COMMANDS.md is the manual.\n");
+    text.push_str("7 key used before; 8 state file is an older copy; 11 to 21 refused, 10 and the refusal's number.\n");
+    text.push_str("`man pevghazo` is the manual.\n");
     text
 }
 
 /// The help text of a command.
 pub fn command(command: &'static Command) -> String {
     let mut text = format!("{}: {}\n\n  {0}", command.title(), command.about);
+    if !command.words.is_empty() {
+        let _ = write!(text, " {}", command.words);
+    }
     for option in command.options {
-        let value = if option.value.is_empty() { String::new() } else { format!(" {}", option.value) };
-        let shape = format!("--{}{value}", option.name);
-        text.push_str(&if option.required { format!(" {shape}") } else { format!(" [{shape}]") });
+        text.push_str(&if option.required { format!(" {option}") } else { format!(" [{option}]") });
     }
     text.push_str("\n\n");
     for option in command.options {
-        line(&mut text, &format!("--{} {}", option.name, option.value), option.about, 22);
+        line(&mut text, &option.to_string(), option.about, 22);
     }
     if !command.more.is_empty() {
         let _ = write!(text, "\n{}\n", command.more);

@@ -1,14 +1,15 @@
-//! Reading inputs: files, the standard input and keys.
+//! Reading inputs: files, the standard input and keys. What was read is wiped after its use.
 
 use std::fs::File;
-use std::io::{Read, stdin};
 use std::os::unix::fs::MetadataExt;
 use std::path::Path;
 
 use pevghazo::{KEY_MAX, TEXT_MAX};
+use pevghazo_store::Secret;
 
 use crate::arguments::Arguments;
 use crate::failure::Failure;
+use crate::streams;
 
 /// The most bytes of a file with envelopes.
 const ENVELOPES_MAX: usize = 1 << 24;
@@ -31,65 +32,53 @@ pub fn is_standard(name: &Path) -> bool {
 }
 
 /// The metadata: a file's, or those of the command line itself, or none.
-pub fn metadata(arguments: &Arguments) -> Result<Vec<u8>, Failure> {
+pub fn metadata(arguments: &Arguments) -> Result<Secret, Failure> {
     match (arguments.value("metadata"), arguments.value("metadata-text")) {
         (Some(_), Some(_)) => {
             Err(Failure::Usage("Only one of --metadata and --metadata-text may be given.".to_string()))
         }
         (Some(name), None) => text(Path::new(name)),
-        (None, text) => Ok(text.map(|text| text.as_encoded_bytes().to_vec()).unwrap_or_default()),
+        (None, text) => Ok(text.map(|text| Secret::from(text.as_encoded_bytes())).unwrap_or_default()),
     }
 }
 
 /// A message. One that is too long is cut to a length that the library refuses.
-pub fn message(arguments: &Arguments) -> Result<Vec<u8>, Failure> {
+pub fn message(arguments: &Arguments) -> Result<Secret, Failure> {
     text(Path::new(arguments.required("message")?))
 }
 
-fn text(name: &Path) -> Result<Vec<u8>, Failure> {
+fn text(name: &Path) -> Result<Secret, Failure> {
     read(name, TEXT_MAX + 1, |_| Ok(()))
 }
 
 /// The bytes that an envelope is to be read from.
-pub fn envelope(arguments: &Arguments) -> Result<Vec<u8>, Failure> {
+pub fn envelope(arguments: &Arguments) -> Result<Secret, Failure> {
     let name = Path::new(arguments.required("in")?);
     let mut bytes = read(name, ENVELOPES_MAX + 1, |_| Ok(()))?;
     if bytes.len() > ENVELOPES_MAX {
         return Err(Failure::LargeInput(name.to_path_buf()));
     }
     let from = arguments.number("from")?.unwrap_or(0);
-    let from = usize::try_from(from).unwrap_or(usize::MAX).min(bytes.len());
-    bytes.drain(..from);
+    bytes.skip(usize::try_from(from).unwrap_or(usize::MAX));
     Ok(bytes)
 }
 
-/// A key: all bytes of its file, which others may not read. It is wiped after its use.
-pub fn with_key<T>(arguments: &Arguments, use_it: impl FnOnce(&[u8]) -> T) -> Result<T, Failure> {
+/// A key: all bytes of its file, which others may not read.
+pub fn key(arguments: &Arguments) -> Result<Secret, Failure> {
     let name = Path::new(arguments.required("key")?);
-    let mut key = read(name, KEY_MAX + 1, |file| {
+    read(name, KEY_MAX + 1, |file| {
         let mode = file.metadata().map_err(Failure::file("look at", name))?.mode();
         if mode & 0o077 == 0 { Ok(()) } else { Err(Failure::OpenKey(name.to_path_buf())) }
-    })?;
-    let result = use_it(&key);
-    pevghazo::wipe(&mut key);
-    Ok(result)
+    })
 }
 
 /// At most so many bytes of a file that passes a check, or of the standard input.
-fn read(name: &Path, most: usize, check: impl FnOnce(&File) -> Result<(), Failure>) -> Result<Vec<u8>, Failure> {
-    // Room from the start: a key is not left behind in memory that was outgrown.
-    let mut bytes = Vec::with_capacity(most.min(TEXT_MAX + 1));
-    let limit = most as u64;
+fn read(name: &Path, most: usize, check: impl FnOnce(&File) -> Result<(), Failure>) -> Result<Secret, Failure> {
     if is_standard(name) {
-        stdin()
-            .lock()
-            .take(limit)
-            .read_to_end(&mut bytes)
-            .map_err(Failure::file("read", Path::new("standard input")))?;
-    } else {
-        let file = File::open(name).map_err(Failure::file("open", name))?;
-        check(&file)?;
-        file.take(limit).read_to_end(&mut bytes).map_err(Failure::file("read", name))?;
+        let standard = streams::input().and_then(|input| Secret::read(input, most));
+        return standard.map_err(Failure::file("read", Path::new("standard input")));
     }
-    Ok(bytes)
+    let file = File::open(name).map_err(Failure::file("open", name))?;
+    check(&file)?;
+    Secret::read(file, most).map_err(Failure::file("read", name))
 }

@@ -7,41 +7,63 @@
 //!
 //! | module | what it holds |
 //! |---|---|
-//! | [`arguments`] | the words and options of a command line, checked against the list of commands |
-//! | [`commands`] | the list of commands, and what each does |
+//! | [`table`] | the table of commands, their options and help texts |
+//! | [`arguments`] | the words and options of a command line, checked against the table |
+//! | [`help`], [`completions`] | the help texts, and the completions for shells |
+//! | [`commands`] | what each command does |
+//! | [`end`] | the two ends, and their sealing and opening by the proved library |
 //! | [`state`] | what a state file holds, and its bytes |
+//! | [`keys`] | the keys that were used in a state file, and their fingerprints |
 //! | [`state_file`] | opening, locking and committing a state file |
 //! | [`input`], [`output`] | files and standard streams; an output is written as a whole or not at all |
+//! | [`streams`] | the standard streams as the program was started with them |
 //! | [`failure`] | everything that may go wrong, each with a sentence and an exit status |
-//! | [`help`] | the help texts |
-#![forbid(unsafe_code)]
+#![deny(unsafe_code)]
 
 mod arguments;
 mod commands;
+mod completions;
+mod end;
 mod failure;
 mod help;
 mod input;
+mod keys;
 mod output;
 mod state;
 mod state_file;
+#[allow(unsafe_code)]
+mod streams;
+mod table;
 
-use std::io::{Write, stderr, stdout};
+use std::io::{Write, stderr};
 use std::process::ExitCode;
 
 use arguments::Request;
+use pevghazo_store::{fault, wipe_stack};
+use streams::StandardOutput;
 
 fn main() -> ExitCode {
-    let mut out = stdout();
+    let status = done();
+    wipe_stack();
+    // Where a test looks for what is left in memory.
+    let _ = fault::step("end", || Ok(()));
+    ExitCode::from(status)
+}
+
+/// Does what the command line asks for, and gives the exit status.
+#[inline(never)]
+fn done() -> u8 {
+    let mut out = StandardOutput::new();
     let done = arguments::parse(std::env::args_os().skip(1)).and_then(|request| match request {
         Request::Print(text) => output::print(&mut out, &text),
-        Request::Run(command, arguments) => (command.run)(&arguments, &mut out),
+        Request::Run(command, arguments) => commands::run(command, &arguments, &mut out),
     });
     match done {
-        Ok(()) => ExitCode::SUCCESS,
+        Ok(()) => 0,
         Err(failure) => {
             // Where the sentence cannot be written, the exit status still says it.
-            let _ = writeln!(stderr(), "pevghazo: {failure}");
-            ExitCode::from(failure.status())
+            let _ = stderr().write_all(format!("pevghazo: {failure}\n").as_bytes());
+            failure.status()
         }
     }
 }

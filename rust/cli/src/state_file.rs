@@ -1,6 +1,6 @@
 //! Opening, locking and committing a state file.
 
-use std::path::{Path, PathBuf};
+use std::path::PathBuf;
 use std::time::Duration;
 
 use pevghazo_store::{Error, Presence, Store, Wait};
@@ -40,9 +40,19 @@ impl<S: State> Used<S> {
         if self.store.bytes() == Some(&bytes[..]) { Ok(()) } else { self.store.commit(&bytes) }
     }
 
-    /// The paths that no output may take: the state file's and those beside it.
-    pub fn own_paths(&self) -> Vec<PathBuf> {
-        ["", ".lock", ".new"].iter().map(|ending| beside(self.store.path(), ending)).collect()
+    /// Commits the state, and overwrites what the old file holds on the disk.
+    pub fn commit_and_wipe(&mut self) -> Result<(), Error> {
+        self.store.commit_and_wipe(&self.state.encode())
+    }
+
+    /// The number of the last commit.
+    pub fn generation(&self) -> u64 {
+        self.store.generation()
+    }
+
+    /// The paths that no output may take: the state file's and its lock file's.
+    pub fn own_paths(&self) -> [PathBuf; 2] {
+        self.store.own_paths()
     }
 }
 
@@ -55,11 +65,10 @@ pub fn create(arguments: &Arguments, state: &impl State) -> Result<(), Failure> 
 fn open(arguments: &Arguments, presence: Presence) -> Result<Store, Failure> {
     let seconds = arguments.number("wait")?.unwrap_or(WAIT_SECONDS);
     let wait = Wait::AtMost(Duration::from_secs(u64::from(seconds)));
-    Ok(Store::open(arguments.required("state")?, presence, wait)?)
-}
-
-fn beside(path: &Path, ending: &str) -> PathBuf {
-    let mut name = path.as_os_str().to_os_string();
-    name.push(ending);
-    PathBuf::from(name)
+    let path = arguments.required("state")?;
+    Ok(if arguments.has("restore") && presence == Presence::MustExist {
+        Store::restore(path, wait)?
+    } else {
+        Store::open(path, presence, wait)?
+    })
 }

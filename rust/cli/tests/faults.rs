@@ -57,8 +57,8 @@ impl Case {
         assert_eq!(run.status, self.status, "{}: {}", self.line, run.said);
         assert!(self.folder.read(self.state) != undisturbed.read(self.state), "{}", self.line);
         let named = run.said.lines().filter_map(|line| line.strip_prefix("step ")?.split_once(": "));
-        let steps: Vec<&str> = named.map(|(_, name)| name).collect();
-        assert_eq!(steps.iter().filter(|name| **name == "rename the output").count(), self.outputs.len());
+        let steps: Vec<&str> = named.map(|(_, name)| name).filter(|name| *name != "end").collect();
+        assert_eq!(steps.iter().filter(|name| **name == "link the output").count(), self.outputs.len());
         for fault in ["abort", "fail"] {
             let waited = (1..=steps.len()).filter(|n| self.disturbed(fault, *n, steps[n - 1], &undisturbed)).count();
             assert_eq!(waited > 0, !self.again.is_empty(), "{}", self.line);
@@ -103,15 +103,15 @@ impl Case {
     }
 
     fn nothing_left_behind(&self, folder: &Folder, at: &str) {
-        let left: Vec<String> = folder.names().into_iter().filter(|name| name.ends_with(".new")).collect();
+        let left: Vec<String> = folder.names().into_iter().filter(|name| name.contains(".pevghazo-")).collect();
         assert_eq!(left, [""; 0], "{at}");
     }
 }
 
 const OFFICE_SEALS: &str = "office --state office seal --group 5 --message text --metadata-text size --out envelope";
 const GROUP_SEALS: &str = "group --state group seal --message text --metadata-text size --out envelope";
-const OFFICE_OPENS: &str = "office --state office unseal --in envelope --out opened --metadata-out metadata";
-const GROUP_OPENS: &str = "group --state group unseal --in envelope --out opened --metadata-out metadata";
+const OFFICE_OPENS: &str = "office --state office open --in envelope --out opened --metadata-out metadata";
+const GROUP_OPENS: &str = "group --state group open --in envelope --out opened --metadata-out metadata";
 const OFFICE_RESENDS: &str = "office --state office resend --group 5 --out envelope";
 const GROUP_RESENDS: &str = "group --state group resend --out envelope";
 const OFFICE_REREADS: &str = "office --state office reread --group 5 --out opened --metadata-out metadata";
@@ -121,7 +121,7 @@ const GROUP_REREADS: &str = "group --state group reread --out opened --metadata-
 fn create_day_and_open() {
     Case::new(&[], "new", "office --state new create").every_step();
     Case::new(&[], "office", "office --state office day --allowance 7").every_step();
-    Case::new(&[], "office", "office --state office open-group --group 6 --key key").every_step();
+    Case::new(&[], "office", "office --state office open-group --group 6 --key new-key").every_step();
     Case::new(&[OFFICE_SEALS], "office", "office --state office open-group --group 5 --key new-key --replace")
         .every_step();
 }
@@ -141,13 +141,13 @@ fn seal() {
 }
 
 #[test]
-fn office_unseals() {
+fn office_opens() {
     let outputs = &["opened", "metadata"];
     Case::new(&[GROUP_SEALS], "office", OFFICE_OPENS).outputs(outputs, OFFICE_REREADS).every_step();
 }
 
 #[test]
-fn group_unseals() {
+fn group_opens() {
     let outputs = &["opened", "metadata"];
     Case::new(&[OFFICE_SEALS], "group", GROUP_OPENS).outputs(outputs, GROUP_REREADS).every_step();
 }
@@ -172,7 +172,7 @@ fn resend_and_reread() {
     ] {
         let case = Case::new(prepare, state, line).outputs(outputs, "");
         // The step after the first commit.
-        assert!(case.folder.run_with("abort@11", killed).signal.is_some());
+        assert!(case.folder.run_with("abort@13", killed).signal.is_some());
         assert!(case.folder.fails(5, killed).contains("not handed out"));
         case.every_step();
     }
@@ -184,19 +184,20 @@ fn a_waiting_message_outlives_its_session_and_an_envelope_does_not() {
     let replace = "office --state office open-group --group 5 --key new-key --replace";
     let start = "group --state group start --group 5 --key new-key --replace";
     let folder = Case::new(&[GROUP_SEALS], "", "").folder;
-    assert!(folder.run_with("abort@11", OFFICE_OPENS).signal.is_some());
+    assert!(folder.run_with("abort@13", OFFICE_OPENS).signal.is_some());
     folder.fails(5, replace);
     folder.done(OFFICE_REREADS);
     assert_eq!((folder.read("opened"), folder.read("metadata")), (folder.read("text"), Some(b"size".to_vec())));
     folder.done(replace);
     folder.fails(5, OFFICE_REREADS);
+    folder.write("new-key", b"a third key of group 5");
     let seal = "office --state office seal --group 5 --message text --out new-envelope";
-    assert!(folder.run_with("abort@11", seal).signal.is_some());
+    assert!(folder.run_with("abort@13", seal).signal.is_some());
     folder.done(replace);
     folder.fails(5, "office --state office resend --group 5 --out new-envelope");
 
     let folder = Case::new(&[OFFICE_SEALS], "", "").folder;
-    assert!(folder.run_with("abort@11", GROUP_OPENS).signal.is_some());
+    assert!(folder.run_with("abort@13", GROUP_OPENS).signal.is_some());
     folder.fails(5, start);
     folder.done(GROUP_REREADS);
     folder.done(start);
@@ -217,7 +218,7 @@ fn standard_output_that_fails() {
     folder.fails(5, "office --state office seal --group 5 --message text --out -");
     folder.done(OFFICE_RESENDS);
     let sentence = "The message is kept in the state file: hand it out with `pevghazo group reread`.\n";
-    assert!(full("group --state group unseal --in envelope --out -").ends_with(sentence));
+    assert!(full("group --state group open --in envelope --out -").ends_with(sentence));
     assert!(full("group --state group reread --out -").ends_with(sentence));
     folder.done(GROUP_REREADS);
     assert_eq!(folder.read("opened"), folder.read("text"));

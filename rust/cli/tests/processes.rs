@@ -8,38 +8,77 @@ use std::time::{Duration, Instant};
 use common::{Folder, PROGRAM, Run, VARIABLE};
 use pevghazo_store::{Presence, Store, Wait};
 
-/// Two processes seal for one group at the same time: every envelope is made of another state, and all of them open.
+/// Two processes seal for one group at the same time: every envelope is made of another state, and all of them open, in one
+/// order.
 #[test]
 fn two_processes_seal_at_once() {
-    const EACH: usize = 15;
+    const EACH: usize = 10;
     let folder = Folder::pair(5);
-    let mut envelopes: Vec<(u32, String)> = std::thread::scope(|scope| {
-        let threads = ["a", "b"].map(|name| {
+    std::thread::scope(|scope| {
+        for name in ["a", "b"] {
             let folder = &folder;
             scope.spawn(move || {
-                let mut made = Vec::new();
                 for number in 0..EACH {
                     let name = format!("{name}{number}");
                     folder.write(&format!("text-{name}"), name.as_bytes());
-                    let said = folder.done(&format!(
+                    folder.done(&format!(
                         "office --state office seal --group 5 --message text-{name} --out {name} --wait 60"
                     ));
-                    let index = said.rsplit_once("index ").unwrap().1.trim_end().trim_end_matches('.').parse().unwrap();
-                    made.push((index, name));
                 }
-                made
-            })
-        });
-        threads.into_iter().flat_map(|thread| thread.join().unwrap()).collect()
+            });
+        }
     });
-    envelopes.sort();
-    // Each message takes one block and a blank index.
-    let indexes: Vec<u32> = envelopes.iter().map(|(index, _)| *index).collect();
-    assert_eq!(indexes, (1..=2 * EACH as u32).map(|turn| 2 * turn).collect::<Vec<_>>());
-    for (_, name) in &envelopes {
-        folder.done(&format!("group --state group unseal --in {name} --out opened-{name}"));
-        assert_eq!(folder.read(&format!("opened-{name}")).unwrap(), name.as_bytes());
+    // The next of each process, in turn: one of the two is the next of the session.
+    let mut next = [0, 0];
+    for _ in 0..2 * EACH {
+        let mut opens = |process: usize| {
+            let name = format!("{}{}", ["a", "b"][process], next[process]);
+            let opened = next[process] < EACH
+                && folder.run(&format!("group --state group open --in {name} --out opened-{name}")).status == 0;
+            if opened {
+                assert_eq!(folder.read(&format!("opened-{name}")).unwrap(), name.as_bytes());
+                next[process] += 1;
+            }
+            opened
+        };
+        assert!(opens(0) || opens(1));
     }
+    assert_eq!(next, [EACH, EACH]);
+}
+
+/// An office and a group seal at the same time to one output: one says done, the other is refused, and nothing is lost.
+#[test]
+fn two_processes_seal_to_one_output() {
+    let folder = Folder::pair(5);
+    folder.write("key-6", b"the secret key of group 6");
+    folder.done("office --state office open-group --group 6 --key key-6");
+    // The one message is the same for both, and so are their envelopes of it.
+    for (turn, text) in (0..60).map(|turn| (turn, if turn == 0 { "same" } else { "other" })) {
+        folder.write("text", b"same");
+        folder.write("other", text.as_bytes());
+        let lines = [
+            format!("office --state office seal --group 5 --message text --out out-{turn}"),
+            format!("group --state group seal --message other --out out-{turn}"),
+        ];
+        let runs = lines.map(|line| folder.command(&line).spawn().unwrap());
+        let runs = runs.map(|child| Run::from(child.wait_with_output().unwrap()));
+        let mut statuses = [runs[0].status, runs[1].status];
+        statuses.sort();
+        assert_eq!(statuses, [0, 4], "turn {turn}: {} {}", runs[0].said, runs[1].said);
+        let refused = runs.iter().find(|run| run.status == 4).unwrap();
+        assert!(refused.said.contains("There is a file "), "{}", refused.said);
+        // What was sealed and not handed out is kept.
+        let again = ["office --state office resend --group 5", "group --state group resend"];
+        for (place, run) in runs.iter().enumerate() {
+            let sealed = run.status == 0 || run.said.contains("is kept in the state file");
+            let had = folder.run(&format!("{} --out again-{place}-{turn}", again[place])).status == 0;
+            assert!(had || !sealed, "turn {turn}");
+            if run.status == 0 {
+                assert_eq!(folder.read(&format!("again-{place}-{turn}")), folder.read(&format!("out-{turn}")));
+            }
+        }
+    }
+    assert_eq!(folder.names().iter().filter(|name| name.contains(".pevghazo-")).count(), 0);
 }
 
 /// Two processes open the same envelope at the same time: one is accepted, the other refused.
@@ -49,7 +88,7 @@ fn two_processes_open_one_envelope() {
     for turn in 0..8 {
         folder.write("text", format!("turn {turn}").as_bytes());
         folder.done_anew("office --state office seal --group 5 --message text --out envelope");
-        let lines = ["a", "b"].map(|name| format!("group --state group unseal --in envelope --out {name}-{turn}"));
+        let lines = ["a", "b"].map(|name| format!("group --state group open --in envelope --out {name}-{turn}"));
         let children = lines.map(|line| folder.command(&line).spawn().unwrap());
         let mut statuses = children.map(|child| Run::from(child.wait_with_output().unwrap()).status);
         statuses.sort();
@@ -81,7 +120,7 @@ fn a_killed_process_lets_the_next_one_in() {
     let folder = Folder::pair(5);
     folder.write("text", b"20001");
     let line = "office --state office seal --group 5 --message text --out envelope";
-    let mut holder = folder.command(line).env(VARIABLE, "pause@11").spawn().unwrap();
+    let mut holder = folder.command(line).env(VARIABLE, "pause@13").spawn().unwrap();
     let busy = || Store::open(folder.0.join("office"), Presence::MustExist, Wait::Never).is_err();
     while !busy() {
         std::thread::sleep(Duration::from_millis(5));
@@ -96,7 +135,7 @@ fn a_killed_process_lets_the_next_one_in() {
     if run.status == 5 {
         folder.done("office --state office resend --group 5 --out envelope");
     }
-    folder.done("group --state group unseal --in envelope --out opened");
+    folder.done("group --state group open --in envelope --out opened");
     assert_eq!(folder.read("opened"), folder.read("text"));
 }
 
@@ -117,13 +156,13 @@ fn with_no_room_for_the_state_nothing_happens() {
     assert!(folder.read("office") == before && folder.read("envelope").is_none());
     folder.done(seal);
     let before = folder.read("group");
-    let unseal = "group --state group unseal --in envelope --out opened";
-    let run = Run::of(folder.command_after("trap '' XFSZ; ulimit -f 10", unseal));
+    let open = "group --state group open --in envelope --out opened";
+    let run = Run::of(folder.command_after("trap '' XFSZ; ulimit -f 10", open));
     assert_eq!((run.status, run.printed), (3, Vec::new()), "{}", run.said);
     assert!(folder.read("group") == before && folder.read("opened").is_none());
-    folder.done(unseal);
+    folder.done(open);
     assert_eq!(folder.read("opened"), folder.read("text"));
-    assert_eq!(folder.names().iter().filter(|name| name.ends_with(".new")).count(), 0);
+    assert_eq!(folder.names().iter().filter(|name| name.contains(".pevghazo-")).count(), 0);
 }
 
 /// A small file system, where the system lets one make it: once for the outputs, once for the state file.
@@ -155,16 +194,16 @@ fn on_a_full_file_system_nothing_is_lost() {
     "#;
     let run = inside(script);
     let printed = String::from_utf8(run.printed).unwrap();
-    assert_eq!(printed, "status 4\nstatus 5\nstatus 4\nHanded out the last envelope for group 5.\n", "{}", run.said);
+    assert_eq!(printed, "status 4\nstatus 5\nstatus 4\n", "{}", run.said);
     // Nor does the message.
     let script = r#"
-        "$0" group --state group unseal --in envelope --out small/opened || echo status $?
+        "$0" group --state group open --in envelope --out small/opened || echo status $?
         ls -A small
         "$0" group --state group reread --out opened
     "#;
     let run = inside(script);
     let printed = String::from_utf8(run.printed).unwrap();
-    assert_eq!(printed, "status 4\nHanded out the last message of group 5.\n", "{}", run.said);
+    assert_eq!(printed, "status 4\n", "{}", run.said);
     assert_eq!(folder.read("opened"), folder.read("text"));
     // The state file is on the small file system: a long message is refused room, a short one is sealed.
     let script = r#"
@@ -176,10 +215,10 @@ fn on_a_full_file_system_nothing_is_lost() {
     "#;
     folder.write("group-text", b"");
     folder.done("office --state office seal --group 5 --message group-text --out next");
-    folder.done("group --state group unseal --in next --out empty");
+    folder.done("group --state group open --in next --out empty");
     let run = inside(script);
     let printed = String::from_utf8(run.printed).unwrap();
     assert_eq!(printed, "status 3\ngroup\ngroup.lock\n", "{}", run.said);
-    folder.done("office --state office unseal --in back --out opened-back");
+    folder.done("office --state office open --in back --out opened-back");
     assert_eq!(folder.read("opened-back"), folder.read("small-text"));
 }

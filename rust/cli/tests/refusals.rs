@@ -18,7 +18,11 @@ const SENTENCES: [(i32, &str); 9] = [
     (6, "The metadata or the message has more than 16,384 bytes."),
     (9, "The session is full: start a new one with a new key."),
     (10, "The day's allowance does not cover this call."),
-    (11, "The tag is wrong: the arrival is damaged, repeated, out of order or not meant for this session."),
+    (
+        11,
+        "The tag is wrong: the arrival is damaged, repeated, out of order or not meant for this session. Or both ends have \
+         sealed at once: then neither envelope can be opened, and the session is replaced under a new key.",
+    ),
 ];
 
 /// The command is refused under this number. No output is written, and but for number 11 the state stays.
@@ -54,13 +58,13 @@ fn numbers_1_and_2_an_envelope_that_is_none() {
         ["", "S", "S,5,0,0", "s,5,0,0,", "S,05,0,0,", "S,32,0,0,", "S,5,0,16385,", "S, 5,0,0,", "S,5,-1,0,", "S,5,,0,"]
     {
         folder.write("in", &[bytes.as_bytes(), &[b' '; 40]].concat()[..bytes.len() + 40 * bytes.len().min(1)]);
-        refused(&folder, 1, "office --state office unseal --in in --out OUT");
-        refused(&folder, 1, "group --state group unseal --in in --out OUT");
+        refused(&folder, 1, "office --state office open --in in --out OUT");
+        refused(&folder, 1, "group --state group open --in in --out OUT");
     }
     for (header, follow) in [("S,5,0,0,", 31), ("S,5,20,48,", 99), ("S,5,0,16384,", 40)] {
         folder.write("in", &[header.as_bytes(), &vec![0; follow]].concat());
-        refused(&folder, 2, "office --state office unseal --in in --out OUT");
-        refused(&folder, 2, "group --state group unseal --in in --out OUT --metadata-out metadata");
+        refused(&folder, 2, "office --state office open --in in --out OUT");
+        refused(&folder, 2, "group --state group open --in in --out OUT --metadata-out metadata");
     }
 }
 
@@ -103,7 +107,7 @@ fn number_5_a_session_that_is_not_open() {
     folder.write("text", b"20001");
     refused(&folder, 5, "office --state office seal --group 6 --message text --out OUT");
     folder.write("in", &[b"S,6,0,0,", &[0; 32][..]].concat());
-    refused(&folder, 5, "office --state office unseal --in in --out OUT");
+    refused(&folder, 5, "office --state office open --in in --out OUT");
     // A group's state file with a closed session: no command makes one.
     forge(&folder, "group", 12, &[0; 102]);
     refused(&folder, 5, "group --state group seal --message text --out OUT");
@@ -135,7 +139,7 @@ fn number_9_a_session_that_is_full() {
             refused(&folder, 9, "group --state group seal --message text --out OUT");
             refused(&folder, 9, "office --state office seal --group 5 --message text --out OUT");
             folder.write("in", &[b"S,5,0,1,x", &[0; 32][..]].concat());
-            refused(&folder, 9, "office --state office unseal --in in --out OUT");
+            refused(&folder, 9, "office --state office open --in in --out OUT");
             assert_eq!(folder.done("office --state office nearly-full --mark 1048574"), "5\n");
             assert_eq!(folder.done("office --state office nearly-full --mark 1048575"), "none\n");
         } else {
@@ -153,12 +157,13 @@ fn number_10_a_day_whose_allowance_is_spent() {
     folder.done("office --state office day --allowance 5");
     refused(&folder, 10, "office --state office seal --group 5 --message text --out OUT");
     folder.done_anew("group --state group seal --message text --out in");
-    refused(&folder, 10, "office --state office unseal --in in --out OUT");
+    refused(&folder, 10, "office --state office open --in in --out OUT");
     folder.done("office --state office day --allowance 0");
-    refused(&folder, 10, "office --state office open-group --group 6 --key key");
-    refused(&folder, 10, "office --state office open-group --group 5 --key key --replace");
+    folder.write("new-key", b"another key of group 5");
+    refused(&folder, 10, "office --state office open-group --group 6 --key new-key");
+    refused(&folder, 10, "office --state office open-group --group 5 --key new-key --replace");
     folder.done("office --state office day --allowance 6");
-    folder.done_anew("office --state office unseal --in in --out out");
+    folder.done_anew("office --state office open --in in --out out");
 }
 
 #[test]
@@ -174,18 +179,18 @@ fn number_11_arrivals_that_are_not_the_next_of_the_session() {
         let mut damaged = whole.clone();
         damaged[place] ^= 0x10;
         folder.write("in", &damaged);
-        refused(&folder, 11, "office --state office unseal --in in --out OUT --metadata-out metadata");
+        refused(&folder, 11, "office --state office open --in in --out OUT --metadata-out metadata");
         // A wrong tag costs as much as a right one, and the day's count has it: two runs of 1 + 1 + 4 + 1.
         spent += 2 * 7;
         assert!(folder.done("office --state office show").starts_with(&shown(spent)));
         assert_eq!(folder.read("metadata"), None);
     }
     // Back to its sender.
-    refused(&folder, 11, "group --state group unseal --in whole --out OUT");
+    refused(&folder, 11, "group --state group open --in whole --out OUT");
     // The whole one is still accepted, once.
-    folder.done_anew("office --state office unseal --in whole --out opened --metadata-out metadata");
+    folder.done_anew("office --state office open --in whole --out opened --metadata-out metadata");
     assert_eq!(folder.read("opened"), folder.read("text"));
-    refused(&folder, 11, "office --state office unseal --in whole --out OUT");
+    refused(&folder, 11, "office --state office open --in whole --out OUT");
     spent += 3 * 7;
     assert!(folder.done("office --state office show").starts_with(&shown(spent)));
     assert_eq!(folder.read("opened"), folder.read("text"));
@@ -197,9 +202,9 @@ fn wrong_tags_spend_the_allowance() {
     let folder = Folder::pair(5);
     folder.write("in", &[b"S,5,0,0,", &[0; 32][..]].concat());
     folder.done("office --state office day --allowance 7");
-    folder.fails(21, "office --state office unseal --in in --out out");
-    folder.fails(21, "office --state office unseal --in in --out out");
-    folder.fails(20, "office --state office unseal --in in --out out");
+    folder.fails(21, "office --state office open --in in --out out");
+    folder.fails(21, "office --state office open --in in --out out");
+    folder.fails(20, "office --state office open --in in --out out");
     assert!(folder.done("office --state office show").starts_with("day: count 6 of allowance 7\n"));
 }
 
@@ -211,15 +216,15 @@ fn an_envelope_of_another_group_has_a_status_of_its_own() {
     folder.done("office --state office open-group --group 6 --key key-6");
     folder.done_anew("office --state office seal --group 6 --message text --out in");
     let before = folder.read("group");
-    let said = folder.fails(6, "group --state group unseal --in in --out out");
+    let said = folder.fails(6, "group --state group open --in in --out out");
     assert_eq!(said, "pevghazo: This is for group 6, and the state file is that of group 5.\n");
     assert!((folder.read("group"), folder.read("out")) == (before, None));
     // At the office the envelope itself says whose it is: with another number on it, its tag is wrong.
     folder.done_anew("group --state group seal --message text --out in");
     let readdressed = [b"S,6,", folder.read("in").unwrap().strip_prefix(b"S,5,").unwrap()].concat();
     folder.write("in-6", &readdressed);
-    refused(&folder, 11, "office --state office unseal --in in-6 --out OUT");
-    folder.done_anew("office --state office unseal --in in --out out");
+    refused(&folder, 11, "office --state office open --in in-6 --out OUT");
+    folder.done_anew("office --state office open --in in --out out");
 }
 
 #[test]
@@ -238,11 +243,11 @@ fn there_is_nothing_to_hand_out_again() {
     // An arrival shows that the last envelope got there: it is kept no longer.
     folder.write("text", b"20001");
     folder.done_anew("office --state office seal --group 5 --message text --out in");
-    folder.done_anew("group --state group unseal --in in --out out");
+    folder.done_anew("group --state group open --in in --out out");
     folder.done_anew("group --state group seal --message text --out back");
     folder.done_anew("office --state office resend --group 5 --out again");
     assert_eq!(folder.read("again"), folder.read("in"));
-    folder.done_anew("office --state office unseal --in back --out out");
+    folder.done_anew("office --state office open --in back --out out");
     folder.fails(5, "office --state office resend --group 5 --out again");
     folder.done_anew("group --state group resend --out again");
     assert_eq!(folder.read("again"), folder.read("back"));
@@ -272,6 +277,14 @@ fn state_files_that_cannot_be_used() {
     folder.write("group", &good);
     fs::set_permissions(folder.0.join("group"), Permissions::from_mode(0o640)).unwrap();
     assert!(folder.fails(3, "group --state group show").contains("Others may read or write the state file"));
+}
+
+/// Faults are for tests: in a release build the variable means nothing.
+#[test]
+fn faults_are_only_in_builds_with_debug_assertions() {
+    let folder = Folder::new();
+    let run = folder.run_with("fail@1", "office --state office create");
+    assert_eq!(run.status, if cfg!(debug_assertions) { 3 } else { 0 }, "{}", run.said);
 }
 
 /// Whole files with any content: a checksum keeps nobody from writing one.
@@ -305,7 +318,7 @@ fn any_content_of_a_state_file_is_taken_or_refused() {
             for command in [
                 "show".to_string(),
                 format!("seal --message text --out /dev/null{group}"),
-                "unseal --in in --out /dev/null".to_string(),
+                "open --in in --out /dev/null".to_string(),
                 format!("resend --out /dev/null{group}"),
                 format!("reread --out /dev/null{group}"),
             ] {
@@ -331,7 +344,7 @@ fn inputs_and_outputs_that_cannot_be_used() {
         "office --state office seal --group 5 --message text --out folder",
         "office --state office seal --group 5 --message text --out text/out",
         "office --state office seal --group 5 --message text --out link",
-        "office --state office unseal --in nothing --out out",
+        "office --state office open --in nothing --out out",
         "office --state office open-group --group 6 --key nothing",
     ] {
         assert!(folder.fails(4, line).contains("Could not "), "{line}");
@@ -339,7 +352,7 @@ fn inputs_and_outputs_that_cannot_be_used() {
     }
     // Outputs in the place of something that would be lost.
     symlink("office", folder.0.join("office-link")).unwrap();
-    for out in ["office", "office.lock", "office.new", "./office", "office-link"] {
+    for out in ["office", "office.lock", "./office", "office-link"] {
         folder.fails(2, &format!("office --state office seal --group 5 --message text --out {out}"));
     }
     let own = folder.0.file_name().unwrap().to_str().unwrap();
@@ -348,8 +361,8 @@ fn inputs_and_outputs_that_cannot_be_used() {
         let said = folder.fails(4, &format!("office --state office seal --group 5 --message text --out {out}"));
         assert!(said.contains("There is a file "), "{said}");
     }
-    folder.fails(2, "office --state office unseal --in - --out out --metadata-out ./out");
-    folder.fails(2, "office --state office unseal --in text --out - --metadata-out -");
+    folder.fails(2, "office --state office open --in - --out out --metadata-out ./out");
+    folder.fails(2, "office --state office open --in text --out - --metadata-out -");
     folder.fails(2, "office --state office seal --group 5 --message - --metadata - --out out");
     folder.fails(2, "office --state office seal --group 5 --message text --metadata text --metadata-text a --out out");
     assert!((folder.read("office"), folder.read("text").unwrap()) == (before, b"20001".to_vec()));
@@ -368,6 +381,7 @@ fn keys_that_others_may_read_are_refused() {
             assert_eq!(said, "pevghazo: Others may read or write the key file key: take that away with chmod 600.\n");
         }
     }
+    folder.write("key", b"another key of a group");
     fs::set_permissions(folder.0.join("key"), Permissions::from_mode(0o400)).unwrap();
     folder.done("office --state office open-group --group 6 --key key");
 }
@@ -379,8 +393,8 @@ fn outputs_are_closed_to_others() {
     folder.write("text", b"20001");
     let seal = "office --state office seal --group 5 --message text --out in";
     assert_eq!(Run::of(folder.command_after("umask 0", seal)).status, 0);
-    let unseal = "group --state group unseal --in in --out out --metadata-out metadata";
-    assert_eq!(Run::of(folder.command_after("umask 0", unseal)).status, 0);
+    let open = "group --state group open --in in --out out --metadata-out metadata";
+    assert_eq!(Run::of(folder.command_after("umask 0", open)).status, 0);
     for name in folder.names() {
         let mode = fs::metadata(folder.0.join(&name)).unwrap().permissions().mode() & 0o777;
         assert_eq!(mode, 0o600, "{name}");
@@ -411,13 +425,13 @@ fn outputs_take_no_place_of_a_file() {
     // Handing out again into a file that has it already is fine; into another file it is not.
     folder.done("office --state office resend --group 5 --out in");
     folder.fails(4, "office --state office resend --group 5 --out text");
-    let unseal = "group --state group unseal --in in --out out --metadata-out metadata";
+    let open = "group --state group open --in in --out out --metadata-out metadata";
     folder.write("metadata", b"other");
     let state = folder.read("group");
-    folder.fails(4, unseal);
+    folder.fails(4, open);
     assert!(folder.read("group") == state && folder.read("out").is_none());
-    folder.done_anew(unseal);
-    folder.fails(4, unseal);
+    folder.done_anew(open);
+    folder.fails(4, open);
     folder.done("group --state group reread --out out --metadata-out metadata");
     assert_eq!((folder.read("out"), folder.read("metadata")), (folder.read("text"), Some(Vec::new())));
 }

@@ -15,7 +15,7 @@ fn text(seed: u32, length: usize) -> Vec<u8> {
 #[test]
 fn a_season_of_three_groups() {
     let folder = Folder::new();
-    assert_eq!(folder.done("office --state office create"), "Created: 32 closed groups, allowance 0.\n");
+    assert_eq!(folder.done("office --state office create"), "");
     assert_eq!(folder.done("office --state office show"), "day: count 0 of allowance 0\nclosed: 32 of 32 groups\n");
     folder.done("office --state office day --allowance 100000");
     for group in GROUPS {
@@ -33,9 +33,9 @@ fn a_season_of_three_groups() {
             folder.write("message", &message);
             // In turn from the office to the group and back.
             let (from, to) = if turn % 2 == 0 {
-                (format!("office --state office seal --group {group}"), format!("group --state group-{group} unseal"))
+                (format!("office --state office seal --group {group}"), format!("group --state group-{group} open"))
             } else {
-                (format!("group --state group-{group} seal"), "office --state office unseal".to_string())
+                (format!("group --state group-{group} seal"), "office --state office open".to_string())
             };
             folder.done_anew(&format!("{from} --metadata metadata --message message --out envelope"));
             folder.done_anew(&format!("{to} --in envelope --out opened --metadata-out opened-metadata"));
@@ -70,7 +70,7 @@ fn a_season_of_three_groups() {
     folder.fails(6, "group --state group-9 start --group 8 --key new-key --replace");
     folder.done("group --state group-9 start --group 9 --key new-key --replace");
     folder.done_anew("office --state office seal --group 9 --message message --out envelope --metadata-text new");
-    folder.done_anew("group --state group-9 unseal --in envelope --out opened");
+    folder.done_anew("group --state group-9 open --in envelope --out opened");
     assert_eq!(folder.read("opened"), folder.read("message"));
     // 1 for the opening; 1 + 11 + 4 + 11 for 3 bytes of metadata and 500 of message.
     assert!(folder.done("office --state office show").starts_with("day: count 28 of allowance 28\n"));
@@ -83,7 +83,7 @@ fn standard_input_and_output_stand_for_files() {
     let sealed = folder.run_on("office --state office seal --group 5 --message - --out -", b"20001 to 20100");
     assert_eq!((sealed.status, sealed.said.as_str()), (0, ""));
     assert!(sealed.printed.starts_with(b"S,5,0,14,"));
-    let opened = folder.run_on("group --state group unseal --in - --out - --metadata-out metadata", &sealed.printed);
+    let opened = folder.run_on("group --state group open --in - --out - --metadata-out metadata", &sealed.printed);
     assert_eq!((opened.status, &opened.printed[..], opened.said.as_str()), (0, &b"20001 to 20100"[..], ""));
     assert_eq!(folder.read("metadata"), Some(Vec::new()));
     let again = folder.run("group --state group reread --out -");
@@ -105,16 +105,16 @@ fn more_bytes_may_follow_an_envelope() {
         all.extend(folder.read("envelope").unwrap());
     }
     folder.write("all", &all);
-    folder.fails(11, "group --state group unseal --in all --out opened");
-    let told = folder.done_anew("group --state group unseal --in all --from 5 --out opened");
-    assert!(told.contains(&format!("`--from {}`", places[1])), "{told}");
+    folder.fails(11, "group --state group open --in all --out opened");
+    let told = folder.done_anew("group --state group open --in all --from 5 --out opened");
+    assert_eq!(told, format!("next {}\n", places[1]));
     assert_eq!(folder.read("opened").unwrap(), b"one");
-    folder.done_anew(&format!("group --state group unseal --in all --from {} --out opened", places[1]));
-    let told = folder.done_anew(&format!("group --state group unseal --in all --from {} --out opened", places[2]));
-    assert!(!told.contains("--from"), "{told}");
+    folder.done_anew(&format!("group --state group open --in all --from {} --out opened", places[1]));
+    let told = folder.done_anew(&format!("group --state group open --in all --from {} --out opened", places[2]));
+    assert_eq!(told, "");
     assert_eq!(folder.read("opened").unwrap(), b"three");
     for from in [all.len(), all.len() + 1, u32::MAX as usize] {
-        folder.fails(11, &format!("group --state group unseal --in all --from {from} --out opened"));
+        folder.fails(11, &format!("group --state group open --in all --from {from} --out opened"));
     }
 }
 
@@ -138,7 +138,7 @@ fn the_independent_implementation_understands_it() {
         other.wrap(b"back", &message, &mut cryptogram, &mut tag).unwrap();
         let length = envelope::write(17, b"back", &cryptogram, &tag, &mut bytes).unwrap();
         folder.write("envelope", &bytes[..length]);
-        folder.done_anew("office --state office unseal --in envelope --out opened");
+        folder.done_anew("office --state office open --in envelope --out opened");
         assert_eq!(folder.read("opened").unwrap(), message);
     }
     let shown = folder.done("office --state office show");

@@ -32,6 +32,25 @@ pub enum Error {
         /// The state file.
         path: PathBuf,
     },
+    /// The file belongs to another user.
+    OtherOwner {
+        /// The state file, or its lock file.
+        path: PathBuf,
+    },
+    /// There is a file in the place of the lock file that is none.
+    NotALock {
+        /// The lock file.
+        path: PathBuf,
+    },
+    /// The state file is older than the last commit: a copy was put in its place.
+    Older {
+        /// The state file.
+        path: PathBuf,
+        /// Its number.
+        generation: u64,
+        /// The number of the last commit.
+        last: u64,
+    },
     /// The file's permissions let others in.
     OpenToOthers {
         /// The state file.
@@ -56,6 +75,13 @@ pub enum Error {
         /// What was tried.
         what: &'static str,
         /// On which file.
+        path: PathBuf,
+        /// What the system said.
+        source: io::Error,
+    },
+    /// The new state is in its place, but the old file's bytes were not overwritten.
+    NotWiped {
+        /// The state file.
         path: PathBuf,
         /// What the system said.
         source: io::Error,
@@ -91,10 +117,14 @@ impl Error {
             | Error::Busy { path }
             | Error::NotAFile { path }
             | Error::SecondName { path }
+            | Error::OtherOwner { path }
+            | Error::NotALock { path }
+            | Error::Older { path, .. }
             | Error::OpenToOthers { path }
             | Error::TooLarge { path, .. }
             | Error::Damaged { path, .. }
             | Error::System { path, .. }
+            | Error::NotWiped { path, .. }
             | Error::NotSynced { path, .. } => path,
         }
     }
@@ -122,6 +152,14 @@ impl fmt::Display for Error {
             Error::SecondName { .. } => {
                 write!(f, "The state file {path} has a second name, which would keep an old state: remove one of them.")
             }
+            Error::OtherOwner { .. } => write!(f, "{path} belongs to another user, and only its owner may use it."),
+            Error::NotALock { .. } => {
+                write!(f, "{path} stands in the place of the lock file and is none: move it elsewhere.")
+            }
+            Error::Older { generation, last, .. } => write!(
+                f,
+                "The state file {path} is an older copy: it is of commit {generation}, and the last one was commit {last}."
+            ),
             Error::OpenToOthers { .. } => {
                 write!(f, "Others may read or write the state file {path}: take that away with chmod 600.")
             }
@@ -130,9 +168,12 @@ impl fmt::Display for Error {
             }
             Error::Damaged { damage, .. } => write!(f, "The state file {path} cannot be used: {damage}."),
             Error::System { what, source, .. } => write!(f, "Could not {what} {path}: {source}."),
+            Error::NotWiped { source, .. } => {
+                write!(f, "The new state is in {path}, but the bytes of the old one were not overwritten: {source}.")
+            }
             Error::NotSynced { source, .. } => write!(
                 f,
-                "The new state is in {path}, but the disk did not confirm it: {source}. A power failure may bring the old one back."
+                "The new state is in {path}, but the disk did not confirm it: {source}. Until the next command, a power failure may bring the old one back."
             ),
         }
     }
@@ -141,8 +182,16 @@ impl fmt::Display for Error {
 impl std::error::Error for Error {
     fn source(&self) -> Option<&(dyn std::error::Error + 'static)> {
         match self {
-            Error::System { source, .. } | Error::NotSynced { source, .. } => Some(source),
+            Error::System { source, .. } | Error::NotWiped { source, .. } | Error::NotSynced { source, .. } => {
+                Some(source)
+            }
             _ => None,
         }
     }
+}
+
+/// Makes an error of a failed operation of the system.
+pub(crate) fn failed(what: &'static str, path: &Path) -> impl FnOnce(io::Error) -> Error {
+    let path = path.to_path_buf();
+    move |source| Error::System { what, path, source }
 }

@@ -1,28 +1,35 @@
-//! What a state file looks like inside: a fixed start, a version, a length, the bytes, and a checksum over all of these.
+//! What a state file looks like inside: a fixed start, a version, a number, a length, the bytes, and a checksum over all of these.
 //!
 //! | bytes | content |
 //! |---|---|
 //! | 16 | `pevghazo-state`, a line feed and a zero |
 //! | 4 | the version of the format, the lowest byte first |
+//! | 8 | the generation: how many commits there have been, the lowest byte first; not in version 1 |
 //! | 8 | the number of the state's bytes, the lowest byte first |
 //! | that many | the state's bytes |
 //! | 8 | the CRC-64 (as in the xz format) of everything before, the lowest byte first |
 //!
+//! Version 2 is written; version 1 is read too, as of generation 0.
+//!
 //! The checksum finds damage. It is no protection from somebody who is able to write the file and means to.
 
 use crate::error::Damage;
+use crate::secret::Secret;
 
 /// How every state file starts.
-const START: &[u8; 16] = b"pevghazo-state\n\0";
+pub(crate) const START: &[u8; 16] = b"pevghazo-state\n\0";
 
-/// The version of the format that is written and read here.
-pub const VERSION: u32 = 1;
+/// The version of the format that is written here.
+pub const VERSION: u32 = 2;
+
+/// The version without a generation, which is read here too.
+const WITHOUT_GENERATION: u32 = 1;
 
 /// The most bytes of a state.
 pub const MAX_BYTES: usize = 1 << 24;
 
 /// The bytes before the state's.
-const HEAD: usize = START.len() + 4 + 8;
+const HEAD: usize = START.len() + 4 + 8 + 8;
 
 /// The bytes after the state's.
 const TAIL: usize = 8;
@@ -32,25 +39,30 @@ pub(crate) fn encoded_length(bytes: usize) -> u64 {
     (HEAD + bytes + TAIL) as u64
 }
 
-/// The content of a file with these bytes of state.
-pub(crate) fn encode(bytes: &[u8]) -> Vec<u8> {
-    let mut content = Vec::with_capacity(HEAD + bytes.len() + TAIL);
-    content.extend(START);
-    content.extend(VERSION.to_le_bytes());
-    content.extend((bytes.len() as u64).to_le_bytes());
-    content.extend(bytes);
-    content.extend(crc64(&content).to_le_bytes());
+/// The content of a file of this generation with these bytes of state.
+pub(crate) fn encode(generation: u64, bytes: &[u8]) -> Secret {
+    let mut content = Secret::with_room(HEAD + bytes.len() + TAIL);
+    content.add(START);
+    content.add(&VERSION.to_le_bytes());
+    content.add(&generation.to_le_bytes());
+    content.add(&(bytes.len() as u64).to_le_bytes());
+    content.add(bytes);
+    content.add(&crc64(&content).to_le_bytes());
     content
 }
 
-/// The bytes of state in a file's content.
-pub(crate) fn decode(content: &[u8]) -> Result<&[u8], Damage> {
+/// The generation and the bytes of state in a file's content.
+pub(crate) fn decode(content: &[u8]) -> Result<(u64, &[u8]), Damage> {
     let rest = content.strip_prefix(START).ok_or(Damage::Start)?;
     let (version, rest) = rest.split_first_chunk().ok_or(Damage::Length)?;
-    let version = u32::from_le_bytes(*version);
-    if version != VERSION {
-        return Err(Damage::Version(version));
-    }
+    let (generation, rest) = match u32::from_le_bytes(*version) {
+        WITHOUT_GENERATION => (0, rest),
+        VERSION => {
+            let (generation, rest) = rest.split_first_chunk().ok_or(Damage::Length)?;
+            (u64::from_le_bytes(*generation), rest)
+        }
+        version => return Err(Damage::Version(version)),
+    };
     let (length, rest) = rest.split_first_chunk().ok_or(Damage::Length)?;
     let (bytes, checksum) = rest.split_last_chunk().ok_or(Damage::Length)?;
     if u64::from_le_bytes(*length) != bytes.len() as u64 {
@@ -59,11 +71,16 @@ pub(crate) fn decode(content: &[u8]) -> Result<&[u8], Damage> {
     if u64::from_le_bytes(*checksum) != crc64(&content[..content.len() - TAIL]) {
         return Err(Damage::Checksum);
     }
-    Ok(bytes)
+    Ok((generation, bytes))
+}
+
+/// Whether bytes start as a state file does, as far as they go.
+pub(crate) fn starts_well(bytes: &[u8]) -> bool {
+    bytes.iter().zip(START).all(|(byte, expected)| byte == expected)
 }
 
 /// The CRC-64 of the xz format.
-fn crc64(bytes: &[u8]) -> u64 {
+pub(crate) fn crc64(bytes: &[u8]) -> u64 {
     let mut crc = !0;
     for byte in bytes {
         crc ^= u64::from(*byte);
@@ -87,15 +104,29 @@ mod tests {
     fn what_is_encoded_is_decoded() {
         for length in [0, 1, 2, 100, 5_000] {
             let bytes = vec![0x5A; length];
-            let content = encode(&bytes);
+            let content = encode(7 + length as u64, &bytes);
             assert_eq!(content.len() as u64, encoded_length(length));
-            assert_eq!(decode(&content), Ok(&bytes[..]));
+            assert_eq!(decode(&content), Ok((7 + length as u64, &bytes[..])));
+        }
+    }
+
+    /// A file as version 1 of the format had it.
+    #[test]
+    fn version_1_is_read() {
+        let mut content = START.to_vec();
+        content.extend(1u32.to_le_bytes());
+        content.extend(5u64.to_le_bytes());
+        content.extend(b"state");
+        content.extend(crc64(&content).to_le_bytes());
+        assert_eq!(decode(&content), Ok((0, &b"state"[..])));
+        for length in 0..content.len() {
+            assert!(decode(&content[..length]).is_err(), "cut to {length} bytes");
         }
     }
 
     #[test]
     fn damage_is_found() {
-        let content = encode(b"some state of a session");
+        let content = encode(3, b"some state of a session").to_vec();
         for length in 0..content.len() {
             assert!(decode(&content[..length]).is_err(), "cut to {length} bytes");
         }
@@ -109,10 +140,10 @@ mod tests {
         assert_eq!(decode(b""), Err(Damage::Start));
         assert_eq!(decode(&vec![0; content.len()]), Err(Damage::Start));
         let mut newer = content.clone();
-        newer[16] = 2;
-        assert_eq!(decode(&newer), Err(Damage::Version(2)));
+        newer[16] = 3;
+        assert_eq!(decode(&newer), Err(Damage::Version(3)));
         let mut swapped = content.clone();
-        swapped.swap(30, 31);
+        swapped.swap(38, 39);
         assert_eq!(decode(&swapped), Err(Damage::Checksum));
     }
 }

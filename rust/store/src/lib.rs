@@ -28,45 +28,65 @@
 //!
 //! Beside the state file `NAME` there are, in its folder:
 //!
-//! * `NAME.lock`, an empty file that carries the lock. It is a file of its own because a lock belongs to a file and not to
-//!   its name: a lock on the state file would stay with the old file when a new one takes its name, and a process that waited
-//!   for it would go on with the old bytes. It is never replaced, and must not be removed while a program is running.
-//! * `NAME.new`, only while a commit is on its way. One that a killed process left behind is removed at the next opening.
+//! * `NAME.lock`, which carries the lock and the number of the last commit. It is never replaced, and must not be removed while
+//!   a program is running. One that is missing is made anew from the state file.
+//! * `.NAME.pevghazo-` with 16 hexadecimal digits, only while a commit is on its way. One that a killed process left behind is
+//!   removed at the next opening, once the state file was found good, and only where it starts as a state file does.
 //!
-//! All three are readable and writable by their owner only, from the moment they are created.
+//! All three are readable and writable by their owner only, from the moment they are created. No other file is altered or
+//! removed, whatever its name. A state file of another owner, and one in whose lock file's place something else stands, is
+//! refused before anything is altered; where there is no state file but something else, no lock file is made.
 //!
 //! # A commit
 //!
-//! The new bytes are written to `NAME.new`, which is synced (brought to the disk itself and not just to the system's memory),
-//! then renamed to `NAME`, which replaces the old file in one step, and then the folder is synced, so that the new name is on
-//! the disk too. The folder is also synced at opening: what is read is then safe, even if the process that wrote it was killed
-//! between its last two steps.
+//! The new bytes are written to the temporary file, which is synced (brought to the disk itself and not just to the system's
+//! memory), then renamed to `NAME`, which replaces the old file in one step, and then the folder is synced, so that the new
+//! name is on the disk too. Last, the commit's number, which the state file holds as well, is noted in the lock file. The folder
+//! is also synced at opening: what is read is then safe, even if the process that wrote it was killed between its last steps.
+//!
+//! # A state file that was copied back
+//!
+//! Every commit has a number one above that of the commit before. A state file with a lower number than the lock file's is an
+//! older copy, and is refused ([`Error::Older`]); [`Store::restore`] takes it, and the next commit's number is above both. A
+//! kill between the rename and the note leaves a state file with a higher number, which is taken, and noted at the next opening.
+//! Until then the state before it would be taken too; but nothing of the new one has been let out then, since its commit has not
+//! returned, so it is as if the kill had come before the rename. A copy with a name of its own has a lock file of its own, and
+//! is not noticed.
 //!
 //! # What a caller has to do
 //!
 //! A kill between a commit and the handing out of what belongs to it leaves a state in which the message is sealed, but
 //! nobody has the envelope. A caller that cannot seal it again keeps the envelope in the committed bytes, and hands it out
 //! from there as often as it is asked to.
-#![forbid(unsafe_code)]
+#![deny(unsafe_code)]
 
 mod error;
 pub mod fault;
+mod file;
 mod format;
+mod lock;
+pub mod new_file;
+mod secret;
+#[allow(unsafe_code)]
+mod system;
+mod temporary;
 
-use std::ffi::OsString;
-use std::fs::{self, File, OpenOptions, Permissions, TryLockError};
-use std::io::{self, ErrorKind, Read, Write};
-use std::os::unix::fs::{MetadataExt, OpenOptionsExt, PermissionsExt};
+use std::fs::{self, File, OpenOptions};
+use std::io::ErrorKind;
+use std::os::unix::fs::OpenOptionsExt;
 use std::path::{Path, PathBuf};
-use std::thread::sleep;
-use std::time::{Duration, Instant};
+use std::time::Duration;
 
+use error::failed;
 pub use error::{Damage, Error};
 use fault::step;
+use file::{beside, look, place_new, read, remove_leftovers, remove_second_names, resolve, wipe_file};
 pub use format::{MAX_BYTES, VERSION};
-
-/// Readable and writable by the owner, closed to all others.
-const OWNER_ONLY: u32 = 0o600;
+use lock::Lock;
+pub use secret::Secret;
+use system::NO_FOLLOW;
+pub use system::{random, wipe, wipe_stack};
+use temporary::{Kind, Temporary};
 
 /// Whether a state file may, must or must not be there at opening.
 #[derive(Clone, Copy, Debug, PartialEq, Eq)]
@@ -90,54 +110,54 @@ pub enum Wait {
     Never,
 }
 
-/// An open state file. It is locked until this value is dropped.
+/// An open state file. It is locked until this value is dropped, and its bytes are then set to zero.
 #[derive(Debug)]
 pub struct Store {
     path: PathBuf,
-    new: PathBuf,
     folder: File,
-    bytes: Option<Vec<u8>>,
+    bytes: Option<Secret>,
+    /// The number of the last commit.
+    generation: u64,
     /// Unlocks when it is dropped, the last of the fields.
-    _lock: Locked,
-}
-
-/// The lock file, locked.
-#[derive(Debug)]
-struct Locked(File);
-
-impl Drop for Locked {
-    /// Unlocks by word and not just by closing the file: a process that was forked off at this moment has it open too.
-    fn drop(&mut self) {
-        let _ = self.0.unlock();
-    }
+    lock: Lock,
 }
 
 impl Store {
     /// Opens and locks a state file and reads its bytes. A path that is a symbolic link stands for the file it leads to.
     pub fn open(path: impl AsRef<Path>, presence: Presence, wait: Wait) -> Result<Store, Error> {
-        let path = resolve(path.as_ref())?;
-        if presence == Presence::MustExist && !exists(&path)? {
-            // Refused before a lock file is made where there is nothing to lock.
-            return Err(Error::Missing { path });
-        }
-        let lock = lock(&path, wait)?;
+        Store::open_as(path.as_ref(), presence, wait, false)
+    }
+
+    /// [`Store::open`] of a state file that must exist and may be an older copy. The next commit makes it the newest.
+    pub fn restore(path: impl AsRef<Path>, wait: Wait) -> Result<Store, Error> {
+        Store::open_as(path.as_ref(), Presence::MustExist, wait, true)
+    }
+
+    fn open_as(path: &Path, presence: Presence, wait: Wait, older: bool) -> Result<Store, Error> {
+        let path = resolve(path)?;
+        // Refused before a lock file is made where there is nothing to lock.
+        look(&path, presence)?;
+        let mut lock = Lock::take(&path, wait)?;
         let folder_path = path.parent().unwrap_or(Path::new("/"));
         let folder = File::open(folder_path).map_err(failed("open the folder", folder_path))?;
-        let new = beside(&path, ".new");
-        remove_leftover(&new)?;
-        let bytes = if exists(&path)? {
-            if presence == Presence::MustBeNew {
-                return Err(Error::Exists { path });
+        let noted = |source| failed("note a number in the lock file of", &path)(source);
+        if !look(&path, presence)? {
+            let generation = lock.number().unwrap_or(0);
+            if lock.number().is_none() {
+                lock.note(generation).map_err(noted)?;
             }
-            step("sync the folder at opening", || folder.sync_all()).map_err(failed("sync the folder", folder_path))?;
-            Some(read(&path)?)
-        } else {
-            if presence == Presence::MustExist {
-                return Err(Error::Missing { path });
-            }
-            None
-        };
-        Ok(Store { path, new, folder, bytes, _lock: lock })
+            return Ok(Store { path, folder, bytes: None, generation, lock });
+        }
+        step("sync the folder at opening", || folder.sync_all()).map_err(failed("sync the folder", folder_path))?;
+        remove_second_names(&path)?;
+        let (mut generation, bytes) = read(&path)?;
+        match lock.number() {
+            Some(last) if last > generation && !older => return Err(Error::Older { path, generation, last }),
+            Some(last) if last >= generation => generation = last,
+            _ => lock.note(generation).map_err(noted)?,
+        }
+        remove_leftovers(&path)?;
+        Ok(Store { path, folder, bytes: Some(bytes), generation, lock })
     }
 
     /// The bytes of the last commit, by whomever; none if there has been none yet.
@@ -145,9 +165,19 @@ impl Store {
         self.bytes.as_deref()
     }
 
+    /// The number of the last commit.
+    pub fn generation(&self) -> u64 {
+        self.generation
+    }
+
     /// The file's path, with symbolic links resolved.
     pub fn path(&self) -> &Path {
         &self.path
+    }
+
+    /// The paths of the state file and of its lock file.
+    pub fn own_paths(&self) -> [PathBuf; 2] {
+        [self.path.clone(), beside(&self.path, ".lock")]
     }
 
     /// Replaces the file's bytes.
@@ -159,152 +189,37 @@ impl Store {
         if bytes.len() > MAX_BYTES {
             return Err(Error::TooLarge { path: self.path.clone(), bytes: bytes.len() as u64 });
         }
-        remove_leftover(&self.new)?;
-        let written = write_new(&self.new, &format::encode(bytes)).and_then(|()| {
-            step("rename", || fs::rename(&self.new, &self.path)).map_err(failed("replace the file", &self.path))
-        });
-        if let Err(error) = written {
-            // At worst a leftover stays until the next opening.
-            let _ = fs::remove_file(&self.new);
-            return Err(error);
-        }
-        self.bytes = Some(bytes.to_vec());
+        // Only a forged file has the highest number; it then stays.
+        let generation = self.generation.saturating_add(1);
+        let mut new = Temporary::create(&self.path, Kind::State, "create the new file")
+            .map_err(failed("create a new file for", &self.path))?;
+        let steps = ["write the first half", "write the second half", "sync the new file"];
+        new.fill(&format::encode(generation, bytes), steps).map_err(failed("write the new file of", &self.path))?;
+        let first = self.bytes.is_none();
+        step("rename", || if first { place_new(&new.path, &self.path) } else { fs::rename(&new.path, &self.path) })
+            .map_err(|error| match error.kind() {
+                ErrorKind::AlreadyExists => Error::Exists { path: self.path.clone() },
+                _ => failed("replace the file", &self.path)(error),
+            })?;
+        new.renamed();
+        self.bytes = Some(Secret::from(bytes));
+        self.generation = generation;
         step("sync the folder", || self.folder.sync_all())
-            .map_err(|source| Error::NotSynced { path: self.path.clone(), source })
-    }
-}
-
-/// Makes an error of a failed operation of the system.
-fn failed(what: &'static str, path: &Path) -> impl FnOnce(io::Error) -> Error {
-    let path = path.to_path_buf();
-    move |source| Error::System { what, path, source }
-}
-
-/// The path with an ending after its name.
-fn beside(path: &Path, ending: &str) -> PathBuf {
-    let mut name = OsString::from(path);
-    name.push(ending);
-    PathBuf::from(name)
-}
-
-/// The path with symbolic links resolved, so that all names of a file lead to one lock. The file itself need not exist.
-fn resolve(path: &Path) -> Result<PathBuf, Error> {
-    match fs::symlink_metadata(path) {
-        Ok(metadata) if metadata.is_symlink() => fs::canonicalize(path).map_err(failed("follow the link", path)),
-        _ => {
-            let name = path.file_name().ok_or_else(|| Error::NotAFile { path: path.to_path_buf() })?;
-            let folder = match path.parent() {
-                Some(folder) if folder != Path::new("") => folder,
-                _ => Path::new("."),
-            };
-            Ok(fs::canonicalize(folder).map_err(failed("find the folder", folder))?.join(name))
+            .and_then(|()| self.lock.note(generation))
+            .map_err(|source| Error::NotSynced { path: self.path.clone(), source })?;
+        if first {
+            // Of a first commit that was killed. At worst they stay until the next opening.
+            let _ = remove_leftovers(&self.path);
         }
+        Ok(())
     }
-}
 
-/// Whether something has this name.
-fn exists(path: &Path) -> Result<bool, Error> {
-    match fs::symlink_metadata(path) {
-        Ok(_) => Ok(true),
-        Err(error) if error.kind() == ErrorKind::NotFound => Ok(false),
-        Err(error) => Err(failed("look at the file", path)(error)),
+    /// [`Store::commit`], and then sets the bytes of the old file to zero on the disk, as far as the file system writes them to
+    /// the place where they were.
+    pub fn commit_and_wipe(&mut self, bytes: &[u8]) -> Result<(), Error> {
+        let old = OpenOptions::new().write(true).custom_flags(NO_FOLLOW).open(&self.path);
+        let old = old.map_err(failed("open the old file", &self.path))?;
+        self.commit(bytes)?;
+        wipe_file(&old).map_err(|source| Error::NotWiped { path: self.path.clone(), source })
     }
-}
-
-/// Opens the lock file, made if there is none, and locks it.
-fn lock(path: &Path, wait: Wait) -> Result<Locked, Error> {
-    let name = beside(path, ".lock");
-    let start = Instant::now();
-    loop {
-        let file = step("open the lock file", || {
-            OpenOptions::new().read(true).write(true).create(true).truncate(false).mode(OWNER_ONLY).open(&name)
-        })
-        .map_err(failed("open the lock file", &name))?;
-        owner_only(&file).map_err(failed("set the permissions of", &name))?;
-        wait_for(&file, wait, start).map_err(|error| match error {
-            Some(source) => failed("lock", &name)(source),
-            None => Error::Busy { path: path.to_path_buf() },
-        })?;
-        let locked = Locked(file);
-        // The file that was locked must still be the one of this name: otherwise somebody else locks another.
-        let own = locked.0.metadata().map_err(failed("look at the lock file", &name))?;
-        match fs::symlink_metadata(&name) {
-            Ok(named) if named.is_symlink() => return Err(Error::NotAFile { path: name }),
-            Ok(named) if (named.dev(), named.ino()) == (own.dev(), own.ino()) => return Ok(locked),
-            _ => {}
-        }
-    }
-}
-
-/// Locks an open file; an error is one of the system, or none where another process holds the lock for too long.
-fn wait_for(file: &File, wait: Wait, start: Instant) -> Result<(), Option<io::Error>> {
-    loop {
-        if wait == Wait::Forever {
-            match step("lock", || file.lock()) {
-                Err(error) if error.kind() == ErrorKind::Interrupted => continue,
-                locked => return locked.map_err(Some),
-            }
-        }
-        match file.try_lock() {
-            Ok(()) => return step("locked", || Ok(())).map_err(Some),
-            Err(TryLockError::Error(error)) if error.kind() == ErrorKind::Interrupted => {}
-            Err(TryLockError::Error(error)) => return Err(Some(error)),
-            Err(TryLockError::WouldBlock) => match wait {
-                Wait::AtMost(longest) if start.elapsed() < longest => sleep(Duration::from_millis(10)),
-                _ => return Err(None),
-            },
-        }
-    }
-}
-
-/// Sets an open file's permissions, whatever the process's own mask made of them.
-fn owner_only(file: &File) -> io::Result<()> {
-    if file.metadata()?.mode() & 0o7777 != OWNER_ONLY {
-        step("set the permissions", || file.set_permissions(Permissions::from_mode(OWNER_ONLY)))?;
-    }
-    Ok(())
-}
-
-/// Removes what a killed process left behind. Only the holder of the lock calls this.
-fn remove_leftover(new: &Path) -> Result<(), Error> {
-    if exists(new)? {
-        step("remove a leftover", || fs::remove_file(new)).map_err(failed("remove the leftover", new))?;
-    }
-    Ok(())
-}
-
-/// Reads and checks the state file.
-fn read(path: &Path) -> Result<Vec<u8>, Error> {
-    let named = fs::symlink_metadata(path).map_err(failed("look at the file", path))?;
-    if !named.is_file() {
-        return Err(Error::NotAFile { path: path.to_path_buf() });
-    }
-    let file = File::open(path).map_err(failed("open the file", path))?;
-    let metadata = file.metadata().map_err(failed("look at the file", path))?;
-    if metadata.nlink() != 1 {
-        return Err(Error::SecondName { path: path.to_path_buf() });
-    }
-    if metadata.mode() & 0o077 != 0 {
-        return Err(Error::OpenToOthers { path: path.to_path_buf() });
-    }
-    if metadata.len() > format::encoded_length(MAX_BYTES) {
-        return Err(Error::TooLarge { path: path.to_path_buf(), bytes: metadata.len() });
-    }
-    let mut content = Vec::new();
-    step("read", || file.take(format::encoded_length(MAX_BYTES) + 1).read_to_end(&mut content))
-        .map_err(failed("read the file", path))?;
-    format::decode(&content).map(<[u8]>::to_vec).map_err(|damage| Error::Damaged { path: path.to_path_buf(), damage })
-}
-
-/// Creates the new file and brings its content to the disk.
-fn write_new(new: &Path, content: &[u8]) -> Result<(), Error> {
-    let mut file =
-        step("create the new file", || OpenOptions::new().write(true).create_new(true).mode(OWNER_ONLY).open(new))
-            .map_err(failed("create the new file", new))?;
-    owner_only(&file).map_err(failed("set the permissions of", new))?;
-    let (first, second) = content.split_at(content.len() / 2);
-    for (name, half) in [("write the first half", first), ("write the second half", second)] {
-        step(name, || file.write_all(half)).map_err(failed("write the new file", new))?;
-    }
-    step("sync the new file", || file.sync_all()).map_err(failed("sync the new file", new))
 }

@@ -11,6 +11,10 @@ use std::path::{Path, PathBuf};
 use crate::arguments::{Arguments, Request, parse};
 use crate::failure::Failure;
 use crate::output::print;
+use crate::table::Command;
+
+/// What runs a command.
+pub type Run = fn(&Command, &Arguments, &mut dyn Write) -> Result<(), Failure>;
 
 /// A group's number, the block of ring numbers that it gets, and the numbers that it does not use.
 const BLOCKS: [(u32, &str, &str); 3] = [
@@ -19,9 +23,9 @@ const BLOCKS: [(u32, &str, &str); 3] = [
     (27, "K 701 to K 720", "none"),
 ];
 
-/// Plays the season.
-pub fn run(_: &Arguments, out: &mut dyn Write) -> Result<(), Failure> {
-    let folder = Folder::new()?;
+/// Plays the season; `run` runs each of its commands.
+pub fn run(out: &mut dyn Write, run: Run) -> Result<(), Failure> {
+    let folder = Folder::new(run)?;
     print(
         out,
         "The office begins a day with an allowance of 200 and opens three groups, each with a key of its own.\n",
@@ -42,7 +46,7 @@ pub fn run(_: &Arguments, out: &mut dyn Write) -> Result<(), Failure> {
         if group == BLOCKS[0].0 {
             print(out, &format!("  group {group:2}: an envelope of {envelope} bytes comes in, damaged in one bit:\n"))?;
             folder.damage("from-4", "damaged")?;
-            folder.refused(out, &["office", "unseal", "--in", "damaged", "--out", "none"], "office.state")?;
+            folder.refused(out, &["office", "open", "--in", "damaged", "--out", "none"], "office.state")?;
         }
         let opened = folder.office_opens(group)?;
         print(
@@ -52,12 +56,12 @@ pub fn run(_: &Arguments, out: &mut dyn Write) -> Result<(), Failure> {
     }
     print(out, "\nOther arrivals that are refused:\n")?;
     print(out, "  repeated: the office gets the envelope of group 11 a second time:\n")?;
-    folder.refused(out, &["office", "unseal", "--in", "from-11", "--out", "none"], "office.state")?;
+    folder.refused(out, &["office", "open", "--in", "from-11", "--out", "none"], "office.state")?;
     print(out, "  misdirected: group 27 gets the envelope for group 4:\n")?;
-    folder.refused(out, &["group", "unseal", "--in", "to-4", "--out", "none"], "group-27.state")?;
+    folder.refused(out, &["group", "open", "--in", "to-4", "--out", "none"], "group-27.state")?;
     print(out, "  misdirected, and readdressed to 27:\n")?;
     folder.readdress("to-4", "S,4,", "S,27,", "readdressed")?;
-    folder.refused(out, &["group", "unseal", "--in", "readdressed", "--out", "none"], "group-27.state")?;
+    folder.refused(out, &["group", "open", "--in", "readdressed", "--out", "none"], "group-27.state")?;
     print(out, "\nWhat the office holds:\n")?;
     print(out, &indented(&folder.play(&["office", "show"], "office.state")?))?;
     print(out, "\nWhat the groups hold:\n")?;
@@ -85,7 +89,7 @@ fn indented(text: &str) -> String {
 }
 
 /// A temporary folder, removed at the end.
-struct Folder(PathBuf);
+struct Folder(PathBuf, Run);
 
 impl Drop for Folder {
     fn drop(&mut self) {
@@ -94,10 +98,10 @@ impl Drop for Folder {
 }
 
 impl Folder {
-    fn new() -> Result<Folder, Failure> {
+    fn new(run: Run) -> Result<Folder, Failure> {
         let path = std::env::temp_dir().join(format!("pevghazo-demo-{}", std::process::id()));
         DirBuilder::new().mode(0o700).create(&path).map_err(Failure::file("create the folder", &path))?;
-        Ok(Folder(path))
+        Ok(Folder(path, run))
     }
 
     /// Runs a command; the values of the options that name files are files of this folder. Gives what it prints.
@@ -111,7 +115,7 @@ impl Folder {
         }
         let mut printed = Vec::new();
         match parse(tokens)? {
-            Request::Run(command, arguments) => (command.run)(&arguments, &mut printed)?,
+            Request::Run(command, arguments) => (self.1)(command, &arguments, &mut printed)?,
             Request::Print(text) => printed.extend(text.bytes()),
         }
         Ok(String::from_utf8_lossy(&printed).into_owned())
@@ -137,13 +141,13 @@ impl Folder {
     }
 
     fn group_opens(&self, group: u32) -> Result<String, Failure> {
-        let words = ["group", "unseal", "--in", &format!("to-{group}"), "--out", "opened"];
+        let words = ["group", "open", "--in", &format!("to-{group}"), "--out", "opened"];
         self.play(&words, &format!("group-{group}.state"))?;
         self.opened()
     }
 
     fn office_opens(&self, group: u32) -> Result<String, Failure> {
-        self.play(&["office", "unseal", "--in", &format!("from-{group}"), "--out", "opened"], "office.state")?;
+        self.play(&["office", "open", "--in", &format!("from-{group}"), "--out", "opened"], "office.state")?;
         self.opened()
     }
 

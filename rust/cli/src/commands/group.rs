@@ -1,23 +1,23 @@
-//! The commands of a group alone.
-
-use std::io::Write;
+//! The command of a group alone.
 
 use pevghazo::{Session, envelope};
 
-use super::office::word;
 use crate::arguments::Arguments;
 use crate::failure::Failure;
 use crate::input;
-use crate::output::{print, tell};
+use crate::keys::Keys;
+use crate::output::tell;
 use crate::state::{Group, Kept, waits};
 use crate::state_file::{Used, create};
 
 /// Starts the session, in a new state file or in the place of the old session.
-pub fn start(arguments: &Arguments, out: &mut dyn Write) -> Result<(), Failure> {
+pub fn start(arguments: &Arguments) -> Result<(), Failure> {
     let group = arguments.required_number("group")?;
     // No envelope can be written for a group above 31: number 3.
     envelope::write(group, &[], &[], &[0; pevghazo::TAG_LENGTH])?;
-    let (session, _) = input::with_key(arguments, Session::start)??;
+    let key = input::key(arguments)?;
+    let (session, _) = Session::start(&key)?;
+    let reuse = arguments.has("reuse-key");
     if arguments.has("replace") {
         let mut used = Used::<Group>::open(arguments)?;
         if used.state.group != group {
@@ -28,27 +28,15 @@ pub fn start(arguments: &Arguments, out: &mut dyn Write) -> Result<(), Failure> 
                 "A message was opened and not handed out: do that first, with `pevghazo group reread`.".to_string(),
             ));
         }
-        used.state = Group { group, session, kept: Kept::default() };
+        used.state.keys.add(&key, reuse)?;
+        used.state.session = session;
+        used.state.kept = Kept::default();
         used.commit()?;
     } else {
-        create(arguments, &Group { group, session, kept: Kept::default() })?;
+        let mut keys = Keys::default();
+        keys.add(&key, reuse)?;
+        create(arguments, &Group { group, session, kept: Kept::default(), keys })?;
     }
-    tell(out, &format!("Group {group} has started."));
+    tell(&format!("Group {group} has started."));
     Ok(())
-}
-
-/// Shows the session.
-pub fn show(arguments: &Arguments, out: &mut dyn Write) -> Result<(), Failure> {
-    let Group { group, session, kept } = Used::<Group>::open(arguments)?.state;
-    let open = if session.is_open() { "open" } else { "closed" };
-    print(
-        out,
-        &format!(
-            "group {group:2}: {open}, index {:7}, toggle {}, last envelope {}, last message {}\n",
-            session.index(),
-            u8::from(session.toggle()),
-            word(&kept.envelope),
-            word(&kept.message),
-        ),
-    )
 }

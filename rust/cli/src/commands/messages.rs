@@ -3,91 +3,19 @@
 //! Every call and what belongs to it are committed together, with a note that it was not handed out yet; then it is handed
 //! out; then that is noted. A next message for the same session does not take the place of one that was never handed out.
 
-use std::io::Write;
+use std::io::{Write, stderr};
 
-use pevghazo::{Envelope, Number, Plain, Refusal, Sealed, envelope};
+use pevghazo::{Number, envelope};
+use pevghazo_store::Secret;
 
-use super::ENDS;
 use crate::arguments::Arguments;
+use crate::end::End;
 use crate::failure::Failure;
 use crate::input;
-use crate::output::{Output, tell};
-use crate::state::{Group, Held, Kept, Message, Office, State, waits};
+use crate::output::{Output, Time, print, tell};
+use crate::state::{Held, Message, waits};
 use crate::state_file::Used;
-
-/// An end of sessions: the office with its table, or a group.
-pub trait End: State {
-    /// The word that this end's commands start with.
-    const NAME: &'static str;
-    /// The group that a command is about.
-    fn group(&self, arguments: &Arguments) -> Result<u32, Failure>;
-    /// Whether an envelope for this group may be opened here.
-    fn takes(&self, group: u32) -> Result<(), Failure>;
-    /// Seals a message for a group.
-    fn seal(&mut self, group: u32, metadata: &[u8], message: &[u8]) -> Result<Sealed, Refusal>;
-    /// Opens an arrival.
-    fn unseal(&mut self, arrival: &Envelope) -> Result<Vec<u8>, Refusal>;
-    /// What is kept of a group's messages.
-    fn kept(&mut self, group: u32) -> Result<&mut Kept, Refusal>;
-    /// The index of a group's session.
-    fn index(&self, group: u32) -> u32;
-}
-
-impl End for Office {
-    const NAME: &'static str = ENDS[0];
-
-    fn group(&self, arguments: &Arguments) -> Result<u32, Failure> {
-        arguments.required_number("group")
-    }
-
-    fn takes(&self, _: u32) -> Result<(), Failure> {
-        Ok(())
-    }
-
-    fn seal(&mut self, group: u32, metadata: &[u8], message: &[u8]) -> Result<Sealed, Refusal> {
-        self.table.seal(group, &Plain { metadata, message })
-    }
-
-    fn unseal(&mut self, arrival: &Envelope) -> Result<Vec<u8>, Refusal> {
-        Ok(self.table.unwrap(arrival.group, &arrival.arrival())?.message)
-    }
-
-    fn kept(&mut self, group: u32) -> Result<&mut Kept, Refusal> {
-        Office::kept(self, group)
-    }
-
-    fn index(&self, group: u32) -> u32 {
-        self.table.group(group).map_or(0, |group| group.index)
-    }
-}
-
-impl End for Group {
-    const NAME: &'static str = ENDS[1];
-
-    fn group(&self, _: &Arguments) -> Result<u32, Failure> {
-        Ok(self.group)
-    }
-
-    fn takes(&self, group: u32) -> Result<(), Failure> {
-        if group == self.group { Ok(()) } else { Err(Failure::OtherGroup { asked: group, own: self.group }) }
-    }
-
-    fn seal(&mut self, group: u32, metadata: &[u8], message: &[u8]) -> Result<Sealed, Refusal> {
-        self.session.seal(group, &Plain { metadata, message })
-    }
-
-    fn unseal(&mut self, arrival: &Envelope) -> Result<Vec<u8>, Refusal> {
-        Ok(self.session.unwrap(&arrival.arrival())?.message)
-    }
-
-    fn kept(&mut self, _: u32) -> Result<&mut Kept, Refusal> {
-        Ok(&mut self.kept)
-    }
-
-    fn index(&self, _: u32) -> u32 {
-        self.session.index()
-    }
-}
+use crate::table::ENDS;
 
 /// Seals a message into an envelope.
 pub fn seal<E: End>(arguments: &Arguments, out: &mut dyn Write) -> Result<(), Failure> {
@@ -104,23 +32,18 @@ pub fn seal<E: End>(arguments: &Arguments, out: &mut dyn Write) -> Result<(), Fa
         )));
     }
     output.must_be_new()?;
-    let bytes = used.state.seal(group, &metadata, &message)?.envelope;
+    let bytes = used.state.seal(group, &metadata, &message)?;
     let length = bytes.len();
     used.state.kept(group)?.envelope = Some(Held::waiting(bytes));
     used.commit().map_err(|error| kept_envelope::<E>(group, error.into()))?;
-    hand_out_envelope(&mut used, group, &output, out)?;
-    if output.is_file() {
-        let index = used.state.index(group);
-        tell(
-            out,
-            &format!("Sealed {} bytes for group {group}: envelope of {length} bytes, index {index}.", message.len()),
-        );
-    }
+    hand_out_envelope(&mut used, group, &output, Time::First, out)?;
+    let index = used.state.index(group);
+    tell(&format!("Sealed {} bytes for group {group}: envelope of {length} bytes, index {index}.", message.len()));
     Ok(())
 }
 
 /// Opens an envelope that arrived.
-pub fn unseal<E: End>(arguments: &Arguments, out: &mut dyn Write) -> Result<(), Failure> {
+pub fn open<E: End>(arguments: &Arguments, out: &mut dyn Write) -> Result<(), Failure> {
     let bytes = input::envelope(arguments)?;
     let mut used = Used::<E>::open(arguments)?;
     let outputs = message_outputs(arguments, &used)?;
@@ -134,7 +57,7 @@ pub fn unseal<E: End>(arguments: &Arguments, out: &mut dyn Write) -> Result<(), 
         )));
     }
     outputs.must_be_new()?;
-    let text = match used.state.unseal(&arrival) {
+    let text = match used.state.open(&arrival) {
         Ok(text) => text,
         Err(refusal) if refusal.number == Number::WrongTag => {
             // The office's count of the day has grown.
@@ -147,22 +70,26 @@ pub fn unseal<E: End>(arguments: &Arguments, out: &mut dyn Write) -> Result<(), 
     let kept = used.state.kept(group)?;
     // Its tag covers all messages before it: the other end has the last envelope.
     kept.envelope = None;
-    kept.message = Some(Held::waiting(Message { metadata: arrival.metadata.to_vec(), text }));
+    let metadata = Secret::from(arrival.metadata);
+    kept.message = Some(Held::waiting(Message { metadata, text }));
     used.commit().map_err(|error| kept_message::<E>(group, error.into()))?;
-    hand_out_message(&mut used, group, &outputs, out)?;
-    if !outputs.are_files() {
-        return Ok(());
-    }
+    hand_out_message(&mut used, group, &outputs, Time::First, out)?;
     let index = used.state.index(group);
-    tell(out, &format!("Opened an envelope of group {group}: message of {length} bytes, index {index}."));
+    tell(&format!("Opened an envelope of group {group}: message of {length} bytes, index {index}."));
+    let mut result = if E::NAME == ENDS[0] { format!("group {group}\n") } else { String::new() };
     if !arrival.rest.is_empty() {
-        let from = arguments.number("from")?.unwrap_or(0) as usize + arrival.place;
-        tell(
-            out,
-            &format!("{} bytes follow the envelope: `--from {from}` reads an envelope there.", arrival.rest.len()),
-        );
+        let next = arguments.number("from")?.unwrap_or(0) as usize + arrival.place;
+        result.push_str(&format!("next {next}\n"));
     }
+    report(&result, outputs.are_standard(), out);
     Ok(())
+}
+
+/// Prints what a script needs to know: on the standard output, or on the standard error where the other is taken or fails.
+fn report(result: &str, taken: bool, out: &mut dyn Write) {
+    if taken || print(out, result).is_err() {
+        let _ = stderr().write_all(result.as_bytes());
+    }
 }
 
 /// Hands out the last envelope again.
@@ -175,10 +102,8 @@ pub fn resend<E: End>(arguments: &Arguments, out: &mut dyn Write) -> Result<(), 
             "No envelope for group {group} is kept: none was sealed, or an arrival has shown that it got there."
         )));
     }
-    hand_out_envelope(&mut used, group, &output, out)?;
-    if output.is_file() {
-        tell(out, &format!("Handed out the last envelope for group {group}."));
-    }
+    hand_out_envelope(&mut used, group, &output, Time::Again, out)?;
+    tell(&format!("Handed out the last envelope for group {group}."));
     Ok(())
 }
 
@@ -190,10 +115,8 @@ pub fn reread<E: End>(arguments: &Arguments, out: &mut dyn Write) -> Result<(), 
     if used.state.kept(group)?.message.is_none() {
         return Err(Failure::NotNow(format!("No message of group {group} is kept: none was opened.")));
     }
-    hand_out_message(&mut used, group, &outputs, out)?;
-    if outputs.are_files() {
-        tell(out, &format!("Handed out the last message of group {group}."));
-    }
+    hand_out_message(&mut used, group, &outputs, Time::Again, out)?;
+    tell(&format!("Handed out the last message of group {group}."));
     Ok(())
 }
 
@@ -211,9 +134,9 @@ struct Outputs {
 }
 
 impl Outputs {
-    /// Whether both go to files.
-    fn are_files(&self) -> bool {
-        self.message.is_file() && self.metadata.as_ref().is_none_or(Output::is_file)
+    /// Whether one of them is the standard output.
+    fn are_standard(&self) -> bool {
+        self.message.is_standard() || self.metadata.as_ref().is_some_and(Output::is_standard)
     }
 
     /// Refuses files that are there already.
@@ -237,10 +160,11 @@ fn hand_out_envelope<E: End>(
     used: &mut Used<E>,
     group: u32,
     output: &Output,
+    time: Time,
     out: &mut dyn Write,
 ) -> Result<(), Failure> {
     if let Some(held) = &mut used.state.kept(group)?.envelope {
-        output.write(&held.content, out).map_err(|failure| kept_envelope::<E>(group, failure))?;
+        output.write(&held.content, time, out).map_err(|failure| kept_envelope::<E>(group, failure))?;
         held.handed_out = true;
     }
     used.commit_if_altered().map_err(Failure::NotNoted)
@@ -251,12 +175,14 @@ fn hand_out_message<E: End>(
     used: &mut Used<E>,
     group: u32,
     outputs: &Outputs,
+    time: Time,
     out: &mut dyn Write,
 ) -> Result<(), Failure> {
     if let Some(held) = &mut used.state.kept(group)?.message {
-        let metadata = outputs.metadata.as_ref().map_or(Ok(()), |output| output.write(&held.content.metadata, out));
-        metadata
-            .and_then(|()| outputs.message.write(&held.content.text, out))
+        let Message { metadata, text } = &held.content;
+        let first = outputs.metadata.as_ref().map_or(Ok(()), |output| output.write(metadata, time, out));
+        first
+            .and_then(|()| outputs.message.write(text, time, out))
             .map_err(|failure| kept_message::<E>(group, failure))?;
         held.handed_out = true;
     }
@@ -264,7 +190,7 @@ fn hand_out_message<E: End>(
 }
 
 /// The command that hands something out again.
-fn again<E: End>(command: &str, group: u32) -> String {
+pub fn again<E: End>(command: &str, group: u32) -> String {
     let option = if E::NAME == ENDS[0] { format!(" --group {group}") } else { String::new() };
     format!("pevghazo {} {command}{option}", E::NAME)
 }

@@ -1,0 +1,109 @@
+//! Showing what a state file holds, to people and to scripts.
+
+use std::fmt::Write as _;
+use std::io::Write;
+
+use pevghazo::GROUPS;
+
+use crate::arguments::Arguments;
+use crate::failure::Failure;
+use crate::output::print;
+use crate::state::{Group, Held, Kept, Office};
+use crate::state_file::Used;
+
+/// What is shown of one session.
+struct Shown<'a> {
+    group: u32,
+    is_open: bool,
+    index: u32,
+    toggle: bool,
+    kept: &'a Kept,
+}
+
+impl Shown<'_> {
+    /// For people, after the group's number.
+    fn line(&self) -> String {
+        format!(
+            "index {:7}, toggle {}, last envelope {}, last message {}",
+            self.index,
+            u8::from(self.toggle),
+            word(&self.kept.envelope),
+            word(&self.kept.message),
+        )
+    }
+
+    /// For scripts: the members of a JSON object.
+    fn members(&self) -> String {
+        format!(
+            r#""group":{},"open":{},"index":{},"toggle":{},"envelope":"{}","message":"{}""#,
+            self.group,
+            self.is_open,
+            self.index,
+            u8::from(self.toggle),
+            json_word(&self.kept.envelope),
+            json_word(&self.kept.message),
+        )
+    }
+}
+
+/// Shows the office's table.
+pub fn office(arguments: &Arguments, out: &mut dyn Write) -> Result<(), Failure> {
+    let mut used = Used::<Office>::open(arguments)?;
+    let (commit, keys, day) = (used.generation(), used.state.keys.count(), used.state.table.day());
+    let open: Vec<_> = used.state.table.groups().filter(|group| group.is_open).collect();
+    let mut lines = String::new();
+    let mut objects = Vec::new();
+    for group in &open {
+        let kept = used.state.kept(group.group)?;
+        let shown =
+            Shown { group: group.group, is_open: group.is_open, index: group.index, toggle: group.toggle, kept };
+        let _ = writeln!(lines, "group {:2}: {}", group.group, shown.line());
+        objects.push(format!("{{{}}}", shown.members()));
+    }
+    let text = if arguments.has("json") {
+        format!(
+            "{{\"commit\":{commit},\"keys\":{keys},\"count\":{},\"allowance\":{},\"groups\":[{}]}}\n",
+            day.spent,
+            day.allowance,
+            objects.join(",")
+        )
+    } else {
+        let closed = GROUPS - open.len();
+        let day = format!("day: count {} of allowance {}", day.spent, day.allowance);
+        format!("{day}\n{lines}closed: {closed} of {GROUPS} groups\n")
+    };
+    print(out, &text)
+}
+
+/// Shows a group's session.
+pub fn group(arguments: &Arguments, out: &mut dyn Write) -> Result<(), Failure> {
+    let used = Used::<Group>::open(arguments)?;
+    let Group { group, session, kept, keys } = &used.state;
+    let shown =
+        Shown { group: *group, is_open: session.is_open(), index: session.index(), toggle: session.toggle(), kept };
+    let text = if arguments.has("json") {
+        format!("{{\"commit\":{},\"keys\":{},{}}}\n", used.generation(), keys.count(), shown.members())
+    } else {
+        let open = if shown.is_open { "open" } else { "closed" };
+        format!("group {group:2}: {open}, {}\n", shown.line())
+    };
+    print(out, &text)
+}
+
+/// What is said of something kept.
+fn word<T>(held: &Option<Held<T>>) -> &'static str {
+    match held {
+        None => "none",
+        Some(Held { handed_out: true, .. }) => "handed out",
+        Some(_) => "WAITING",
+    }
+}
+
+/// The same for scripts.
+fn json_word<T>(held: &Option<Held<T>>) -> &'static str {
+    match held {
+        None => "none",
+        Some(Held { handed_out: true, .. }) => "handed-out",
+        Some(_) => "waiting",
+    }
+}

@@ -1,0 +1,204 @@
+//! Completions for shells, made from the table of commands. `pevghazo completions SHELL` prints them; the folder `completions`
+//! holds what it prints.
+
+use std::fmt::Write;
+
+use crate::failure::Failure;
+use crate::table::{COMMANDS, COMMON, Command, ENDS, Opt, Value};
+
+/// The shells.
+pub const SHELLS: [&str; 3] = ["bash", "zsh", "fish"];
+
+/// The completions of a shell.
+pub fn of(shell: &str) -> Result<String, Failure> {
+    match shell {
+        "bash" => Ok(bash()),
+        "zsh" => Ok(zsh()),
+        "fish" => Ok(fish()),
+        _ => Err(Failure::Usage(format!("There are completions for {}.", SHELLS.join(", ")))),
+    }
+}
+
+/// The words that may come first: the ends, and the commands of neither.
+fn first_words() -> impl Iterator<Item = (&'static str, String)> {
+    let ends = ENDS.iter().map(|end| (*end, format!("the commands of the {end}")));
+    ends.chain(of_end("").map(|command| (command.name, command.about.to_string())))
+}
+
+/// The commands of an end, or of neither.
+fn of_end(end: &str) -> impl Iterator<Item = &'static Command> {
+    COMMANDS.iter().filter(move |command| command.end == end)
+}
+
+/// The options of a command, and those of every command line.
+fn all_options(command: &'static Command) -> impl Iterator<Item = &'static Opt> {
+    command.options.iter().chain(&COMMON)
+}
+
+/// Words with spaces between them.
+fn joined(words: impl Iterator<Item = String>) -> String {
+    words.collect::<Vec<_>>().join(" ")
+}
+
+/// The names of all options whose value is such a one, as a pattern of a shell's `case`.
+fn with_value(value: fn(Value) -> bool) -> String {
+    let mut names: Vec<String> = Vec::new();
+    for option in COMMANDS.iter().flat_map(|command| command.options).filter(|option| value(option.value)) {
+        let name = format!("--{}", option.name);
+        if !names.contains(&name) {
+            names.push(name);
+        }
+    }
+    names.join("|")
+}
+
+fn bash() -> String {
+    let mut text = String::from(
+        "# Completions of pevghazo for bash; `pevghazo completions bash` prints them.\n\
+         _pevghazo() {\n    \
+             local word before end='' name='' i skip=''\n    \
+             word=${COMP_WORDS[COMP_CWORD]}\n    \
+             before=${COMP_WORDS[COMP_CWORD-1]}\n    \
+             COMPREPLY=()\n    \
+             for ((i = 1; i < COMP_CWORD; i++)); do\n        \
+                 if [[ -n $skip ]]; then skip=''; continue; fi\n        \
+                 case ${COMP_WORDS[i]} in\n            \
+                     ",
+    );
+    let _ = writeln!(text, "{}) skip=1 ;;", with_value(|value| value != Value::None));
+    text.push_str("            -*) ;;\n");
+    let _ = writeln!(
+        text,
+        "            {}) [[ -z $end$name ]] && end=${{COMP_WORDS[i]}} || name=${{COMP_WORDS[i]}} ;;",
+        ENDS.join("|")
+    );
+    text.push_str("            *) name=${COMP_WORDS[i]} ;;\n        esac\n    done\n    case $before in\n");
+    let _ = writeln!(
+        text,
+        "        {}) compopt -o filenames; mapfile -t COMPREPLY < <(compgen -f -- \"$word\"); return ;;",
+        with_value(|value| value == Value::File)
+    );
+    let _ = writeln!(
+        text,
+        "        {}) return ;;\n    esac\n    local words",
+        with_value(|value| !matches!(value, Value::None | Value::File))
+    );
+    text.push_str("    case \"$end $name\" in\n");
+    let _ = writeln!(
+        text,
+        "        ' ') words='{} --help --version' ;;",
+        joined(first_words().map(|(word, _)| word.to_string()))
+    );
+    for end in ENDS {
+        let names = joined(of_end(end).map(|command| command.name.to_string()));
+        let _ = writeln!(text, "        '{end} ') words='{names} --help' ;;");
+    }
+    for command in COMMANDS {
+        let options = joined(all_options(command).map(|option| format!("--{}", option.name)));
+        let _ = writeln!(text, "        '{} {}') words='{options}' ;;", command.end, command.name);
+    }
+    text.push_str(
+        "        *) words='' ;;\n    esac\n    mapfile -t COMPREPLY < <(compgen -W \"$words\" -- \"$word\")\n}\n\
+         complete -F _pevghazo pevghazo\n",
+    );
+    text
+}
+
+/// A text in single quotes for zsh's lists of words, where a colon and brackets have a meaning.
+fn zsh_text(text: &str) -> String {
+    let mut quoted = String::new();
+    for letter in text.chars() {
+        match letter {
+            '\'' => quoted.push_str("'\\''"),
+            ':' | '[' | ']' => quoted.extend(['\\', letter]),
+            letter => quoted.push(letter),
+        }
+    }
+    quoted
+}
+
+fn zsh_option(option: &Opt) -> String {
+    let about = zsh_text(option.about);
+    let name = option.name;
+    match option.value {
+        Value::None => format!("'--{name}[{about}]'"),
+        Value::File => format!("'--{name}=[{about}]:file:_files'"),
+        value => format!("'--{name}=[{about}]:{value}: '"),
+    }
+}
+
+fn zsh_words(text: &mut String, label: &str, words: impl Iterator<Item = (&'static str, String)>) {
+    let listed = joined(words.map(|(word, about)| format!("'{word}:{}'", zsh_text(&about))));
+    let _ = writeln!(text, "words_of=({listed}); _describe '{label}' words_of ;;");
+}
+
+fn zsh() -> String {
+    let mut text = String::from(
+        "#compdef pevghazo\n# Completions of pevghazo for zsh; `pevghazo completions zsh` prints them.\n\
+         _pevghazo() {\n    local -a words_of\n    local end='' name='' word skip=''\n    \
+         for word in ${words[2,CURRENT-1]}; do\n        \
+         if [[ -n $skip ]]; then skip=''; continue; fi\n        case $word in\n",
+    );
+    let _ = writeln!(text, "            {}) skip=1 ;;\n            -*) ;;", with_value(|value| value != Value::None));
+    let _ = writeln!(text, "            {}) [[ -z $end$name ]] && end=$word ;;", ENDS.join("|"));
+    text.push_str(
+        "            *) [[ -z $name ]] && name=$word ;;\n        esac\n    done\n    case \"$end $name\" in\n        ' ') ",
+    );
+    zsh_words(&mut text, "command", first_words());
+    for end in ENDS {
+        let _ = write!(text, "        '{end} ') ");
+        zsh_words(&mut text, "command", of_end(end).map(|command| (command.name, command.about.to_string())));
+    }
+    for command in COMMANDS {
+        let options = joined(all_options(command).map(zsh_option));
+        let _ = writeln!(text, "        '{} {}') _arguments '*: :' {options} ;;", command.end, command.name);
+    }
+    text.push_str("    esac\n}\n_pevghazo \"$@\"\n");
+    text
+}
+
+/// A text in single quotes for fish.
+fn fish_text(text: &str) -> String {
+    text.replace('\\', "\\\\").replace('\'', "\\'")
+}
+
+fn fish() -> String {
+    let mut text = String::from(
+        "# Completions of pevghazo for fish; `pevghazo completions fish` prints them.\ncomplete -c pevghazo -f\n",
+    );
+    let ends = ENDS.join(" ");
+    let lone = joined(of_end("").map(|command| command.name.to_string()));
+    let none_yet = format!("not __fish_seen_subcommand_from {ends} {lone}");
+    for (word, about) in first_words() {
+        let _ = writeln!(text, "complete -c pevghazo -n '{none_yet}' -a {word} -d '{}'", fish_text(&about));
+    }
+    for command in COMMANDS {
+        let seen = if command.end.is_empty() {
+            format!("__fish_seen_subcommand_from {}", command.name)
+        } else {
+            let names = joined(of_end(command.end).map(|command| command.name.to_string()));
+            let end = format!("__fish_seen_subcommand_from {}", command.end);
+            let _ = writeln!(
+                text,
+                "complete -c pevghazo -n '{end}; and not __fish_seen_subcommand_from {names}' -a {} -d '{}'",
+                command.name,
+                fish_text(command.about)
+            );
+            format!("{end}; and __fish_seen_subcommand_from {}", command.name)
+        };
+        for option in command.options {
+            let value = match option.value {
+                Value::None => "",
+                Value::File => " -r -F",
+                _ => " -x",
+            };
+            let about = fish_text(option.about);
+            let _ = writeln!(text, "complete -c pevghazo -n '{seen}' -l {}{value} -d '{about}'", option.name);
+        }
+    }
+    for option in &COMMON {
+        let letter = option.letter.map(|letter| format!(" -s {letter}")).unwrap_or_default();
+        let _ = writeln!(text, "complete -c pevghazo{letter} -l {} -d '{}'", option.name, fish_text(option.about));
+    }
+    text
+}

@@ -1,0 +1,83 @@
+//! The two ends of sessions, for the commands that both have: sealing and opening by the proved library.
+
+use pevghazo::{Envelope, Plain, Refusal};
+use pevghazo_store::Secret;
+
+use crate::arguments::Arguments;
+use crate::failure::Failure;
+use crate::state::{Group, Kept, Office, State};
+use crate::table::ENDS;
+
+/// An end of sessions: the office with its table, or a group.
+pub trait End: State {
+    /// The word that this end's commands start with.
+    const NAME: &'static str;
+    /// The group that a command is about.
+    fn group(&self, arguments: &Arguments) -> Result<u32, Failure>;
+    /// Whether an envelope for this group may be opened here.
+    fn takes(&self, group: u32) -> Result<(), Failure>;
+    /// Seals a message for a group into an envelope.
+    fn seal(&mut self, group: u32, metadata: &[u8], message: &[u8]) -> Result<Vec<u8>, Refusal>;
+    /// Opens an arrival.
+    fn open(&mut self, arrival: &Envelope) -> Result<Secret, Refusal>;
+    /// What is kept of a group's messages.
+    fn kept(&mut self, group: u32) -> Result<&mut Kept, Refusal>;
+    /// The index of a group's session.
+    fn index(&self, group: u32) -> u32;
+}
+
+impl End for Office {
+    const NAME: &'static str = ENDS[0];
+
+    fn group(&self, arguments: &Arguments) -> Result<u32, Failure> {
+        arguments.required_number("group")
+    }
+
+    fn takes(&self, _: u32) -> Result<(), Failure> {
+        Ok(())
+    }
+
+    fn seal(&mut self, group: u32, metadata: &[u8], message: &[u8]) -> Result<Vec<u8>, Refusal> {
+        Ok(self.table.seal(group, &Plain { metadata, message })?.envelope)
+    }
+
+    fn open(&mut self, arrival: &Envelope) -> Result<Secret, Refusal> {
+        Ok(Secret::from(self.table.unwrap(arrival.group, &arrival.arrival())?.message))
+    }
+
+    fn kept(&mut self, group: u32) -> Result<&mut Kept, Refusal> {
+        Office::kept(self, group)
+    }
+
+    fn index(&self, group: u32) -> u32 {
+        self.table.group(group).map_or(0, |group| group.index)
+    }
+}
+
+impl End for Group {
+    const NAME: &'static str = ENDS[1];
+
+    fn group(&self, _: &Arguments) -> Result<u32, Failure> {
+        Ok(self.group)
+    }
+
+    fn takes(&self, group: u32) -> Result<(), Failure> {
+        if group == self.group { Ok(()) } else { Err(Failure::OtherGroup { asked: group, own: self.group }) }
+    }
+
+    fn seal(&mut self, group: u32, metadata: &[u8], message: &[u8]) -> Result<Vec<u8>, Refusal> {
+        Ok(self.session.seal(group, &Plain { metadata, message })?.envelope)
+    }
+
+    fn open(&mut self, arrival: &Envelope) -> Result<Secret, Refusal> {
+        Ok(Secret::from(self.session.unwrap(&arrival.arrival())?.message))
+    }
+
+    fn kept(&mut self, _: u32) -> Result<&mut Kept, Refusal> {
+        Ok(&mut self.kept)
+    }
+
+    fn index(&self, _: u32) -> u32 {
+        self.session.index()
+    }
+}

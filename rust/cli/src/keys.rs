@@ -1,0 +1,98 @@
+//! The keys that were used in a state file, known by their fingerprints.
+//!
+//! A fingerprint is the first half of the tag that a fresh session under the key gives a fixed text: enough to tell keys apart, and not
+//! enough to pass for a message. It says nothing about the key to those who do not have it, but belongs to the state file, which
+//! is as secret as the key.
+
+use pevghazo::{Plain, Refusal, Session, TAG_LENGTH};
+
+use crate::failure::Failure;
+
+/// The bytes of a fingerprint.
+pub const FINGERPRINT: usize = TAG_LENGTH / 2;
+
+/// A key's fingerprint.
+pub type Fingerprint = [u8; FINGERPRINT];
+
+/// The fixed text, as metadata without a message.
+const TEXT: &[u8] = b"pevghazo: the fingerprint of a key";
+
+/// The fingerprint of a key; number 4 for one of a wrong length.
+fn fingerprint(key: &[u8]) -> Result<Fingerprint, Refusal> {
+    let (mut session, _) = Session::start(key)?;
+    let mut first = [0; FINGERPRINT];
+    let wrapped = session.wrap(&Plain { metadata: TEXT, message: &[] })?;
+    first.copy_from_slice(&wrapped.tag[..FINGERPRINT]);
+    Ok(first)
+}
+
+/// The keys that were used in a state file.
+#[derive(Debug, Default, PartialEq, Eq)]
+pub struct Keys(Vec<Fingerprint>);
+
+impl Keys {
+    /// The most keys of a state file.
+    pub const MOST: usize = 1 << 16;
+
+    /// Their fingerprints.
+    pub fn fingerprints(&self) -> &[Fingerprint] {
+        &self.0
+    }
+
+    /// How many they are.
+    pub fn count(&self) -> usize {
+        self.0.len()
+    }
+
+    /// Notes a key, and refuses one that was used before, unless that is wanted.
+    pub fn add(&mut self, key: &[u8], reuse: bool) -> Result<(), Failure> {
+        let fingerprint = fingerprint(key)?;
+        if self.0.contains(&fingerprint) {
+            return if reuse { Ok(()) } else { Err(Failure::UsedKey) };
+        }
+        if self.0.len() >= Keys::MOST {
+            return Err(Failure::NotNow(
+                "As many keys were used in this state file as it holds: begin a new one.".to_string(),
+            ));
+        }
+        self.0.push(fingerprint);
+        Ok(())
+    }
+}
+
+impl From<Vec<Fingerprint>> for Keys {
+    fn from(fingerprints: Vec<Fingerprint>) -> Keys {
+        Keys(fingerprints)
+    }
+}
+
+#[cfg(test)]
+mod tests {
+    use super::*;
+
+    #[test]
+    fn keys_are_told_apart() {
+        let keys = [&[7; 16][..], &[7; 17], &[7; 47], &[8; 16], b"another key of a group"];
+        for (place, key) in keys.iter().enumerate() {
+            assert_eq!(fingerprint(key).unwrap(), fingerprint(key).unwrap());
+            for other in &keys[..place] {
+                assert_ne!(fingerprint(key).unwrap(), fingerprint(other).unwrap());
+            }
+        }
+        assert!(fingerprint(&[7; 15]).is_err() && fingerprint(&[7; 48]).is_err());
+    }
+
+    #[test]
+    fn a_key_is_taken_once_unless_it_is_wanted() {
+        let mut keys = Keys::default();
+        keys.add(&[7; 16], false).unwrap();
+        keys.add(&[8; 16], true).unwrap();
+        for key in [[7; 16], [8; 16]] {
+            assert_eq!(keys.add(&key, false).unwrap_err().status(), 7);
+            keys.add(&key, true).unwrap();
+        }
+        assert_eq!(keys.count(), 2);
+        keys.0.resize(Keys::MOST, [0; FINGERPRINT]);
+        assert_eq!(keys.add(&[9; 16], false).unwrap_err().status(), 5);
+    }
+}

@@ -1,0 +1,359 @@
+//! The table of commands: their words, options and help texts. Arguments, help texts, shell completions and the commands
+//! themselves read it, and it reads none of them.
+
+use std::fmt;
+
+/// The two ends, whose commands start with these words.
+pub const ENDS: [&str; 2] = ["office", "group"];
+
+/// A command.
+#[derive(Debug)]
+pub struct Command {
+    /// Which one it is.
+    pub id: Id,
+    /// The end that it is for, or nothing.
+    pub end: &'static str,
+    /// Its name.
+    pub name: &'static str,
+    /// The words that may follow, or nothing.
+    pub words: &'static str,
+    /// What it does, in a few words.
+    pub about: &'static str,
+    /// Its options.
+    pub options: &'static [Opt],
+    /// More for the help text, or nothing.
+    pub more: &'static str,
+}
+
+/// Names for the commands in the program itself.
+#[derive(Clone, Copy, Debug, PartialEq, Eq)]
+#[allow(missing_docs)] // The table says what each is.
+pub enum Id {
+    OfficeCreate,
+    OfficeDay,
+    OfficeOpenGroup,
+    OfficeSeal,
+    OfficeOpen,
+    OfficeResend,
+    OfficeReread,
+    OfficeForget,
+    OfficeNearlyFull,
+    OfficeShow,
+    GroupStart,
+    GroupSeal,
+    GroupOpen,
+    GroupResend,
+    GroupReread,
+    GroupForget,
+    GroupShow,
+    Keygen,
+    Demo,
+    Help,
+}
+
+impl Command {
+    /// The words of the command: its end, if it has one, and its name.
+    pub fn path(&self) -> String {
+        let space = if self.end.is_empty() { "" } else { " " };
+        format!("{}{space}{}", self.end, self.name)
+    }
+
+    /// The command as it is typed.
+    pub fn title(&self) -> String {
+        format!("pevghazo {}", self.path())
+    }
+}
+
+/// The command of these words.
+pub fn find(end: &str, name: &str) -> Option<&'static Command> {
+    COMMANDS.iter().find(|command| command.end == end && command.name == name)
+}
+
+/// An option of a command.
+#[derive(Debug)]
+pub struct Opt {
+    /// Its name, without the dashes.
+    pub name: &'static str,
+    /// A letter that stands for it, with one dash.
+    pub letter: Option<char>,
+    /// What its value is.
+    pub value: Value,
+    /// Whether the command cannot do without it.
+    pub required: bool,
+    /// What it says, in a few words.
+    pub about: &'static str,
+}
+
+/// The value of an option. The text is what a help text calls it.
+#[derive(Clone, Copy, Debug, PartialEq, Eq)]
+pub enum Value {
+    /// It has none.
+    None,
+    /// A file's name.
+    File,
+    /// Some text.
+    Text(&'static str),
+    /// A number, of which those up to this one have a meaning.
+    Number(&'static str, u32),
+}
+
+impl fmt::Display for Value {
+    fn fmt(&self, f: &mut fmt::Formatter<'_>) -> fmt::Result {
+        match self {
+            Value::None => Ok(()),
+            Value::File => f.write_str("FILE"),
+            Value::Text(name) | Value::Number(name, _) => f.write_str(name),
+        }
+    }
+}
+
+impl fmt::Display for Opt {
+    /// As in a help text: `--name VALUE`.
+    fn fmt(&self, f: &mut fmt::Formatter<'_>) -> fmt::Result {
+        let space = if self.value == Value::None { "" } else { " " };
+        write!(f, "--{}{space}{}", self.name, self.value)
+    }
+}
+
+/// The options that every command line may have.
+pub const COMMON: [Opt; 2] = [
+    Opt { letter: Some('h'), ..flag("help", "print a help text") },
+    Opt { letter: Some('V'), ..flag("version", "print the version") },
+];
+
+/// The option of this name, of whichever command.
+pub fn option(name: &[u8]) -> Option<&'static Opt> {
+    let all = COMMANDS.iter().flat_map(|command| command.options).chain(&COMMON);
+    all.into_iter().find(|option| option.name.as_bytes() == name)
+}
+
+const fn required(name: &'static str, value: Value, about: &'static str) -> Opt {
+    Opt { name, letter: None, value, required: true, about }
+}
+
+const fn optional(name: &'static str, value: Value, about: &'static str) -> Opt {
+    Opt { name, letter: None, value, required: false, about }
+}
+
+const fn flag(name: &'static str, about: &'static str) -> Opt {
+    optional(name, Value::None, about)
+}
+
+const STATE: Opt = required("state", Value::File, "the state file");
+const WAIT: Opt = optional(
+    "wait",
+    Value::Number("SECONDS", u32::MAX),
+    "how long to wait for another program that uses the state file; 10",
+);
+const RESTORE: Opt = flag("restore", "take a state file that is an older copy");
+const GROUP: Opt = required("group", Value::Number("G", 31), "the group, 0 to 31");
+const KEY: Opt = required("key", Value::File, "the key: all bytes of this file, 16 to 47, closed to others");
+const REPLACE: Opt = flag("replace", "take the place of a session that is open");
+const REUSE_KEY: Opt = flag("reuse-key", "take a key that was used in this state file before");
+const MESSAGE: Opt = required("message", Value::File, "the message, at most 16384 bytes");
+const METADATA: Opt = optional("metadata", Value::File, "metadata, which travel in the clear, at most 16384 bytes");
+const METADATA_TEXT: Opt = optional("metadata-text", Value::Text("TEXT"), "metadata, here on the command line");
+const ENVELOPE_OUT: Opt = required("out", Value::File, "where the envelope goes");
+const IN: Opt = required("in", Value::File, "the file with the envelope");
+const FROM: Opt = optional("from", Value::Number("PLACE", u32::MAX), "where in the file the envelope starts; 0");
+const MESSAGE_OUT: Opt = required("out", Value::File, "where the message goes");
+const METADATA_OUT: Opt = optional("metadata-out", Value::File, "where the metadata go");
+const ENVELOPE: Opt = flag("envelope", "forget the kept envelope too");
+const ALLOWANCE: Opt = required("allowance", Value::Number("N", u32::MAX), "the most permutations of the day");
+const MARK: Opt = required("mark", Value::Number("N", u32::MAX), "the index above which a group counts as nearly full");
+const JSON: Opt = flag("json", "as JSON, for scripts");
+const KEY_OUT: Opt = required("out", Value::File, "where the key goes");
+
+const NEW_KEY: &str = "\
+Every session needs a key of its own: under a key that was used before, old envelopes would be accepted again. So such a
+key is refused; `--reuse-key` takes it all the same.";
+const SEALED_ONCE: &str =
+    "The envelope is handed out once the state is safe, and kept in it: `resend` hands it out again.";
+const OPENED_ONCE: &str = "\
+The message is kept in the state: `reread` hands it out again, `forget` removes it. A refused arrival leaves no output.";
+const FORGOTTEN: &str = "\
+What was not handed out is not forgotten. Without its envelope a session cannot go on, unless the other end has it.";
+
+/// All commands.
+pub const COMMANDS: &[Command] = &[
+    Command {
+        id: Id::OfficeCreate,
+        end: "office",
+        name: "create",
+        words: "",
+        about: "create the office's state file: 32 closed groups",
+        options: &[STATE, WAIT],
+        more: "",
+    },
+    Command {
+        id: Id::OfficeDay,
+        end: "office",
+        name: "day",
+        words: "",
+        about: "begin a day with an allowance",
+        options: &[STATE, ALLOWANCE, WAIT, RESTORE],
+        more: "The day's count starts at 0 again.",
+    },
+    Command {
+        id: Id::OfficeOpenGroup,
+        end: "office",
+        name: "open-group",
+        words: "",
+        about: "open a group from a key file",
+        options: &[STATE, GROUP, KEY, REPLACE, REUSE_KEY, WAIT, RESTORE],
+        more: NEW_KEY,
+    },
+    Command {
+        id: Id::OfficeSeal,
+        end: "office",
+        name: "seal",
+        words: "",
+        about: "seal a message for a group into an envelope",
+        options: &[STATE, GROUP, MESSAGE, METADATA, METADATA_TEXT, ENVELOPE_OUT, WAIT, RESTORE],
+        more: SEALED_ONCE,
+    },
+    Command {
+        id: Id::OfficeOpen,
+        end: "office",
+        name: "open",
+        words: "",
+        about: "open an envelope that arrived from a group",
+        options: &[STATE, IN, FROM, MESSAGE_OUT, METADATA_OUT, WAIT, RESTORE],
+        more: OPENED_ONCE,
+    },
+    Command {
+        id: Id::OfficeResend,
+        end: "office",
+        name: "resend",
+        words: "",
+        about: "hand out a group's last envelope again",
+        options: &[STATE, GROUP, ENVELOPE_OUT, WAIT, RESTORE],
+        more: "",
+    },
+    Command {
+        id: Id::OfficeReread,
+        end: "office",
+        name: "reread",
+        words: "",
+        about: "hand out a group's last message again",
+        options: &[STATE, GROUP, MESSAGE_OUT, METADATA_OUT, WAIT, RESTORE],
+        more: "",
+    },
+    Command {
+        id: Id::OfficeForget,
+        end: "office",
+        name: "forget",
+        words: "",
+        about: "remove a group's last message from the state file",
+        options: &[STATE, GROUP, ENVELOPE, WAIT, RESTORE],
+        more: FORGOTTEN,
+    },
+    Command {
+        id: Id::OfficeNearlyFull,
+        end: "office",
+        name: "nearly-full",
+        words: "",
+        about: "name a group whose index is above a mark",
+        options: &[STATE, MARK, WAIT, RESTORE],
+        more: "Prints the group's number, or `none` if there is no such group. An index may reach 1048576.",
+    },
+    Command {
+        id: Id::OfficeShow,
+        end: "office",
+        name: "show",
+        words: "",
+        about: "show the day and the open groups",
+        options: &[STATE, JSON, WAIT, RESTORE],
+        more: "",
+    },
+    Command {
+        id: Id::GroupStart,
+        end: "group",
+        name: "start",
+        words: "",
+        about: "start the group's session and its state file",
+        options: &[STATE, GROUP, KEY, REPLACE, REUSE_KEY, WAIT, RESTORE],
+        more: NEW_KEY,
+    },
+    Command {
+        id: Id::GroupSeal,
+        end: "group",
+        name: "seal",
+        words: "",
+        about: "seal a message for the office into an envelope",
+        options: &[STATE, MESSAGE, METADATA, METADATA_TEXT, ENVELOPE_OUT, WAIT, RESTORE],
+        more: SEALED_ONCE,
+    },
+    Command {
+        id: Id::GroupOpen,
+        end: "group",
+        name: "open",
+        words: "",
+        about: "open an envelope that arrived from the office",
+        options: &[STATE, IN, FROM, MESSAGE_OUT, METADATA_OUT, WAIT, RESTORE],
+        more: OPENED_ONCE,
+    },
+    Command {
+        id: Id::GroupResend,
+        end: "group",
+        name: "resend",
+        words: "",
+        about: "hand out the last envelope again",
+        options: &[STATE, ENVELOPE_OUT, WAIT, RESTORE],
+        more: "",
+    },
+    Command {
+        id: Id::GroupReread,
+        end: "group",
+        name: "reread",
+        words: "",
+        about: "hand out the last message again",
+        options: &[STATE, MESSAGE_OUT, METADATA_OUT, WAIT, RESTORE],
+        more: "",
+    },
+    Command {
+        id: Id::GroupForget,
+        end: "group",
+        name: "forget",
+        words: "",
+        about: "remove the last message from the state file",
+        options: &[STATE, ENVELOPE, WAIT, RESTORE],
+        more: FORGOTTEN,
+    },
+    Command {
+        id: Id::GroupShow,
+        end: "group",
+        name: "show",
+        words: "",
+        about: "show the session",
+        options: &[STATE, JSON, WAIT, RESTORE],
+        more: "",
+    },
+    Command {
+        id: Id::Keygen,
+        end: "",
+        name: "keygen",
+        words: "",
+        about: "make a new key of 32 random bytes",
+        options: &[KEY_OUT],
+        more: "The file is closed to others. It must reach the other end by a way that is safe.",
+    },
+    Command {
+        id: Id::Demo,
+        end: "",
+        name: "demo",
+        words: "",
+        about: "play a season in a temporary folder",
+        options: &[],
+        more: "",
+    },
+    Command {
+        id: Id::Help,
+        end: "",
+        name: "help",
+        words: "[COMMAND ..]",
+        about: "print the help text of a command, or the list of commands",
+        options: &[],
+        more: "",
+    },
+];

@@ -1,0 +1,53 @@
+//! The completions for shells: the committed files are what the table of commands gives, and bash's do what they say.
+
+mod common;
+
+use std::path::Path;
+use std::process::Command;
+
+use common::{Folder, PROGRAM};
+
+const FOLDER: &str = concat!(env!("CARGO_MANIFEST_DIR"), "/../../completions");
+const FILES: [(&str, &str); 3] = [("bash", "pevghazo.bash"), ("zsh", "_pevghazo"), ("fish", "pevghazo.fish")];
+
+#[test]
+fn the_committed_files_are_those_of_the_table() {
+    let folder = Folder::new();
+    for (shell, file) in FILES {
+        let made = folder.done(&format!("completions {shell}"));
+        let path = Path::new(FOLDER).join(file);
+        let committed = std::fs::read_to_string(&path).unwrap_or_default();
+        assert!(committed == made, "{file} differs: `pevghazo completions {shell} > completions/{file}` writes it");
+    }
+    folder.fails(2, "completions csh");
+}
+
+/// What bash offers after these words, the last of which is being typed.
+fn offered(folder: &Folder, words: &[&str]) -> Vec<String> {
+    let quoted: Vec<String> = words.iter().map(|word| format!("'{word}'")).collect();
+    let script = format!(
+        "source {FOLDER}/pevghazo.bash; COMP_WORDS=(pevghazo {}); COMP_CWORD={}; compopt() {{ :; }}; _pevghazo; printf '%s\\n' \"${{COMPREPLY[@]}}\"",
+        quoted.join(" "),
+        words.len()
+    );
+    let output = Command::new("bash").args(["--norc", "-c", &script]).current_dir(&folder.0).output().unwrap();
+    assert!(output.status.success() && output.stderr.is_empty(), "{}", String::from_utf8_lossy(&output.stderr));
+    let text = String::from_utf8(output.stdout).unwrap();
+    text.lines().filter(|line| !line.is_empty()).map(str::to_string).collect()
+}
+
+#[test]
+fn bash_offers_words_options_and_files() {
+    let folder = Folder::new();
+    folder.write("office.state", b"");
+    assert!(Path::new(PROGRAM).exists());
+    assert_eq!(offered(&folder, &["of"]), ["office"]);
+    assert_eq!(offered(&folder, &["office", "op"]), ["open-group", "open"]);
+    assert_eq!(offered(&folder, &["group", "s"]), ["start", "seal", "show"]);
+    assert_eq!(offered(&folder, &["office", "seal", "--m"]), ["--message", "--metadata", "--metadata-text"]);
+    assert_eq!(offered(&folder, &["office", "--state", "office.state", "da"]), ["day"]);
+    assert_eq!(offered(&folder, &["office", "day", "--state", "of"]), ["office.state"]);
+    assert_eq!(offered(&folder, &["office", "day", "--allowance", ""]), [""; 0]);
+    assert!(offered(&folder, &["group", "--state", "office", "seal", "--o"]).contains(&"--out".to_string()));
+    assert_eq!(offered(&folder, &["keygen", "--o"]), ["--out"]);
+}
