@@ -104,8 +104,7 @@ pub fn start_day(allowance: u32) -> Day {
 /// Opens a group. Checks 3, 4 and 10; a refusal leaves the old session.
 pub fn open_group(table: &mut [Record], group: u32, day: Day, key: &[u8]) -> GroupAnswer {
     // SAFETY: see the module's head.
-    let answer =
-        unsafe { pevghazo_open_group(table.as_mut_ptr(), table.len(), group, day, key.as_ptr(), key.len()) };
+    let answer = unsafe { pevghazo_open_group(table.as_mut_ptr(), table.len(), group, day, key.as_ptr(), key.len()) };
     clear_stack();
     answer
 }
