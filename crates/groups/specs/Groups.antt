@@ -1,5 +1,5 @@
 -- A call for one group of the office's table, and the day's count (document 01, "The row", and numbers 4 and 10 of "What stops a call"; its
--- row is the table here): for the group's own session. The table's own check, number 3, is the table's. Assumes nothing.
+-- row is the table here): for the group's own session. Number 3, which looks at the whole table, is the office's. Assumes nothing.
 use mathlib.Core.Bool.{Bool, not, cond}
 use mathlib.Core.List.{List}
 use Prim.Native.Nat.{ℕ, zero, suc, _+_}

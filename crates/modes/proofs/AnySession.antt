@@ -37,7 +37,7 @@ module _ (m : Mode) {S : Type 0} (d : HistoryRep S) (s : SessionState S) (i : Ca
         accepted = z .1;
         count = count (checkNumber m d s i);
         refused = refused (checkNumber m d s i);
-        closed = λ h. ap (λ (q : Bool). ifNoCheck (checkIf q) s i done) h;
+        not-open = λ h. ap (λ (q : Bool). ifNoCheck (checkIf q) s i done) h;
       }
     where
       done : Outcome S
@@ -71,7 +71,7 @@ module _ (m : Mode) {S : Type 0} (d : HistoryRep S) (s : SessionState S) (i : Ca
             let w = z .1 .0 h in
             wrong (met-none (NotOpen m d s i) (m .parameters .tagLength) (indexAfter m d s i) i (checkNumber m d s i) check-first (w .0))
             (equalTags-is (i .tag) found ∙ equalTags-false (i .tag) found (w .1));
-        closed = λ h. ap (λ (q : Bool). ifNoCheck (checkIf q) s i (compareTag m d s i (unwrapSteps m d s i))) h;
+        not-open = λ h. ap (λ (q : Bool). ifNoCheck (checkIf q) s i (compareTag m d s i (unwrapSteps m d s i))) h;
         tag = tag (checkNumber m d s i) same;
       }
     where

@@ -1,31 +1,31 @@
 -- Demand 3: for any mode that follows its paper, and for SANSE with its two starts. Assumes nothing.
 use mathlib.Core.List.{List, [], _∷_, map}
-use mathlib.Core.Path.{_≡_, refl, sym, ap, _∙_, subst}
+use mathlib.Core.Path.{_≡_, refl, sym, ap, ap₂, _∙_, subst}
 use Prim.Native.Nat.{ℕ, _≤_}
 use lib.ListN.{length}
 use Rattle.deck.specs.declared.DeckState.{DeckState}
 use Rattle.deck.specs.Strings.{Str}
-use Rattle.modes.specs.Call.{Call, wrap, unwrap, sideOf}
+use Rattle.modes.specs.Call.{Side, office, group, Call, wrap, unwrap, sideOf}
 use Rattle.modes.specs.Mode.{HistoryRep, Mode, incremental, sanse}
 use Rattle.modes.specs.Rules.{Outcome, Opening, startAt}
 use Rattle.modes.specs.Paper.{sanseOpens}
-use Rattle.modes.specs.Ledger.{PaperMode, Answer, Entry}
+use Rattle.modes.specs.Ledger.{PaperMode, LedgerAnswer, Entry}
 use Rattle.modes.specs.OneCall.{sessionOf}
 use Rattle.modes.specs.Start.{StartAccepted}
-use Rattle.modes.specs.TwoEnds.{Ends, put, outcome, Runs, Ledgers, ledgerAt, nextLedgers, entries, finishLedgers, freshLedgers}
+use Rattle.modes.specs.TwoEnds.{Ends, at, put, outcome, Runs, Ledgers, ledgerAt, nextLedgers, entries, finishLedgers, freshLedgers}
 use Rattle.modes.specs.Delivery.{nothing, Returned}
-use Rattle.modes.specs.Demand3.{outcomeOf, answerOf, ByChecks, ByLedgers, Demand3}
+use Rattle.modes.specs.Demand3.{sessionGiven, outcomeOf, answerOf, ByChecks, ByLedgers, Demand3}
 use Rattle.modes.proofs.Modes.{Follows, sanse-follows}
 use Rattle.modes.proofs.Ledgers.{endsOf, runs-are}
 use Rattle.modes.proofs.Entries.{paper-laws}
 use Rattle.modes.proofs.Delivery.{returned, level}
-use Rattle.modes.proofs.Exactly.{wrap-exactly, unwrap-exactly}
+use Rattle.modes.proofs.Exactly.{wrap-exactly, unwrap-exactly, wrap-decided, unwrap-decided}
 use Rattle.modes.proofs.Start.{start-accepted}
 
 -- what the outcomes show beside the sessions are the ledgers' answers
 answers-are : (es : List Entry) → map answerOf (map outcomeOf es) ≡ map (λ (e : Entry). e .answer) es
 answers-are [] = refl
-answers-are (e ∷ es) = ap (λ (l : List Answer). e .answer ∷ l) (answers-are es)
+answers-are (e ∷ es) = ap (λ (l : List LedgerAnswer). e .answer ∷ l) (answers-are es)
 
 -- each call gets its number exactly by the checks, as the ledger at its end judges it
 by-checks : (m : PaperMode) (cs : List Call) (p : Ledgers) → ByChecks m cs p (map outcomeOf (entries m cs p))
@@ -33,6 +33,20 @@ unfolding entries
 by-checks m [] p = ByChecks.none
 by-checks m (wrap x i ∷ cs) p = ByChecks.wraps (wrap-exactly m (ledgerAt x p) i) (by-checks m cs (nextLedgers m (wrap x i) p))
 by-checks m (unwrap x i ∷ cs) p = ByChecks.unwraps (unwrap-exactly m (ledgerAt x p) i) (by-checks m cs (nextLedgers m (unwrap x i) p))
+
+-- and they leave no number open: each is the ledger's
+pub checks-decide : {m : PaperMode} {cs : List Call} {p : Ledgers} {os : List (Outcome DeckState)} → ByChecks m cs p os
+    → map (λ (o : Outcome DeckState). o .number) os ≡ map (λ (e : Entry). e .answer .number) (entries m cs p)
+unfolding entries
+checks-decide ByChecks.none = refl
+checks-decide {m} (ByChecks.wraps {x = x} {i = i} {p = p} {o = o} w r) =
+    ap₂ {C = List ℕ} (λ (n : ℕ) (ns : List ℕ). n ∷ ns) (wrap-decided m (ledgerAt x p) i (o .number) w) (checks-decide r)
+checks-decide {m} (ByChecks.unwraps {x = x} {i = i} {p = p} {o = o} w r) =
+    ap₂ {C = List ℕ} (λ (n : ℕ) (ns : List ℕ). n ∷ ns) (unwrap-decided m (ledgerAt x p) i (o .number) w) (checks-decide r)
+
+at-ends : (x : Side) (p : Ledgers) → at x (endsOf p) ≡ sessionGiven (ledgerAt x p)
+at-ends office p = refl
+at-ends group p = refl
 
 -- any mode that follows its paper, from the sessions of the history that it opens with
 pub by-ledgers : {r : Mode} {m : PaperMode} → Follows r m
@@ -42,6 +56,7 @@ by-ledgers {r} {m} f key opening cs os q run =
     record {
       checks = subst (ByChecks m cs fresh) (sym (z .0)) (by-checks m cs fresh);
       same = z .0;
+      finish = λ x. ap (at x) (z .1) ∙ at-ends x (finishLedgers m cs fresh);
       back = λ d.
           subst (Returned nothing cs) (sym (ap (map answerOf) (z .0) ∙ answers-are (entries m cs fresh))) (returned (paper-laws f) d refl);
       level = λ d.
@@ -87,3 +102,8 @@ demand-3 key h g first second e e′ cs os q r =
 
     from : _≡_ {A = Ends DeckState} (record { office = first .session; group = second .session }) (endsOf (freshLedgers key sanseOpens))
     from = λ i. record { office = a .session i; group = b .session i }
+
+-- the claim leaves nothing open: of one list under one key it is true of one list of outcomes and of one session at each end
+pub demand-3-decides : {key : List ℕ} {cs : List Call} {first second first′ second′ : Opening} {os os′ : List (Outcome DeckState)} {q q′ : Ends DeckState}
+    → Demand3 key cs first second os q → Demand3 key cs first′ second′ os′ q′ → (os ≡ os′) × ((x : Side) → at x q ≡ at x q′)
+demand-3-decides a b = (a .calls .same ∙ sym (b .calls .same), λ x. a .calls .finish x ∙ sym (b .calls .finish x))

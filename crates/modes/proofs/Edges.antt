@@ -1,14 +1,14 @@
 -- Document 01's edges hold, and the bytes after A, M and T at every length. Assumes nothing.
 use mathlib.Core.Bool.{Bool, true, false}
-use mathlib.Core.List.{List, [], _∷_, _++_}
+use mathlib.Core.List.{List, [], _∷_, _++_, map}
 use mathlib.Core.Path.{_≡_, refl, sym, ap, ap₂, _∙_}
 use Prim.Native.Nat.{ℕ, _+_, _*_, _/_, _%_, _<_, _≤_}
 use native.Mathlib.Omega.{arith}
-use lib.ListN.{length, getD}
+use lib.ListN.{length, getD, set}
 use lib.Seq.{getD-append-seam}
 use Rattle.word.specs.Word.{bit, ofBits}
 use Rattle.word.proofs.Bit.{word-ext}
-use Rattle.rolling.specs.Edges.{Hold}
+use Rattle.rolling.specs.Edges.{Row, Hold, only, s₀, s₁₁}
 use Rattle.state.specs.State.{lanes}
 use Rattle.rolling.specs.Rolling.{rollIn, rollOut}
 use Rattle.deck.specs.Strings.{bitsOf, padded, framed}
@@ -22,6 +22,12 @@ use Rattle.modes.specs.Edges.{edgeRows, paddedByte, BytesAfter}
 pub edges-hold : Hold edgeRows
 unfolding sanseCount growth closingByte startAt rollIn rollOut lanes ofBits bit
 edges-hold = refl
+
+-- the table has all of document 01's rows: what they say, in its order, then a start's numbers and one count more, and the rollings
+pub edges-say : map (λ (r : Row). r .says) edgeRows
+    ≡ (1 ∷ 1 ∷ 2 ∷ 3 ∷ []) ∷ (3 ∷ []) ∷ (6 ∷ []) ∷ (8 ∷ []) ∷ (1030 ∷ []) ∷ (2 ∷ []) ∷ (5 ∷ []) ∷ (4 ∷ 6 ∷ []) ∷ (10 ∷ 14 ∷ []) ∷ (11 ∷ 15 ∷ [])
+    ∷ (4 ∷ 0 ∷ 0 ∷ 4 ∷ []) ∷ (8 ∷ []) ∷ only s₁₁ 0x2001 ∷ set (only s₀ 0x8000_0000) s₁₁ 4 ∷ only s₁₁ 7 ∷ []
+edges-say = refl
 
 -- the byte after the last of a string's bytes is the closing byte of its frame bits
 closing-at : (x : List ℕ) (f : List Bool) → length f ≤ 7 → paddedByte (framed x f) (length x) ≡ closingByte f

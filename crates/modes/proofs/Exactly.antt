@@ -1,5 +1,5 @@
--- Each number is given if and only if its condition holds and no earlier one does: where the conditions are any (`First`), at a ledger, and
--- of a start. Assumes nothing.
+-- Each number is given if and only if its condition holds and no earlier one does: where the conditions are any (`First`), and at a
+-- ledger; and the claims leave no number open. Assumes nothing.
 use mathlib.Core.Bool.{Bool, true, false, not, _||_, cond, true≢false}
 use mathlib.Core.List.{List}
 use mathlib.Core.Logic.{_↔_, _≢_, _⊎_, inl, inr}
@@ -252,3 +252,33 @@ module _ (m : PaperMode) (l : Ledger) (i : CallInput) where
 
       differ : equalTags (i .tag) (r .tag) ≡ false → i .tag ≢ r .tag
       differ e h = true≢false (sym (equalTags-refl (i .tag)) ∙ ap (equalTags (i .tag)) h ∙ e)
+
+-- ---- the claims leave no number open
+
+module _ (m : PaperMode) (l : Ledger) (i : CallInput) (n : ℕ) where
+  pub wrap-decided : WrapExactly m l i n → n ≡ ledgerWrap m l i .answer .number
+  wrap-decided x = go (checkBefore11 m (wrapFinds m l i) i) (ledger-first m (wrapFinds m l i) i) ∙ sym (wrap-number m l i)
+    where
+      go : (k : ℕ) → First ⊥ (m .tagLength) (indexOf (wrapFinds m l i .history)) i k → n ≡ orElse k 0
+      go k (is5 z) = absurd z
+      go k (is6 o a) = x .refused .six .1 (o, a)
+      go k (is7 o a b) = x .refused .seven .1 (o, a, b)
+      go k (is8 o a b c) = x .refused .eight .1 (o, a, b, c)
+      go k (is9 o a b c d) = x .refused .nine .1 (o, a, b, c, d)
+      go k (is0 c) = x .accepted .1 c
+
+  pub unwrap-decided : UnwrapExactly m l i n → n ≡ ledgerUnwrap m l i .answer .number
+  unwrap-decided x =
+      go (checkBefore11 m (unwrapFinds m l i) i) (equalTags (i .tag) (unwrapFinds m l i .tag)) refl (ledger-first m (unwrapFinds m l i) i) ∙ sym (unwrap-number m l i)
+    where
+      found : List ℕ
+      found = unwrapFinds m l i .tag
+
+      go : (k : ℕ) (q : Bool) → equalTags (i .tag) found ≡ q → First ⊥ (m .tagLength) (indexOf (unwrapFinds m l i .history)) i k → n ≡ orElse k (cond q 0 11)
+      go k q e (is5 z) = absurd z
+      go k q e (is6 o a) = x .refused .six .1 (o, a)
+      go k q e (is7 o a b) = x .refused .seven .1 (o, a, b)
+      go k q e (is8 o a b c) = x .refused .eight .1 (o, a, b, c)
+      go k q e (is9 o a b c d) = x .refused .nine .1 (o, a, b, c, d)
+      go k true e (is0 c) = x .accepted .1 (c, equalTags-true (i .tag) found e)
+      go k false e (is0 c) = x .eleven .1 (c, λ h. true≢false (sym (equalTags-refl (i .tag)) ∙ ap (equalTags (i .tag)) h ∙ e))

@@ -2,7 +2,7 @@
 -- messages both ways, and one in which a message on its way is disturbed, are among those in which each message is delivered. Assumes
 -- nothing.
 use mathlib.Core.Bool.{Bool, true, false, cond}
-use mathlib.Core.List.{List, _∷_}
+use mathlib.Core.List.{List, [], _∷_}
 use mathlib.Core.Logic.{_≢_, _⊎_, inl, inr}
 use mathlib.Core.Path.{_≡_, refl, sym, ap, _∙_, subst}
 use Prim.Native.Nat.{ℕ, zero, suc, _+_, _≤_}
@@ -12,7 +12,7 @@ use Rattle.deck.specs.declared.DeckState.{DeckState}
 use Rattle.deck.specs.Strings.{Str}
 use Rattle.deck.specs.Deck.{indexOf}
 use Rattle.modes.specs.Call.{CallInput, Side, office, group, Call, wrap, unwrap}
-use Rattle.modes.specs.Paper.{PaperResult, sanseOpens}
+use Rattle.modes.specs.Paper.{PaperResult, sanseOpens, sanseUnwrap}
 use Rattle.modes.specs.Mode.{Mode, incremental, sanse}
 use Rattle.modes.specs.Rules.{SessionState, Outcome, growth, newSession, wrapAt}
 use Rattle.modes.specs.Ledger.{PaperMode, sansePaper, Ledger, equalTags, wrapFinds, unwrapFinds, checkBefore11, onCheck, accepts, refuses11, ledgerWrap, ledgerUnwrap, freshLedger}
@@ -20,7 +20,7 @@ use Rattle.modes.specs.Exactly.{NoneBefore11}
 use Rattle.modes.specs.OneCall.{sessionOf}
 use Rattle.modes.specs.TwoEnds.{Ledgers, ledgerAt, finishLedgers, freshLedgers}
 use Rattle.modes.specs.Delivery.{delivery, sentBy, InFlight, Delivers}
-use Rattle.modes.specs.Fresh.{InLimits, FreshAccepts, noTag, afterThere, BothWays, Disturbed}
+use Rattle.modes.specs.Fresh.{InLimits, FreshAccepts, noTag, afterThere, BothWays, Disturbed, otherTag, repeated, reflected, Replays}
 use Rattle.modes.proofs.Sessions.{growth-most}
 use Rattle.modes.proofs.Modes.{Follows, sanse-follows}
 use Rattle.modes.proofs.Ledgers.{wrap-by-ledger}
@@ -136,9 +136,9 @@ module _ {r : Mode} {m : PaperMode} (f : Follows r m) (key : List ℕ) (opening 
             )
 
     -- a message on its way, disturbed
-    pub disturbed-by : (i j : CallInput) (out out′ t : List ℕ) → Disturbed m key opening i j out out′ t
+    pub disturbed-by : (i j : CallInput) (out out′ : List ℕ) (x y z : CallInput) → Disturbed m key opening i j out out′ x y z
     unfolding finishLedgers
-    disturbed-by i j out out′ t w v a b wrong repeat reflection =
+    disturbed-by i j out out′ x y z w v a b wrong repeat reflection =
         Delivers.wrap-accepted (fresh-ledger i w)
         (Delivers.other-arrival (inl (no-tag-arrival fresh))
         (Delivers.delivered a
@@ -148,7 +148,11 @@ module _ {r : Mode} {m : PaperMode} (f : Follows r m) (key : List ℕ) (opening 
         (past-arrival group _ (inr wrong)
         (past-arrival group _ (inr repeat)
         (past-arrival office _ (inr reflection)
-        (Delivers.delivered b Delivers.finished)))))))))
+        (Delivers.delivered b
+        (past-wrap group noTag (no-tag-wrap _)
+        (past-wrap office noTag (no-tag-wrap _)
+        (past-arrival group noTag (inl (no-tag-arrival _))
+        (past-arrival office noTag (inl (no-tag-arrival _)) Delivers.finished)))))))))))))
       where
         fresh : Ledger
         fresh = freshLedger key opening
@@ -168,5 +172,19 @@ fresh-accepts key = fresh-by sanse-follows key sanseOpens sanse-room (newSession
 pub both-ways : (key : List ℕ) (i j : CallInput) (out out′ : List ℕ) → BothWays sansePaper key sanseOpens i j out out′
 both-ways key = both-by sanse-follows key sanseOpens sanse-room (omega arith)
 
-pub disturbed-delivers : (key : List ℕ) (i j : CallInput) (out out′ t : List ℕ) → Disturbed sansePaper key sanseOpens i j out out′ t
+pub disturbed-delivers : (key : List ℕ) (i j : CallInput) (out out′ : List ℕ) (a b c : CallInput) → Disturbed sansePaper key sanseOpens i j out out′ a b c
 disturbed-delivers key = disturbed-by sanse-follows key sanseOpens sanse-room (omega arith)
+
+-- as by another tag, a repeat and a reflection
+pub replays-deliver : (key : List ℕ) (i j : CallInput) (out out′ t : List ℕ) → Replays sansePaper key sanseOpens i j out out′ t
+replays-deliver key i j out out′ t =
+    disturbed-delivers key i j out out′
+    (otherTag sansePaper key sanseOpens i j out out′ t) (repeated sansePaper key sanseOpens i j out out′ t) (reflected sansePaper key sanseOpens i j out out′ t)
+
+-- arrivals whose tags differ there are: without a text, the tag that is found goes by the ledger and the metadata alone, so every other tag
+-- differs
+pub some-differ : (l : Ledger) (z : CallInput) → z .text ≡ []
+    → z .tag ≢ unwrapFinds sansePaper l (record { metadata = z .metadata; text = []; out = []; tag = [] }) .tag
+    → z .tag ≢ unwrapFinds sansePaper l z .tag
+unfolding sanseUnwrap
+some-differ l z e d h = d (h ∙ ap (λ (x : List ℕ). sansePaper .unwraps (l .key) (l .history) (l .toggle) (z .metadata) x (z .tag) .tag) e)

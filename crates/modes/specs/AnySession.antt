@@ -43,7 +43,7 @@ module _ (m : Mode) {S : Type 0} (d : HistoryRep S) (s : SessionState S) (i : Ca
     pub count : o .number ≡ 0 → o .count ≡ countDue
     pub refused : o .number ≢ 0 → o ≡ unaltered (o .number)
     -- a session that is not open: 5
-    pub closed : NotOpen → o ≡ unaltered 5
+    pub not-open : NotOpen → o ≡ unaltered 5
 
   -- and of an unwrap
   pub record AnyUnwrap (o : Outcome S) : Type 0 where
@@ -62,6 +62,6 @@ module _ (m : Mode) {S : Type 0} (d : HistoryRep S) (s : SessionState S) (i : Ca
           out = replicate (length (i .text)) 0 ++ drop (length (i .text)) (i .out);
           tag = i .tag;
         }
-    pub closed : NotOpen → o ≡ unaltered 5
+    pub not-open : NotOpen → o ≡ unaltered 5
     -- the tag handed in is read only
     pub tag : o .tag ≡ i .tag

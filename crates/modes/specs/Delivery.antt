@@ -6,7 +6,7 @@ use mathlib.Core.Path.{_≡_}
 use Prim.Native.Nat.{ℕ, _≤_}
 use lib.ListN.{length, take, drop}
 use Rattle.modes.specs.Call.{CallInput, Side, other, Call, wrap, unwrap}
-use Rattle.modes.specs.Ledger.{PaperMode, Answer, wrapFinds, unwrapFinds, checkBefore11, ledgerWrap}
+use Rattle.modes.specs.Ledger.{PaperMode, LedgerAnswer, wrapFinds, unwrapFinds, checkBefore11, ledgerWrap}
 use Rattle.modes.specs.TwoEnds.{Ledgers, ledgerAt, nextLedgers, answers}
 
 -- ---- messages on their way
@@ -60,20 +60,20 @@ pub data Delivers (m : PaperMode) : InFlight → List Call → Ledgers → Type 
 -- `Returned t cs rs`: with t on its way, the calls cs had the answers rs, and in them each message comes back, before the next accepted
 -- wrap or the end of the list: the unwrap is accepted and puts exactly the message's bytes at the start of its output buffer. Each other
 -- arrival is refused. What a wrap gave is read from its answer
-pub data Returned : InFlight → List Call → List Answer → Type 0 where
+pub data Returned : InFlight → List Call → List LedgerAnswer → Type 0 where
   finished : Returned nothing [] []
-  wrap-refused : {t : InFlight} {x : Side} {i : CallInput} {cs : List Call} {a : Answer} {rs : List Answer}
+  wrap-refused : {t : InFlight} {x : Side} {i : CallInput} {cs : List Call} {a : LedgerAnswer} {rs : List LedgerAnswer}
       → a .number ≢ 0 → Returned t cs rs → Returned t (wrap x i ∷ cs) (a ∷ rs)
-  wrap-accepted : {x : Side} {i : CallInput} {cs : List Call} {a : Answer} {rs : List Answer}
+  wrap-accepted : {x : Side} {i : CallInput} {cs : List Call} {a : LedgerAnswer} {rs : List LedgerAnswer}
       → a .number ≡ 0
       → Returned (sent (record { from = x; input = i; cryptogram = take (length (i .text)) (a .out); tag = a .tag })) cs rs
       → Returned nothing (wrap x i ∷ cs) (a ∷ rs)
-  comes-back : {w : Sent} {out : List ℕ} {cs : List Call} {a : Answer} {rs : List Answer}
+  comes-back : {w : Sent} {out : List ℕ} {cs : List Call} {a : LedgerAnswer} {rs : List LedgerAnswer}
       → a .number ≡ 0
       → a .out ≡ w .input .text ++ drop (length (w .input .text)) out
       → Returned nothing cs rs
       → Returned (sent w) (unwrap (other (w .from)) (delivery w out) ∷ cs) (a ∷ rs)
-  arrival-refused : {t : InFlight} {x : Side} {i : CallInput} {cs : List Call} {a : Answer} {rs : List Answer}
+  arrival-refused : {t : InFlight} {x : Side} {i : CallInput} {cs : List Call} {a : LedgerAnswer} {rs : List LedgerAnswer}
       → a .number ≢ 0 → Returned t cs rs → Returned t (unwrap x i ∷ cs) (a ∷ rs)
 
 -- ---- no list is left out

@@ -6,16 +6,20 @@ use Prim.Native.Nat.{ℕ}
 use Rattle.deck.specs.declared.DeckState.{DeckState}
 use Rattle.deck.specs.Strings.{Str}
 use Rattle.modes.specs.Call.{CallInput, Side, Call, wrap, unwrap}
-use Rattle.modes.specs.Rules.{Outcome, Opening}
+use Rattle.modes.specs.Rules.{SessionState, Outcome, Opening}
 use Rattle.modes.specs.Paper.{sanseOpens}
-use Rattle.modes.specs.Ledger.{PaperMode, sansePaper, Answer, Entry}
+use Rattle.modes.specs.Ledger.{PaperMode, sansePaper, Ledger, LedgerAnswer, Entry}
 use Rattle.modes.specs.Exactly.{WrapExactly, UnwrapExactly}
 use Rattle.modes.specs.OneCall.{sessionOf}
 use Rattle.modes.specs.Start.{StartAccepted}
-use Rattle.modes.specs.TwoEnds.{Ends, Ledgers, ledgerAt, nextLedgers, entries, freshLedgers}
+use Rattle.modes.specs.TwoEnds.{Ends, at, Ledgers, ledgerAt, nextLedgers, entries, finishLedgers, freshLedgers}
 use Rattle.modes.specs.Delivery.{nothing, Delivers, Returned}
 
 -- ---- the words
+
+-- the session that a ledger gives: it is open and has the ledger's e and index, x as accumulator and k rolled I times as mask
+abbrev pub sessionGiven : Ledger → SessionState DeckState
+sessionGiven l = sessionOf (l .key) (l .history) (l .toggle)
 
 -- the outcome that a call of the program has where the ledger has this entry: the ledger's answer, and a session that is open and has the
 -- ledger's e and index, x as accumulator and k rolled I times as mask
@@ -30,7 +34,7 @@ outcomeOf e =
     }
 
 -- what a call gave beside the session
-abbrev pub answerOf : Outcome DeckState → Answer
+abbrev pub answerOf : Outcome DeckState → LedgerAnswer
 answerOf o = record { number = o .number; count = o .count; out = o .out; tag = o .tag }
 
 -- `ByChecks m cs p os`: each of the calls cs, in its place in the list from the ledgers p on, got in os the number of the first check that it
@@ -55,6 +59,8 @@ pub record ByLedgers (m : PaperMode) (key : List ℕ) (opening : List Str) (cs :
   pub checks : ByChecks m cs (freshLedgers key opening) os
   -- each call gives what the ledger at its end says, and leaves the session that the ledger's history then gives
   pub same : os ≡ map outcomeOf (entries m cs (freshLedgers key opening))
+  -- each end finishes with the session that its ledger's history then gives
+  pub finish : (x : Side) → at x q ≡ sessionGiven (ledgerAt x (finishLedgers m cs (freshLedgers key opening)))
   -- where each message is delivered, each comes back, and each other arrival is refused
   pub back : Delivers m nothing cs (freshLedgers key opening) → Returned nothing cs (map answerOf os)
   -- and both ends finish with the same session

@@ -1,7 +1,7 @@
 -- What demand 3 speaks of is there (document 01, "What must fall through it?"): before the first call just the wraps within the limits are
 -- accepted; there are lists with messages both ways in which each is delivered; and lists in which a message is delivered though, while it is
--- on its way, wraps are refused and a wrong tag, a repeat and a reflection arrive. For any mode, from any history that it opens with. Assumes
--- nothing.
+-- on its way, wraps are refused and a wrong tag, a repeat and a reflection arrive. For any mode with tags, from any history that leaves room for
+-- these calls. Assumes nothing.
 use mathlib.Core.List.{List, [], _∷_, _++_}
 use mathlib.Core.Logic.{_↔_, _≢_}
 use mathlib.Core.Path.{_≡_}
@@ -55,46 +55,61 @@ module _ (m : PaperMode) (key : List ℕ) (opening : List Str) where
 
 -- ---- a message on its way, disturbed
 
--- what a wrap gave, under another tag
-abbrev pub underTag : List ℕ → Sent → Sent
-underTag t w = record { from = w .from; input = w .input; cryptogram = w .cryptogram; tag = t }
-
-module _ (m : PaperMode) (key : List ℕ) (opening : List Str) (i j : CallInput) (out out′ t : List ℕ) where
-  -- what the office's first wrap gave, which is delivered
-  abbrev pub firstSent : Sent
-  firstSent = sentBy m office i (freshLedgers key opening)
-
-  -- what its second gave
+module _ (m : PaperMode) (key : List ℕ) (opening : List Str) (i j : CallInput) (out out′ : List ℕ) (a b c : CallInput) where
+  -- what the office's second wrap gave
   abbrev pub secondSent : Sent
   secondSent = sentBy m office j (afterThere m key opening i out)
 
-  -- the ledgers while the second is on its way
+  -- the ledgers while it is on its way
   abbrev pub onTheWay : Ledgers
   onTheWay = nextLedgers m (wrap office j) (afterThere m key opening i out)
 
   -- the tag of what arrives at an end then differs from the one that the algorithm finds for it there
   abbrev pub Differs : Side → CallInput → Type 0
-  Differs x a = a .tag ≢ unwrapFinds m (ledgerAt x onTheWay) a .tag
+  Differs x z = z .tag ≢ unwrapFinds m (ledgerAt x onTheWay) z .tag
 
-  -- after the first message the office wraps j; a wrap is refused at each end; the group gets what j gave under the tag t, and then the first
-  -- message again; the office gets what j gave; and last the group gets it
+  -- after the first message the office wraps j; a wrap is refused at each end; a and b reach the group, and c the office; then the group gets
+  -- what j gave; and when nothing is on its way a wrap and an arrival are refused at each end
   abbrev pub disturbed : List Call
   disturbed =
       there m key opening i out
       ++ wrap office j
       ∷ wrap group noTag
       ∷ wrap office noTag
-      ∷ unwrap group (delivery (underTag t secondSent) out′)
-      ∷ unwrap group (delivery firstSent out)
-      ∷ unwrap office (delivery secondSent out′)
+      ∷ unwrap group a
+      ∷ unwrap group b
+      ∷ unwrap office c
       ∷ unwrap group (delivery secondSent out′)
+      ∷ wrap group noTag
+      ∷ wrap office noTag
+      ∷ unwrap group noTag
+      ∷ unwrap office noTag
       ∷ []
 
-  -- in this list each message is delivered, where t, the repeat's tag and the reflection's differ from those that are found
+  -- in this list each message is delivered, for all arrivals whose tags differ from those that are found: another tag, a repeat, a reflection
   abbrev pub Disturbed : Type 0
   Disturbed =
       InLimits m i → InLimits m j → length (i .text) ≤ length out → length (j .text) ≤ length out′
-      → Differs group (delivery (underTag t secondSent) out′)
-      → Differs group (delivery firstSent out)
-      → Differs office (delivery secondSent out′)
+      → Differs group a → Differs group b → Differs office c
       → Delivers m nothing disturbed (freshLedgers key opening)
+
+-- ---- as by another tag, a repeat and a reflection
+
+module _ (m : PaperMode) (key : List ℕ) (opening : List Str) (i j : CallInput) (out out′ t : List ℕ) where
+  -- what j gave, under the tag t
+  abbrev pub otherTag : CallInput
+  otherTag =
+      let w : Sent = sentBy m office j (afterThere m key opening i out) in
+      record { metadata = w .input .metadata; text = w .cryptogram; out = out′; tag = t }
+
+  -- the first message again
+  abbrev pub repeated : CallInput
+  repeated = delivery (sentBy m office i (freshLedgers key opening)) out
+
+  -- what j gave, handed back to the office
+  abbrev pub reflected : CallInput
+  reflected = delivery (sentBy m office j (afterThere m key opening i out)) out′
+
+  -- in the list with these each message is delivered, where their tags differ from those that are found
+  abbrev pub Replays : Type 0
+  Replays = Disturbed m key opening i j out out′ otherTag repeated reflected

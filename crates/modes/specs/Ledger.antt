@@ -43,7 +43,7 @@ abbrev pub freshLedger : (key : List ℕ) (opening : List Str) → Ledger
 freshLedger key opening = record { key = key; history = opening; toggle = false }
 
 -- what a call gives beside the session: its number (0: accepted), its count, and the output buffer and the tag buffer after it
-pub record Answer : Type 0 where
+pub record LedgerAnswer : Type 0 where
   pub number : ℕ
   pub count : ℕ
   pub out : List ℕ
@@ -51,7 +51,7 @@ pub record Answer : Type 0 where
 
 -- a call's answer, and the ledger after it
 pub record Entry : Type 0 where
-  pub answer : Answer
+  pub answer : LedgerAnswer
   pub ledger : Ledger
 
 -- whether two tags are equal

@@ -7,7 +7,7 @@ use Rattle.deck.specs.Strings.{Str}
 use Rattle.modes.specs.Call.{Side, office, group, Call, wrap, unwrap, sideOf}
 use Rattle.modes.specs.Mode.{HistoryRep, Mode}
 use Rattle.modes.specs.Rules.{SessionState, Outcome, wrapAt, unwrapAt}
-use Rattle.modes.specs.Ledger.{PaperMode, Ledger, Answer, Entry, ledgerWrap, ledgerUnwrap, freshLedger}
+use Rattle.modes.specs.Ledger.{PaperMode, Ledger, LedgerAnswer, Entry, ledgerWrap, ledgerUnwrap, freshLedger}
 
 -- ---- the two ends by the rules
 
@@ -73,7 +73,7 @@ module _ (m : PaperMode) where
   entries (c ∷ cs) p = ledgerStep c p ∷ entries cs (nextLedgers c p)
 
   -- their answers
-  abbrev pub answers : List Call → Ledgers → List Answer
+  abbrev pub answers : List Call → Ledgers → List LedgerAnswer
   answers cs p = map (λ (e : Entry). e .answer) (entries cs p)
 
   -- the ledgers after a list

@@ -315,3 +315,66 @@ module _ (day : Day) (t : Table) (g : ℕ) (key : List ℕ) where
           (cond (keyFits key) (record { number = 0; count = 1; session = newSession key }) (record { number = 4; count = 0; session = closed })))))
       go3 true (holds c) = open-3 c
       go3 false (fails in3) = go4 (keyFits key) (told-key key) in3
+
+-- ---- the claims leave nothing open: each is true of one outcome
+
+module _ (day : Day) (t : Table) (g : ℕ) (i : CallInput) (lone : Outcome DeckState) where
+  abbrev Only : TableOutcome → Type 0
+  Only w = (o : TableOutcome) → CallExactly day t g i lone o → o ≡ w
+
+  stopped : (n : ℕ) → n ≢ 0 → n ≢ 11 → ((o : TableOutcome) → CallExactly day t g i lone o → o .number ≡ n) → Only (refusedBy n day t i)
+  stopped n n0 n11 is o x =
+      x .unaltered (λ z. n0 (sym (is o x) ∙ z)) (λ z. n11 (sym (is o x) ∙ z)) ∙ ap (λ (n : ℕ). refusedBy n day t i) (is o x)
+
+  only : (w : TableOutcome) × Only w
+  only = go (noGroup (length t) g) (told3 t g)
+    where
+      at10 : (u : Bool) → Told (Check10 day (countOf sanse incremental i)) (day .spent + countOf sanse incremental i ≤ day .allowance) u
+          → (Check3 t g → ⊥) → checkNumber sanse incremental (sessionAt t g) i ≡ 0 → (w : TableOutcome) × Only w
+      at10 true (holds above) in3 e =
+          (refusedBy 10 day t i, stopped 10 (λ z. omega (arith, z)) (λ z. omega (arith, z)) (λ o x. x .ten .1 (in3, e, above)))
+      at10 false (fails within) in3 e =
+          (writtenBack t g (charged day lone), λ o x. x .worked (record { three = in3; five-to-nine = e; ten = λ above. omega (arith, above, within) }))
+
+      at5 : (n : ℕ) → checkNumber sanse incremental (sessionAt t g) i ≡ n → (n ≡ 0) ⊎ ((5 ≤ n) × (n ≤ 9)) → (Check3 t g → ⊥) → (w : TableOutcome) × Only w
+      at5 zero e z in3 = at10 (aboveAllowance day (countOf sanse incremental i)) (told10 day (countOf sanse incremental i)) in3 e
+      at5 (suc n) e (inl z) in3 = absurd (omega (arith, z))
+      at5 (suc n) e (inr z) in3 = (
+        refusedBy (suc n) day t i,
+        stopped (suc n) (λ q. omega (arith, q)) (λ q. omega (arith, q, z .1)) (λ o x. x .five-to-nine in3 (λ q. omega (arith, q, e)) ∙ e),
+      )
+
+      go : (u : Bool) → Told (Check3 t g) ((length t ≡ 32) × (g ≤ 31)) u → (w : TableOutcome) × Only w
+      go true (holds c) = (refusedBy 3 day t i, stopped 3 (λ z. omega (arith, z)) (λ z. omega (arith, z)) (λ o x. x .three .1 c))
+      go false (fails in3) = at5 (checkNumber sanse incremental (sessionAt t g) i) refl (check-range (sessionAt t g) i) (apart t g in3)
+
+  pub call-decided : (o o′ : TableOutcome) → CallExactly day t g i lone o → CallExactly day t g i lone o′ → o ≡ o′
+  call-decided o o′ x y = only .1 o x ∙ sym (only .1 o′ y)
+
+module _ (day : Day) (t : Table) (g : ℕ) (key : List ℕ) where
+  abbrev OnlyOpen : TableOpening → Type 0
+  OnlyOpen w = (o : TableOpening) → OpenExactly day t g key o → o ≡ w
+
+  unopened-only : (n : ℕ) → n ≢ 0 → ((o : TableOpening) → OpenExactly day t g key o → o .number ≡ n) → OnlyOpen (unopened day t g key n)
+  unopened-only n n0 is o x = x .unaltered (λ z. n0 (sym (is o x) ∙ z)) ∙ ap (unopened day t g key) (is o x)
+
+  only-open : (w : TableOpening) × OnlyOpen w
+  only-open = go (noGroup (length t) g) (told3 t g)
+    where
+      at10 : (u : Bool) → Told (Check10 day 1) (day .spent + 1 ≤ day .allowance) u → (Check3 t g → ⊥) → (16 ≤ length key) × (length key ≤ 47) → (w : TableOpening) × OnlyOpen w
+      at10 true (holds above) in3 k = (unopened day t g key 10, unopened-only 10 (λ z. omega (arith, z)) (λ o x. x .ten .1 (in3, k, above)))
+      at10 false (fails within) in3 k = (
+        record { number = 0; count = 1; day = addCount day 1; table = set t g (newSession key) },
+        λ o x. x .accepted in3 (k .0) (k .1) (λ above. omega (arith, above, within)),
+      )
+
+      at4 : (u : Bool) → Told ((16 ≤ length key) × (length key ≤ 47)) ((length key < 16) ⊎ (47 < length key)) u → (Check3 t g → ⊥) → (w : TableOpening) × OnlyOpen w
+      at4 true (holds k) in3 = at10 (aboveAllowance day 1) (told10 day 1) in3 k
+      at4 false (fails k) in3 = (unopened day t g key 4, unopened-only 4 (λ z. omega (arith, z)) (λ o x. x .four .1 (in3, k)))
+
+      go : (u : Bool) → Told (Check3 t g) ((length t ≡ 32) × (g ≤ 31)) u → (w : TableOpening) × OnlyOpen w
+      go true (holds c) = (unopened day t g key 3, unopened-only 3 (λ z. omega (arith, z)) (λ o x. x .three .1 c))
+      go false (fails in3) = at4 (keyFits key) (told-key key) (apart t g in3)
+
+  pub open-decided : (o o′ : TableOpening) → OpenExactly day t g key o → OpenExactly day t g key o′ → o ≡ o′
+  open-decided o o′ x y = only-open .1 o x ∙ sym (only-open .1 o′ y)

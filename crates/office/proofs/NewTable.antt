@@ -11,9 +11,10 @@ use Rattle.deck.specs.declared.DeckState.{DeckState}
 use Rattle.modes.specs.Call.{CallInput}
 use Rattle.modes.specs.Mode.{sanse, incremental}
 use Rattle.modes.specs.Rules.{SessionState, Outcome, checkNumber, closed}
+use Rattle.sanse.specs.Session.{stateOf}
 use Rattle.groups.specs.declared.Day.{Day}
 use Rattle.office.specs.declared.NearlyFull.{NearlyFull}
-use Rattle.office.specs.Table.{newTable, sessionAt, TableOutcome, refusedBy, NearlyFullIs}
+use Rattle.office.specs.Table.{newTable, sessionAt, TableOutcome, refusedBy, NearlyFullIs, zeroRecord, tableOf}
 use Rattle.office.specs.Exactly.{Check3, CallExactly, NewTable}
 use Rattle.office.proofs.Search.{found-exactly}
 use Rattle.office.proofs.Exactly.{wrap-exactly, unwrap-exactly, open-exactly}
@@ -57,6 +58,13 @@ says-none mark r is = go (r .found) refl
         ap (λ (n : ℕ). record { number = n; found = r .found; group = r .group }) n
         ∙ ap₂ (λ (b : Bool) (g : ℕ). record { number = 0; found = b; group = g }) e g
 
+-- zeroed memory holds a closed session, and 32 of them are the new table
+pub zero-record : stateOf zeroRecord ≡ closed
+zero-record = refl
+
+pub zeroed : tableOf (replicate 32 zeroRecord) ≡ newTable
+zeroed = refl
+
 pub new-table : NewTable
 new-table =
     record {
@@ -65,6 +73,6 @@ new-table =
       none = says-none;
       opens = λ day g key in-table low high within.
           open-exactly day newTable g key .accepted (has-group g in-table) low high (λ above. omega (arith, above, within));
-      zero-record = refl;
-      zeroed = refl;
+      zero-record = zero-record;
+      zeroed = zeroed;
     }

@@ -1,4 +1,4 @@
--- The table's own numbers, 3, 4 and 10, each given if and only if its condition holds and no earlier one does, with the conditions as plain
+-- The numbers 3, 4 and 10 at the table, each given if and only if its condition holds and no earlier one does, with the conditions as plain
 -- statements; what a call gives that meets none of them, and what it leaves of day and table; the nearly-full question's answer; and the
 -- table at first (document 01, "What stops a call" and "The row"). Assumes nothing.
 use mathlib.Core.Bool.{true, false}

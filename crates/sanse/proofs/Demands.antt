@@ -8,10 +8,12 @@ use lib.ListN.{length}
 use Rattle.deck.specs.declared.DeckState.{DeckState}
 use Rattle.deck.specs.Strings.{Str}
 use Rattle.modes.specs.Call.{CallInput, Call}
-use Rattle.modes.specs.Mode.{sanse}
+use Rattle.modes.specs.Mode.{incremental, sanse}
 use Rattle.modes.specs.Rules.{Outcome}
 use Rattle.modes.specs.Ledger.{sansePaper}
 use Rattle.modes.specs.OneCall.{sessionOf, WrapClaim, UnwrapClaim}
+use Rattle.modes.specs.AnySession.{AnyWrap, AnyUnwrap}
+use Rattle.modes.specs.Start.{StartExactly}
 use Rattle.modes.specs.Demand3.{Demand3}
 use Rattle.modes.specs.Promises.{Promises, Records, Run, sessionsHeld}
 use Rattle.modes.specs.Demands.{StartOf, AnyCallOf, WrapOf, UnwrapOf, OneCallOf, Demand3Of, StartsExist, RunsExist}
@@ -43,6 +45,34 @@ pub demand-3-says : (starts : (key : List ℕ) → CallResult → Type 0) (p : P
     → Run sanseKind p cs (record { office = first .session; group = second .session }) os to
     → Demand3 key cs (startResult first) (startResult second) os (sessionsHeld sanseKind to))
 demand-3-says starts p = refl
+
+pub start-says : (starts : (key : List ℕ) → CallResult → Type 0)
+    → StartOf sanseKind starts ≡ ((key : List ℕ) (r : CallResult) → starts key r → StartExactly key (startResult r))
+start-says starts = refl
+
+pub starts-exist-says : (starts : (key : List ℕ) → CallResult → Type 0) → StartsExist sanseKind starts ≡ ((key : List ℕ) → (r : CallResult) × starts key r)
+starts-exist-says starts = refl
+
+pub runs-exist-says : (p : Promises sanseKind)
+    → RunsExist sanseKind p
+    ≡ ((cs : List Call) (from : Records sanseKind) → (os : List (Outcome DeckState)) × (to : Records sanseKind) × Run sanseKind p cs from os to)
+runs-exist-says p = refl
+
+-- and of one call, of any record and of the record of a history
+module _ (p : Promises sanseKind) (s : Session) (i : CallInput) (r : CallResult) (out tag : List ℕ) where
+  pub any-wrap-says : AnyCallOf sanseKind sanse p → p .wraps s i r out tag → AnyWrap sanse incremental (stateOf s) i (callResult r out tag)
+  any-wrap-says c = c .wraps s i r out tag
+
+  pub any-unwrap-says : AnyCallOf sanseKind sanse p → p .unwraps s i r out tag → AnyUnwrap sanse incremental (stateOf s) i (callResult r out tag)
+  any-unwrap-says c = c .unwraps s i r out tag
+
+  pub one-wrap-says : OneCallOf sanseKind sansePaper p → (key : List ℕ) (h : List Str) (e : Bool) → stateOf s ≡ sessionOf key h e → p .wraps s i r out tag
+      → WrapClaim sansePaper key h e i (callResult r out tag)
+  one-wrap-says c key h e = c .wraps key h e s i r out tag
+
+  pub one-unwrap-says : OneCallOf sanseKind sansePaper p → (key : List ℕ) (h : List Str) (e : Bool) → stateOf s ≡ sessionOf key h e → p .unwraps s i r out tag
+      → UnwrapClaim sansePaper key h e i (callResult r out tag)
+  one-unwrap-says c key h e = c .unwraps key h e s i r out tag
 
 -- ---- the demands
 
