@@ -12,6 +12,7 @@ INCLUDEDIR ?= $(PREFIX)/include
 DATADIR ?= $(PREFIX)/share
 
 CARGO = cargo $(1) --manifest-path rust/Cargo.toml --locked --offline
+CC = gcc
 CFLAGS ?= -O2
 STRICT = -std=c89 -Wall -Wextra -Wpedantic -Wconversion
 VERSION := $(shell sed -n 's/^\#define PEVGHAZO_VERSION_[MP][A-Z]* //p' include/pevghazo/version.h | paste -s -d .)
@@ -50,18 +51,18 @@ $(LIBRARY): crates.txt toolchain $(shell find crates -name '*.rt' -o -name '*.an
 
 target/c/%.o: c/%.c $(HEADERS)
 	@mkdir -p $(@D)
-	gcc $(STRICT) $(CFLAGS) -fPIC -Iinclude -c $< -o $@
+	$(CC) $(STRICT) $(CFLAGS) -fPIC -Iinclude -c $< -o $@
 
 # The proved library, with the functions in plain C beside it.
 $(ARCHIVE): $(LIBRARY) $(PLAIN)
 	@mkdir -p $(@D)
 	cp $(LIBRARY) $@.new
-	ar r $@.new $(PLAIN)
+	$(AR) r $@.new $(PLAIN)
 	mv $@.new $@
 
 # Code that cannot be moved in memory is refused (text), and so is a name that no library has (defs).
 $(SHARED): $(ARCHIVE) c/exports.map
-	gcc -shared -Wl,-soname,$(SONAME) -Wl,--version-script=c/exports.map -Wl,-z,text -Wl,-z,defs -Wl,-z,relro -Wl,-z,now \
+	$(CC) $(LDFLAGS) -shared -Wl,-soname,$(SONAME) -Wl,--version-script=c/exports.map -Wl,-z,text -Wl,-z,defs -Wl,-z,relro -Wl,-z,now \
 	  -Wl,--whole-archive $(ARCHIVE) -Wl,--no-whole-archive -o $@
 
 $(COMMAND): $(LIBRARY) $(shell find rust -path rust/target -prune -o -name '*.rs' -print -o -name 'Cargo.*' -print)
@@ -69,7 +70,9 @@ $(COMMAND): $(LIBRARY) $(shell find rust -path rust/target -prune -o -name '*.rs
 	@touch $@
 
 # A folder as the pkg-config file names it.
-UNDER = $(patsubst $(PREFIX)/%,$${prefix}/%,$(1))
+UNDER = $(subst $(PREFIX)/,$${prefix}/,$(1))
+# A text as sed puts it in the place of another.
+plain = $$(printf '%s' '$(1)' | sed 's/[\\&|]/\\&/g')
 
 # What is installed: a mode, a file and its place under DESTDIR, for each.
 define FILES
@@ -87,20 +90,23 @@ endef
 export FILES
 
 install: lib $(COMMAND)
-	sed -e 's|@PREFIX@|$(PREFIX)|' -e 's|@VERSION@|$(VERSION)|' -e 's|@LIBDIR@|$(call UNDER,$(LIBDIR))|' \
-	  -e 's|@INCLUDEDIR@|$(call UNDER,$(INCLUDEDIR))|' pevghazo.pc.in >target/lib/pevghazo.pc
+	sed -e "s|@PREFIX@|$(call plain,$(PREFIX))|" -e "s|@VERSION@|$(VERSION)|" -e "s|@LIBDIR@|$(call plain,$(call UNDER,$(LIBDIR)))|" \
+	  -e "s|@INCLUDEDIR@|$(call plain,$(call UNDER,$(INCLUDEDIR)))|" pevghazo.pc.in >target/lib/pevghazo.pc
 	@echo "$$FILES" | while read -r mode file place; do \
-	  [ -f "$$file" ] || continue; \
+	  [ -n "$$mode" ] || continue; \
 	  echo "$(DESTDIR)$$place"; \
 	  install -d -m 755 "$(DESTDIR)$${place%/*}" && install -m "$$mode" "$$file" "$(DESTDIR)$$place" || exit 1; \
 	done
-	ln -sf libpevghazo.so.$(INTERFACE) $(DESTDIR)$(LIBDIR)/$(SONAME)
-	ln -sf $(SONAME) $(DESTDIR)$(LIBDIR)/libpevghazo.so
+	ln -sf libpevghazo.so.$(INTERFACE) "$(DESTDIR)$(LIBDIR)/$(SONAME)"
+	ln -sf $(SONAME) "$(DESTDIR)$(LIBDIR)/libpevghazo.so"
 
 uninstall:
-	@echo "$$FILES" | while read -r mode file place; do rm -f "$(DESTDIR)$$place" || exit 1; done
-	rm -f $(DESTDIR)$(LIBDIR)/$(SONAME) $(DESTDIR)$(LIBDIR)/libpevghazo.so
-	if [ -d $(DESTDIR)$(INCLUDEDIR)/pevghazo ]; then rmdir --ignore-fail-on-non-empty $(DESTDIR)$(INCLUDEDIR)/pevghazo; fi
+	@echo "$$FILES" | while read -r mode file place; do \
+	  [ -n "$$mode" ] || continue; \
+	  rm -f "$(DESTDIR)$$place" || exit 1; \
+	done
+	rm -f "$(DESTDIR)$(LIBDIR)/$(SONAME)" "$(DESTDIR)$(LIBDIR)/libpevghazo.so"
+	if [ -d "$(DESTDIR)$(INCLUDEDIR)/pevghazo" ]; then rmdir --ignore-fail-on-non-empty "$(DESTDIR)$(INCLUDEDIR)/pevghazo"; fi
 
 clean:
 	rm -rf target rust/target

@@ -9,14 +9,20 @@
   echo "link ./lib/libpevghazo.so.1 -> libpevghazo.so.1.0.0"
   echo "644 ./lib/libpevghazo.so.1.0.0"
   echo "644 ./lib/pkgconfig/pevghazo.pc"
-  if [ -f completions/pevghazo.bash ]; then echo "644 ./share/bash-completion/completions/pevghazo"; fi
-  if [ -f completions/pevghazo.fish ]; then echo "644 ./share/fish/vendor_completions.d/pevghazo.fish"; fi
-  if [ -f man/pevghazo.1 ]; then echo "644 ./share/man/man1/pevghazo.1"; fi
-  if [ -f completions/_pevghazo ]; then echo "644 ./share/zsh/site-functions/_pevghazo"; fi
+  echo "644 ./share/bash-completion/completions/pevghazo"
+  echo "644 ./share/fish/vendor_completions.d/pevghazo.fish"
+  echo "644 ./share/man/man1/pevghazo.1"
+  echo "644 ./share/zsh/site-functions/_pevghazo"
 } | sort -k 2 >"$out/expected"
 diff "$out/expected" "$out/files" || fail "other files are installed (right) than these (left)"
 find "$prefix" -mindepth 1 -type d ! -perm 755 | grep . && fail "others cannot enter these folders"
 said build install DESTDIR="$out/stage" PREFIX=/usr LIBDIR=/usr/lib/here
+spaced="$out/a b&c|d"
+said build install PREFIX="$spaced"
+[ -e "$spaced/lib/libpevghazo.so" ] && grep -qxF "prefix=$spaced" "$spaced/lib/pkgconfig/pevghazo.pc" || fail "a folder with a space is not taken as it is"
+touch "$out/a"
+said build uninstall PREFIX="$spaced"
+[ -e "$out/a" ] && [ -z "$(find "$spaced" -type f -o -type l)" ] || fail "uninstalling from a folder with a space takes another file, or leaves some"
 grep -qx 'libdir=${prefix}/lib/here' "$out/stage/usr/lib/here/pkgconfig/pevghazo.pc" || fail "the pkg-config file names another folder"
 
 export PKG_CONFIG_PATH=$prefix/lib/pkgconfig

@@ -11,7 +11,8 @@ use std::sync::atomic::{Ordering, compiler_fence};
 /// rest is for programs that look up the C library's functions at their first use, which takes some 2,500 bytes more.
 const STACK_BYTES: usize = 8_192;
 
-/// Writes zeros to the stack below the caller's frame, and to the vector registers.
+/// Writes zeros to the stack below the caller's frame, and to the registers xmm0 to xmm15. Wider ones, which the C library may
+/// have used to copy a message, stay.
 #[inline(never)]
 pub(crate) fn clear_stack() {
     let mut frame = [const { MaybeUninit::<u64>::uninit() }; STACK_BYTES / 8];
@@ -23,8 +24,7 @@ pub(crate) fn clear_stack() {
     clear_registers();
 }
 
-/// Sets the vector registers to zero, which the permutation leaves full of lanes: the next function might put them on its
-/// stack.
+/// Sets those registers to zero, which the permutation leaves full of lanes: the next function might put them on its stack.
 #[cfg(target_arch = "x86_64")]
 fn clear_registers() {
     // SAFETY: all registers that are written to are named.
