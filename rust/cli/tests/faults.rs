@@ -212,12 +212,13 @@ fn standard_output_that_fails() {
         assert_eq!(run.status, 4, "{}", run.said);
         run.said
     };
-    let sentence = "The envelope is kept in the state file: hand it out with `pevghazo office resend --group 5`.\n";
+    let sentence = "The envelope is kept in the state file: hand it out with `pevghazo office resend --state office --group 5 --out FILE`.\n";
     assert!(full("office --state office seal --group 5 --message text --out -").ends_with(sentence));
     assert!(full("office --state office resend --group 5 --out -").ends_with(sentence));
     folder.fails(5, "office --state office seal --group 5 --message text --out -");
     folder.done(OFFICE_RESENDS);
-    let sentence = "The message is kept in the state file: hand it out with `pevghazo group reread`.\n";
+    let sentence =
+        "The message is kept in the state file: hand it out with `pevghazo group reread --state group --out FILE`.\n";
     assert!(full("group --state group open --in envelope --out -").ends_with(sentence));
     assert!(full("group --state group reread --out -").ends_with(sentence));
     folder.done(GROUP_REREADS);
