@@ -21,7 +21,11 @@ pub fn of(shell: &str) -> Result<String, Failure> {
 
 /// Says which shells there are.
 pub fn unknown() -> Failure {
-    Failure::Usage(format!("There are completions for {}: `pevghazo completions {}` prints those.", SHELLS.join(", "), SHELLS[0]))
+    Failure::Usage(format!(
+        "There are completions for {}: `pevghazo completions {}` prints those.",
+        SHELLS.join(", "),
+        SHELLS[0]
+    ))
 }
 
 /// The words that may come first: the ends, and the commands of neither.
@@ -61,7 +65,7 @@ fn bash() -> String {
     let mut text = String::from(
         "# Completions of pevghazo for bash; `pevghazo completions bash` prints them.\n\
          _pevghazo() {\n    \
-             local word before help='' end='' name='' i skip=''\n    \
+             local word before prefix='' help='' end='' name='' i skip=''\n    \
              COMPREPLY=()\n    \
              # `--name=value` comes as three words where `=` is a word break, and as one where it is not.\n    \
              local -a all=()\n    \
@@ -72,6 +76,7 @@ fn bash() -> String {
                  elif [[ $word == --*=* ]]; then all+=(\"${word%%=*}\" \"${word#*=}\")\n        \
                  else all+=(\"$word\"); fi\n    \
              done\n    \
+             [[ $word == --*=* ]] && prefix=${word%%=*}=\n    \
              word=${all[-1]}\n    \
              before=''\n    \
              ((${#all[@]} < 2)) || before=${all[-2]}\n    \
@@ -88,7 +93,7 @@ fn bash() -> String {
     text.push_str("            *) name=$i ;;\n        esac\n    done\n    case $before in\n");
     let _ = writeln!(
         text,
-        "        {}) compopt -o filenames; mapfile -t COMPREPLY < <(compgen -f -- \"$word\"); return ;;",
+        "        {}) compopt -o filenames; mapfile -t COMPREPLY < <(compgen -P \"$prefix\" -f -- \"$word\"); return ;;",
         with_value(|value| value == Value::File)
     );
     let _ = writeln!(
@@ -96,24 +101,22 @@ fn bash() -> String {
         "        {}) return ;;\n    esac\n    local words",
         with_value(|value| !matches!(value, Value::None | Value::File))
     );
-    text.push_str("    case \"$end $name\" in\n");
-    text.push_str("        ' ') [[ -n $help ]] && ");
+    text.push_str("    [[ -n $help && -n $name ]] && return\n    case \"$end $name\" in\n");
     let _ = writeln!(
         text,
-        "words='{0} --help' || words='{0} --help --version' ;;",
+        "        ' ') words='{} --help --version' ;;",
         joined(first_words().map(|(word, _)| word.to_string()))
     );
     for end in ENDS {
         let names = joined(of_end(end).map(|command| command.name.to_string()));
         let _ = writeln!(text, "        '{end} ') words='{names} --help' ;;");
     }
-    text.push_str("        *) [[ -n $help ]] && return ;;&\n");
     for command in COMMANDS {
         let options = joined(all_options(command).map(|option| format!("--{}", option.name)));
         let _ = writeln!(text, "        '{} {}') words='{options}' ;;", command.end, command.name);
     }
     text.push_str(
-        "        *) words='' ;;\n    esac\n    mapfile -t COMPREPLY < <(compgen -W \"$words\" -- \"$word\")\n}\n\
+        "        *) words='' ;;\n    esac\n    [[ -n $help ]] && words=${words%% --*}\n    mapfile -t COMPREPLY < <(compgen -W \"$words\" -- \"$word\")\n}\n\
          complete -F _pevghazo pevghazo\n",
     );
     text

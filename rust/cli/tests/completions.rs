@@ -55,13 +55,12 @@ fn bash_offers_words_options_and_files() {
     assert_eq!(offered(&folder, &["--v"]), ["--version"]);
     assert_eq!(offered(&folder, &["office", "day", "--v"]), [""; 0]);
     // The words of a command after `help`.
-    assert_eq!(offered(&folder, &["help", ""]), ["office", "group", "keygen", "demo", "help", "--help"]);
+    assert_eq!(offered(&folder, &["help", ""]), ["office", "group", "keygen", "demo", "help"]);
     assert_eq!(offered(&folder, &["help", "office", "op"]), ["open-group", "open"]);
     assert_eq!(offered(&folder, &["help", "office", "open", ""]), [""; 0]);
     // A value after `=`, which may be a word of its own.
-    for words in [&["office", "day", "--state", "=", "of"][..], &["office", "day", "--state=of"]] {
-        assert_eq!(offered(&folder, words), ["office.state"]);
-    }
+    assert_eq!(offered(&folder, &["office", "day", "--state", "=", "of"]), ["office.state"]);
+    assert_eq!(offered(&folder, &["office", "day", "--state=of"]), ["--state=office.state"]);
     assert_eq!(offered(&folder, &["office", "day", "--state", "="]), ["office.state"]);
     assert_eq!(offered(&folder, &["office", "--state", "=", "office.state", "da"]), ["day"]);
     assert_eq!(offered(&folder, &["office", "--state=office.state", "da"]), ["day"]);
