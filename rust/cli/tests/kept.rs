@@ -78,12 +78,38 @@ fn no_replaced_file_keeps_the_message() {
     let last = files.pop().unwrap();
     assert!(!holds(&content(&last), message) && !content(&last).is_empty());
     for file in &files {
-        assert!(!content(file).is_empty() && content(file).iter().all(|byte| *byte == 0));
+        assert!(content(file).len() > 16 && content(file)[16..].iter().all(|byte| *byte == 0));
     }
     // A state file that its owner may only read is replaced too.
     fs::set_permissions(folder.0.join("group"), fs::Permissions::from_mode(0o400)).unwrap();
     folder.done("group --state group seal --message text --out from");
-    assert!(content(&last).iter().all(|byte| *byte == 0));
+    assert!(content(&last)[16..].iter().all(|byte| *byte == 0));
+}
+
+/// A kill or a failure between the commit and the overwriting: the next command overwrites the old file.
+#[test]
+fn a_disturbed_forget_leaves_no_message() {
+    let folder = Folder::pair(5);
+    let message = b"20001 to 20100";
+    folder.write("text", message);
+    folder.done("office --state office seal --group 5 --message text --out to");
+    folder.done("group --state group open --in to --out opened");
+    let forget = "group --state group forget";
+    let log = folder.copy().run_with("log", forget).said;
+    let steps: Vec<&str> = log.lines().filter(|line| !line.ends_with(": end")).collect();
+    for n in 1..=steps.len() {
+        for fault in ["abort", "fail"] {
+            let copy = folder.copy();
+            let mut file = File::open(copy.0.join("group")).unwrap();
+            let run = copy.run_with(&format!("{fault}@{n}"), forget);
+            assert!(run.signal.is_some() || run.status == 3, "{}", steps[n - 1]);
+            copy.done(forget);
+            let mut old = Vec::new();
+            file.read_to_end(&mut old).unwrap();
+            assert!(!holds(&old, message), "{fault} at {}", steps[n - 1]);
+            assert!(!copy.names().iter().any(|name| name.contains("pevghazo-")), "{fault} at {}", steps[n - 1]);
+        }
+    }
 }
 
 #[test]

@@ -174,7 +174,10 @@ impl fmt::Display for Error {
             Error::Damaged { damage, .. } => write!(f, "The state file {path} cannot be used: {damage}."),
             Error::System { what, source, .. } => write!(f, "Could not {what} {path}: {source}."),
             Error::NotWiped { source, .. } => {
-                write!(f, "The new state is in {path}, but the bytes of the old one were not overwritten: {source}.")
+                write!(
+                    f,
+                    "The new state is in {path}, but the bytes of the old one were not overwritten: {source}. The next command tries again."
+                )
             }
             Error::NotSynced { source, .. } => write!(
                 f,

@@ -27,15 +27,35 @@ pub(crate) fn open_old(path: &Path) -> Result<File, Error> {
     old.map_err(failed("open the old file", path))
 }
 
-/// Removes a leftover that starts as a state file does, and overwrites it before, as far as that works. Its start goes last: a
-/// kill in between leaves a leftover.
+/// Removes a leftover that starts as a state file does, and overwrites it before, as far as that works.
 fn wipe_leftover(name: &Path) -> io::Result<()> {
     if let Ok(file) = OpenOptions::new().write(true).custom_flags(NO_FOLLOW | NO_WAIT).open(name)
         && is_at(&file, name)
     {
-        let _ = wipe_file(&file, format::START.len() as u64, 1);
+        let _ = wipe_behind_start(&file);
     }
     step("remove a leftover", || fs::remove_file(name))
+}
+
+/// Overwrites a state file that has a temporary name, and leaves its start: it stays known as a leftover.
+fn wipe_behind_start(file: &File) -> io::Result<()> {
+    wipe_file(file, format::START.len() as u64, 1)
+}
+
+/// Gives a temporary file the place of the state file. The old one gets the temporary name, and is a leftover until it is
+/// overwritten and removed; gives whether it has that name, which not every file system is able to do.
+pub(crate) fn change_places(new: &Path, path: &Path) -> io::Result<bool> {
+    if system::exchange(new, path).is_ok() { Ok(true) } else { fs::rename(new, path).map(|()| false) }
+}
+
+/// Overwrites the old file, and removes the temporary name that it may have.
+pub(crate) fn wipe_old(old: &File, name: Option<&Path>) -> io::Result<()> {
+    match name {
+        // Not the file that was opened: somebody has put another in its place.
+        Some(name) if !is_at(old, name) => Err(ErrorKind::InvalidInput.into()),
+        Some(name) => wipe_behind_start(old).and_then(|()| step("remove the old file", || fs::remove_file(name))),
+        None => wipe_file(old, 0, 0),
+    }
 }
 
 /// The path with an ending after its name.

@@ -43,8 +43,11 @@
 //!
 //! The new bytes are written to the temporary file, which is synced (brought to the disk itself and not just to the system's
 //! memory), then renamed to `NAME`, which replaces the old file in one step, and then the folder is synced, so that the new
-//! name is on the disk too. Last, the commit's number, which the state file holds as well, is noted in the lock file. The folder
+//! name is on the disk too. Then the commit's number, which the state file holds as well, is noted in the lock file. The folder
 //! is also synced at opening: what is read is then safe, even if the process that wrote it was killed between its last steps.
+//!
+//! [`Store::commit_and_wipe`] exchanges the names of the two files instead, which is one step too, and last overwrites the old
+//! file and removes it.
 //!
 //! # A state file that was copied back
 //!
@@ -74,19 +77,21 @@ mod system;
 mod temporary;
 
 use std::fs::{self, File};
-use std::io::ErrorKind;
+use std::io::{self, ErrorKind};
 use std::path::{Path, PathBuf};
 use std::time::Duration;
 
 use error::failed;
 pub use error::{Damage, Error, shown};
 use fault::step;
-use file::{beside, look, open_old, place_new, read, remove_leftovers, remove_second_names, resolve};
+use file::{
+    beside, change_places, look, open_old, place_new, read, remove_leftovers, remove_second_names, resolve, wipe_old,
+};
 pub use format::{MAX_BYTES, VERSION};
 use lock::Lock;
 pub use secret::Secret;
 pub use system::{random, wipe, wipe_stack};
-use temporary::{Kind, Temporary, looks_temporary, wipe_file};
+use temporary::{Kind, Temporary, looks_temporary};
 
 /// Whether a state file may, must or must not be there at opening.
 #[derive(Clone, Copy, Debug, PartialEq, Eq)]
@@ -196,6 +201,28 @@ impl Store {
     /// but a power failure may bring the old ones back; after any other error it holds the old bytes. [`Store::bytes`] says
     /// which, and in both cases another commit may be tried.
     pub fn commit(&mut self, bytes: &[u8]) -> Result<(), Error> {
+        self.replace(bytes, |new, path| fs::rename(new, path))
+    }
+
+    /// [`Store::commit`], and then sets the bytes of the old file, if there is one, to zero on the disk, as far as the file system
+    /// writes them to the place where they were. They are overwritten only once the new file is certain to be on the disk. Until
+    /// then the old file has a temporary name: where a kill or a failure comes before, the next opening overwrites it. On a file
+    /// system that cannot exchange two names it has none, and then stays on the disk.
+    pub fn commit_and_wipe(&mut self, bytes: &[u8]) -> Result<(), Error> {
+        if self.bytes.is_none() {
+            return self.commit(bytes);
+        }
+        let old = open_old(&self.path)?;
+        let mut name = None;
+        self.replace(bytes, |new, path| {
+            name = change_places(new, path)?.then(|| new.to_path_buf());
+            Ok(())
+        })?;
+        wipe_old(&old, name.as_deref()).map_err(|source| Error::NotWiped { path: self.path.clone(), source })
+    }
+
+    /// Replaces the file's bytes; `rename` gives the new file the place of the old one.
+    fn replace(&mut self, bytes: &[u8], rename: impl FnOnce(&Path, &Path) -> io::Result<()>) -> Result<(), Error> {
         if bytes.len() > MAX_BYTES {
             return Err(Error::TooLarge { path: self.path.clone(), bytes: bytes.len() as u64 });
         }
@@ -206,7 +233,7 @@ impl Store {
         let steps = ["write the first half", "write the second half", "sync the new file"];
         new.fill(&format::encode(generation, bytes), steps).map_err(failed("write the new file of", &self.path))?;
         let first = self.bytes.is_none();
-        step("rename", || if first { place_new(&new.path, &self.path) } else { fs::rename(&new.path, &self.path) })
+        step("rename", || if first { place_new(&new.path, &self.path) } else { rename(&new.path, &self.path) })
             .map_err(|error| match error.kind() {
                 ErrorKind::AlreadyExists => Error::Exists { path: self.path.clone() },
                 _ => failed("replace the file", &self.path)(error),
@@ -224,15 +251,5 @@ impl Store {
             let _ = remove_leftovers(&self.path);
         }
         Ok(())
-    }
-
-    /// [`Store::commit`], and then sets the bytes of the old file, if there is one, to zero on the disk, as far as the file system
-    /// writes them to the place where they were. They are overwritten only once the new file is certain to be on the disk; a kill
-    /// right before that, and [`Error::NotSynced`], leave them there without a name.
-    pub fn commit_and_wipe(&mut self, bytes: &[u8]) -> Result<(), Error> {
-        let old = if self.bytes.is_some() { Some(open_old(&self.path)?) } else { None };
-        self.commit(bytes)?;
-        let wiped = old.map_or(Ok(()), |old| wipe_file(&old, 0, 0));
-        wiped.map_err(|source| Error::NotWiped { path: self.path.clone(), source })
     }
 }
