@@ -199,7 +199,7 @@ impl std::error::Error for Error {
 }
 
 /// A path as a sentence has it: control characters are escaped, so that none reaches a terminal.
-pub fn shown(path: &Path) -> impl fmt::Display {
+pub fn shown(path: &Path) -> String {
     let mut text = String::new();
     for letter in path.to_string_lossy().chars() {
         if letter.is_control()

@@ -6,9 +6,10 @@
 use std::ffi::OsStr;
 use std::io::{Write, stderr};
 use std::os::unix::ffi::OsStrExt;
+use std::path::Path;
 
 use pevghazo::{Number, envelope};
-use pevghazo_store::Secret;
+use pevghazo_store::{Secret, shown};
 
 use crate::arguments::Arguments;
 use crate::end::End;
@@ -209,7 +210,7 @@ fn quoted(name: &OsStr) -> String {
     let plain = |byte: u8| byte.is_ascii_alphanumeric() || b"/._-+,:@%".contains(&byte);
     match name.to_str() {
         Some(text) if !text.is_empty() && text.bytes().all(plain) => text.to_string(),
-        Some(text) if !text.chars().any(char::is_control) => format!("'{}'", text.replace('\'', "'\\''")),
+        Some(text) if shown(Path::new(name)) == text => format!("'{}'", text.replace('\'', "'\\''")),
         _ => {
             let mut text = String::from("$'");
             for byte in name.as_bytes() {
@@ -254,6 +255,7 @@ mod tests {
             ("\u{e9}t\u{e9}".as_bytes(), "'\u{e9}t\u{e9}'"),
             (b"a\nb'\\", "$'a\\x0ab\\'\\\\'"),
             (b"\xff", "$'\\xff'"),
+            ("\u{202e}".as_bytes(), "$'\\xe2\\x80\\xae'"),
         ] {
             assert_eq!(quoted(OsStr::from_bytes(name)), text);
         }
