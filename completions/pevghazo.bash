@@ -1,49 +1,64 @@
 # Completions of pevghazo for bash; `pevghazo completions bash` prints them.
 _pevghazo() {
-    local word before end='' name='' i skip=''
-    word=${COMP_WORDS[COMP_CWORD]}
-    before=${COMP_WORDS[COMP_CWORD-1]}
+    local word before prefix='' help='' end='' name='' i skip=''
     COMPREPLY=()
-    for ((i = 1; i < COMP_CWORD; i++)); do
+    # `--name=value` comes as three words where `=` is a word break, and as one where it is not.
+    local -a all=()
+    for ((i = 1; i <= COMP_CWORD; i++)); do
+        word=${COMP_WORDS[i]}
+        if [[ $word == = && ${COMP_WORDS[i-1]} == --* ]]; then
+            ((i < COMP_CWORD)) || all+=('')
+        elif [[ $word == --*=* ]]; then all+=("${word%%=*}" "${word#*=}")
+        else all+=("$word"); fi
+    done
+    [[ $word == --*=* ]] && prefix=${word%%=*}=
+    word=${all[-1]}
+    before=''
+    ((${#all[@]} < 2)) || before=${all[-2]}
+    unset 'all[-1]'
+    for i in "${all[@]}"; do
         if [[ -n $skip ]]; then skip=''; continue; fi
-        case ${COMP_WORDS[i]} in
+        case $i in
             --state|--wait|--allowance|--group|--key|--message|--metadata|--metadata-text|--out|--in|--from|--metadata-out|--mark) skip=1 ;;
             -*) ;;
-            office|group) [[ -z $end$name ]] && end=${COMP_WORDS[i]} || name=${COMP_WORDS[i]} ;;
-            *) name=${COMP_WORDS[i]} ;;
+            office|group) [[ -z $end$name ]] && end=$i || name=$i ;;
+            help) [[ -z $help$end$name ]] && help=1 || name=$i ;;
+            *) name=$i ;;
         esac
     done
     case $before in
-        --state|--key|--message|--metadata|--out|--in|--metadata-out) compopt -o filenames; mapfile -t COMPREPLY < <(compgen -f -- "$word"); return ;;
+        --state|--key|--message|--metadata|--out|--in|--metadata-out) compopt -o filenames; mapfile -t COMPREPLY < <(compgen -P "$prefix" -f -- "$word"); return ;;
         --wait|--allowance|--group|--metadata-text|--from|--mark) return ;;
     esac
     local words
+    [[ -n $help && -n $name ]] && return
     case "$end $name" in
         ' ') words='office group keygen demo help --help --version' ;;
         'office ') words='create day open-group seal open resend reread forget nearly-full show --help' ;;
         'group ') words='start seal open resend reread forget show --help' ;;
-        'office create') words='--state --wait --help --version' ;;
-        'office day') words='--state --allowance --wait --restore --help --version' ;;
-        'office open-group') words='--state --group --key --replace --reuse-key --wait --restore --help --version' ;;
-        'office seal') words='--state --group --message --metadata --metadata-text --out --wait --restore --help --version' ;;
-        'office open') words='--state --in --from --out --metadata-out --wait --restore --help --version' ;;
-        'office resend') words='--state --group --out --wait --restore --help --version' ;;
-        'office reread') words='--state --group --out --metadata-out --wait --restore --help --version' ;;
-        'office forget') words='--state --group --envelope --wait --restore --help --version' ;;
-        'office nearly-full') words='--state --mark --wait --restore --help --version' ;;
-        'office show') words='--state --json --wait --restore --help --version' ;;
-        'group start') words='--state --group --key --replace --reuse-key --wait --restore --help --version' ;;
-        'group seal') words='--state --message --metadata --metadata-text --out --wait --restore --help --version' ;;
-        'group open') words='--state --in --from --out --metadata-out --wait --restore --help --version' ;;
-        'group resend') words='--state --out --wait --restore --help --version' ;;
-        'group reread') words='--state --out --metadata-out --wait --restore --help --version' ;;
-        'group forget') words='--state --envelope --wait --restore --help --version' ;;
-        'group show') words='--state --json --wait --restore --help --version' ;;
-        ' keygen') words='--out --help --version' ;;
-        ' demo') words='--help --version' ;;
-        ' help') words='--help --version' ;;
+        'office create') words='--state --wait --help' ;;
+        'office day') words='--state --allowance --wait --restore --help' ;;
+        'office open-group') words='--state --group --key --replace --reuse-key --wait --restore --help' ;;
+        'office seal') words='--state --group --message --metadata --metadata-text --out --wait --restore --help' ;;
+        'office open') words='--state --in --from --out --metadata-out --wait --restore --help' ;;
+        'office resend') words='--state --group --out --wait --restore --help' ;;
+        'office reread') words='--state --group --out --metadata-out --wait --restore --help' ;;
+        'office forget') words='--state --group --envelope --wait --restore --help' ;;
+        'office nearly-full') words='--state --mark --wait --restore --help' ;;
+        'office show') words='--state --json --wait --restore --help' ;;
+        'group start') words='--state --group --key --replace --reuse-key --wait --restore --help' ;;
+        'group seal') words='--state --message --metadata --metadata-text --out --wait --restore --help' ;;
+        'group open') words='--state --in --from --out --metadata-out --wait --restore --help' ;;
+        'group resend') words='--state --out --wait --restore --help' ;;
+        'group reread') words='--state --out --metadata-out --wait --restore --help' ;;
+        'group forget') words='--state --envelope --wait --restore --help' ;;
+        'group show') words='--state --json --wait --restore --help' ;;
+        ' keygen') words='--out --help' ;;
+        ' demo') words='--help' ;;
+        ' help') words='--help' ;;
         *) words='' ;;
     esac
+    [[ -n $help ]] && words=${words%% --*}
     mapfile -t COMPREPLY < <(compgen -W "$words" -- "$word")
 }
 complete -F _pevghazo pevghazo

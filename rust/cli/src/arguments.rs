@@ -66,6 +66,7 @@ pub fn parse(tokens: impl IntoIterator<Item = OsString>) -> Result<Request, Fail
     let has = |name: &str| given.iter().any(|(known, _)| known.name == name);
     match words[..] {
         ["completions", shell] if given.is_empty() => return completions::of(shell).map(Request::Print),
+        ["completions", ..] => return Err(completions::unknown()),
         ["help", ref topic @ ..] if !topic.is_empty() && given.is_empty() => return help_on(topic),
         _ => {}
     }

@@ -15,8 +15,17 @@ pub fn of(shell: &str) -> Result<String, Failure> {
         "bash" => Ok(bash()),
         "zsh" => Ok(zsh()),
         "fish" => Ok(fish()),
-        _ => Err(Failure::Usage(format!("There are completions for {}.", SHELLS.join(", ")))),
+        _ => Err(unknown()),
     }
+}
+
+/// Says which shells there are.
+pub fn unknown() -> Failure {
+    Failure::Usage(format!(
+        "There are completions for {}: `pevghazo completions {}` prints those.",
+        SHELLS.join(", "),
+        SHELLS[0]
+    ))
 }
 
 /// The words that may come first: the ends, and the commands of neither.
@@ -30,9 +39,9 @@ fn of_end(end: &str) -> impl Iterator<Item = &'static Command> {
     COMMANDS.iter().filter(move |command| command.end == end)
 }
 
-/// The options of a command, and those of every command line.
+/// The options of a command, and `--help`, which every command has.
 fn all_options(command: &'static Command) -> impl Iterator<Item = &'static Opt> {
-    command.options.iter().chain(&COMMON)
+    command.options.iter().chain(&COMMON[..1])
 }
 
 /// Words with spaces between them.
@@ -56,26 +65,35 @@ fn bash() -> String {
     let mut text = String::from(
         "# Completions of pevghazo for bash; `pevghazo completions bash` prints them.\n\
          _pevghazo() {\n    \
-             local word before end='' name='' i skip=''\n    \
-             word=${COMP_WORDS[COMP_CWORD]}\n    \
-             before=${COMP_WORDS[COMP_CWORD-1]}\n    \
+             local word before prefix='' help='' end='' name='' i skip=''\n    \
              COMPREPLY=()\n    \
-             for ((i = 1; i < COMP_CWORD; i++)); do\n        \
+             # `--name=value` comes as three words where `=` is a word break, and as one where it is not.\n    \
+             local -a all=()\n    \
+             for ((i = 1; i <= COMP_CWORD; i++)); do\n        \
+                 word=${COMP_WORDS[i]}\n        \
+                 if [[ $word == = && ${COMP_WORDS[i-1]} == --* ]]; then\n            \
+                     ((i < COMP_CWORD)) || all+=('')\n        \
+                 elif [[ $word == --*=* ]]; then all+=(\"${word%%=*}\" \"${word#*=}\")\n        \
+                 else all+=(\"$word\"); fi\n    \
+             done\n    \
+             [[ $word == --*=* ]] && prefix=${word%%=*}=\n    \
+             word=${all[-1]}\n    \
+             before=''\n    \
+             ((${#all[@]} < 2)) || before=${all[-2]}\n    \
+             unset 'all[-1]'\n    \
+             for i in \"${all[@]}\"; do\n        \
                  if [[ -n $skip ]]; then skip=''; continue; fi\n        \
-                 case ${COMP_WORDS[i]} in\n            \
+                 case $i in\n            \
                      ",
     );
     let _ = writeln!(text, "{}) skip=1 ;;", with_value(|value| value != Value::None));
     text.push_str("            -*) ;;\n");
+    let _ = writeln!(text, "            {}) [[ -z $end$name ]] && end=$i || name=$i ;;", ENDS.join("|"));
+    text.push_str("            help) [[ -z $help$end$name ]] && help=1 || name=$i ;;\n");
+    text.push_str("            *) name=$i ;;\n        esac\n    done\n    case $before in\n");
     let _ = writeln!(
         text,
-        "            {}) [[ -z $end$name ]] && end=${{COMP_WORDS[i]}} || name=${{COMP_WORDS[i]}} ;;",
-        ENDS.join("|")
-    );
-    text.push_str("            *) name=${COMP_WORDS[i]} ;;\n        esac\n    done\n    case $before in\n");
-    let _ = writeln!(
-        text,
-        "        {}) compopt -o filenames; mapfile -t COMPREPLY < <(compgen -f -- \"$word\"); return ;;",
+        "        {}) compopt -o filenames; mapfile -t COMPREPLY < <(compgen -P \"$prefix\" -f -- \"$word\"); return ;;",
         with_value(|value| value == Value::File)
     );
     let _ = writeln!(
@@ -83,7 +101,7 @@ fn bash() -> String {
         "        {}) return ;;\n    esac\n    local words",
         with_value(|value| !matches!(value, Value::None | Value::File))
     );
-    text.push_str("    case \"$end $name\" in\n");
+    text.push_str("    [[ -n $help && -n $name ]] && return\n    case \"$end $name\" in\n");
     let _ = writeln!(
         text,
         "        ' ') words='{} --help --version' ;;",
@@ -98,7 +116,7 @@ fn bash() -> String {
         let _ = writeln!(text, "        '{} {}') words='{options}' ;;", command.end, command.name);
     }
     text.push_str(
-        "        *) words='' ;;\n    esac\n    mapfile -t COMPREPLY < <(compgen -W \"$words\" -- \"$word\")\n}\n\
+        "        *) words='' ;;\n    esac\n    [[ -n $help ]] && words=${words%% --*}\n    mapfile -t COMPREPLY < <(compgen -W \"$words\" -- \"$word\")\n}\n\
          complete -F _pevghazo pevghazo\n",
     );
     text
@@ -135,14 +153,16 @@ fn zsh_words(text: &mut String, label: &str, words: impl Iterator<Item = (&'stat
 fn zsh() -> String {
     let mut text = String::from(
         "#compdef pevghazo\n# Completions of pevghazo for zsh; `pevghazo completions zsh` prints them.\n\
-         _pevghazo() {\n    local -a words_of\n    local end='' name='' word skip=''\n    \
+         _pevghazo() {\n    local -a words_of\n    local help='' end='' name='' word skip=''\n    \
          for word in ${words[2,CURRENT-1]}; do\n        \
          if [[ -n $skip ]]; then skip=''; continue; fi\n        case $word in\n",
     );
     let _ = writeln!(text, "            {}) skip=1 ;;\n            -*) ;;", with_value(|value| value != Value::None));
     let _ = writeln!(text, "            {}) [[ -z $end$name ]] && end=$word ;;", ENDS.join("|"));
     text.push_str(
-        "            *) [[ -z $name ]] && name=$word ;;\n        esac\n    done\n    case \"$end $name\" in\n        ' ') ",
+        "            help) [[ -z $help$end$name ]] && help=1 || name=$word ;;\n            \
+         *) [[ -z $name ]] && name=$word ;;\n        esac\n    done\n    \
+         [[ -n $help && -n $name ]] && return\n    case \"$end $name\" in\n        ' ') ",
     );
     zsh_words(&mut text, "command", first_words());
     for end in ENDS {
@@ -167,8 +187,10 @@ fn fish() -> String {
         "# Completions of pevghazo for fish; `pevghazo completions fish` prints them.\ncomplete -c pevghazo -f\n",
     );
     let ends = ENDS.join(" ");
-    let lone = joined(of_end("").map(|command| command.name.to_string()));
-    let none_yet = format!("not __fish_seen_subcommand_from {ends} {lone}");
+    let lone: Vec<&str> = of_end("").map(|command| command.name).collect();
+    // After `help` the words of a command follow.
+    let none_yet = lone.iter().filter(|name| **name != "help").fold(ends, |all, name| all + " " + name);
+    let none_yet = format!("not __fish_seen_subcommand_from {none_yet}");
     for (word, about) in first_words() {
         let _ = writeln!(text, "complete -c pevghazo -n '{none_yet}' -a {word} -d '{}'", fish_text(&about));
     }
@@ -186,6 +208,7 @@ fn fish() -> String {
             );
             format!("{end}; and __fish_seen_subcommand_from {}", command.name)
         };
+        let seen = format!("{seen}; and not __fish_seen_subcommand_from help");
         for option in command.options {
             let value = match option.value {
                 Value::None => "",
@@ -196,9 +219,12 @@ fn fish() -> String {
             let _ = writeln!(text, "complete -c pevghazo -n '{seen}' -l {}{value} -d '{about}'", option.name);
         }
     }
-    for option in &COMMON {
+    for (place, option) in COMMON.iter().enumerate() {
         let letter = option.letter.map(|letter| format!(" -s {letter}")).unwrap_or_default();
-        let _ = writeln!(text, "complete -c pevghazo{letter} -l {} -d '{}'", option.name, fish_text(option.about));
+        // The version goes with no command.
+        let when = if place == 0 { String::new() } else { format!(" -n '{none_yet} help'") };
+        let about = fish_text(option.about);
+        let _ = writeln!(text, "complete -c pevghazo{when}{letter} -l {} -d '{about}'", option.name);
     }
     text
 }

@@ -4,7 +4,7 @@ use std::path::{Path, PathBuf};
 use std::{fmt, io};
 
 use pevghazo::{Number, Refusal};
-use pevghazo_store as store;
+use pevghazo_store::{self as store, shown};
 
 /// Why a command failed. The display is one or more plain sentences.
 #[derive(Debug)]
@@ -29,6 +29,13 @@ pub enum Failure {
         /// What the system said.
         source: io::Error,
     },
+    /// An output is whole and in its place, but the disk did not confirm its name.
+    NotSynced {
+        /// The output.
+        path: PathBuf,
+        /// What the system said.
+        source: io::Error,
+    },
     /// Others may read a key.
     OpenKey(PathBuf),
     /// There is a file in the place of an output.
@@ -48,7 +55,7 @@ pub enum Failure {
     UsedKey,
     /// The proved library refused the call.
     Refused(Refusal),
-    /// The library found a wrong tag, and the day's count could not be committed.
+    /// The library found a wrong tag, and the day's count could not be committed, or not as it should.
     NotCounted(Refusal, store::Error),
     /// The call was made and is in the state file, but what belongs to it was not handed out.
     Kept {
@@ -59,7 +66,7 @@ pub enum Failure {
         /// What hindered it.
         source: Box<Failure>,
     },
-    /// Everything was handed out, but this could not be noted in the state file.
+    /// Everything was handed out, but this could not be noted in the state file, or not as it should.
     NotNoted(store::Error),
     /// The demo did not go as it should.
     Demo(&'static str),
@@ -79,7 +86,11 @@ impl Failure {
             Failure::Usage(_) => 2,
             Failure::State(store::Error::Older { .. }) => 8,
             Failure::State(_) | Failure::Content { .. } | Failure::NotCounted(..) | Failure::NotNoted(_) => 3,
-            Failure::File { .. } | Failure::OpenKey(_) | Failure::OutputExists(_) | Failure::LargeInput(_) => 4,
+            Failure::File { .. }
+            | Failure::NotSynced { .. }
+            | Failure::OpenKey(_)
+            | Failure::OutputExists(_)
+            | Failure::LargeInput(_) => 4,
             Failure::NotNow(_) => 5,
             Failure::OtherGroup { .. } => 6,
             Failure::UsedKey => 7,
@@ -107,15 +118,20 @@ impl fmt::Display for Failure {
             Failure::Usage(sentence) | Failure::NotNow(sentence) => f.write_str(sentence),
             Failure::State(error @ store::Error::Older { .. }) => write!(f, "{error} {OLDER}"),
             Failure::State(error) => error.fmt(f),
-            Failure::Content { path, what } => write!(f, "The state file {} cannot be used: {what}.", path.display()),
-            Failure::File { what, path, source } => write!(f, "Could not {what} {}: {source}.", path.display()),
+            Failure::Content { path, what } => write!(f, "The state file {} cannot be used: {what}.", shown(path)),
+            Failure::File { what, path, source } => write!(f, "Could not {what} {}: {source}.", shown(path)),
+            Failure::NotSynced { path, source } => write!(
+                f,
+                "{} is there and whole, but the disk did not confirm its name: {source}. A power failure may take it away.",
+                shown(path)
+            ),
             Failure::OpenKey(path) => {
-                write!(f, "Others may read or write the key file {}: take that away with chmod 600.", path.display())
+                write!(f, "Others may read or write the key file {}: take that away with chmod 600.", shown(path))
             }
             Failure::OutputExists(path) => {
-                write!(f, "There is a file {} already: remove it or choose another output.", path.display())
+                write!(f, "There is a file {} already: remove it or choose another output.", shown(path))
             }
-            Failure::LargeInput(path) => write!(f, "{} is too large to hold an envelope.", path.display()),
+            Failure::LargeInput(path) => write!(f, "{} is too large to hold an envelope.", shown(path)),
             Failure::OtherGroup { asked, own } => {
                 write!(f, "This is for group {asked}, and the state file is that of group {own}.")
             }
@@ -123,11 +139,13 @@ impl fmt::Display for Failure {
             Failure::Refused(refusal) => refused(f, refusal),
             Failure::NotCounted(refusal, error) => {
                 refused(f, refusal)?;
-                write!(f, " Its count could not be added to the day's: {error}")
+                let not_added = if error.is_committed() { "" } else { "Its count could not be added to the day's: " };
+                write!(f, " {not_added}{error}")
             }
             Failure::Kept { what, command, source } => {
                 write!(f, "{source} The {what} is kept in the state file: hand it out with `{command}`.")
             }
+            Failure::NotNoted(error) if error.is_committed() => write!(f, "Everything was handed out. {error}"),
             Failure::NotNoted(error) => {
                 write!(f, "Everything was handed out, but this could not be noted: {error}")
             }

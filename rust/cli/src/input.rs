@@ -1,11 +1,12 @@
 //! Reading inputs: files, the standard input and keys. What was read is wiped after its use.
 
 use std::fs::File;
+use std::os::unix::ffi::OsStrExt;
 use std::os::unix::fs::MetadataExt;
 use std::path::Path;
 
 use pevghazo::{KEY_MAX, TEXT_MAX};
-use pevghazo_store::Secret;
+use pevghazo_store::{Secret, shown};
 
 use crate::arguments::Arguments;
 use crate::failure::Failure;
@@ -22,6 +23,14 @@ pub fn check_names(arguments: &Arguments) -> Result<(), Failure> {
     let standard = INPUTS.iter().filter_map(|name| arguments.value(name)).filter(|name| is_standard(Path::new(name)));
     if standard.count() > 1 {
         return Err(Failure::Usage("Only one input may be `-`, the standard input.".to_string()));
+    }
+    Ok(())
+}
+
+/// Refuses the name of a folder where a file is meant.
+pub fn check_name(name: &Path) -> Result<(), Failure> {
+    if name.as_os_str().as_bytes().ends_with(b"/") {
+        return Err(Failure::Usage(format!("{} is the name of a folder: name a file.", shown(name))));
     }
     Ok(())
 }

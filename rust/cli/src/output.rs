@@ -6,16 +6,17 @@
 //! A file that is there already is left alone: it may be the output of a run that was killed after it had done everything, and
 //! the next message in its place would be the loss of that one.
 
-use std::fs::{self, File, OpenOptions};
-use std::io::{self, ErrorKind, IsTerminal, Write, stderr};
+use std::fs::{self, File, Metadata, OpenOptions};
+use std::io::{self, ErrorKind, IsTerminal, Write, stderr, stdout};
+use std::os::unix::fs::{FileTypeExt, MetadataExt};
 use std::path::{Path, PathBuf};
 
 use pevghazo_store::fault::step;
-use pevghazo_store::{Secret, new_file};
+use pevghazo_store::{Secret, new_file, shown};
 
 use crate::arguments::Arguments;
 use crate::failure::Failure;
-use crate::input::is_standard;
+use crate::input::{check_name, is_standard};
 use crate::streams;
 
 /// Prints a text on the standard output.
@@ -54,8 +55,8 @@ pub enum Time {
 
 impl Output {
     /// The output of an option, if it was given. What can be known of its place is checked here, before anything is altered;
-    /// it is not one of the state file's own paths.
-    pub fn of(arguments: &Arguments, option: &str, own: &[PathBuf]) -> Result<Option<Output>, Failure> {
+    /// it is not one of the state file's `own` paths.
+    pub fn of(arguments: &Arguments, option: &str, own: impl Fn(&Path) -> bool) -> Result<Option<Output>, Failure> {
         let Some(name) = arguments.value(option).map(Path::new) else { return Ok(None) };
         if is_standard(name) {
             streams::check_output().map_err(Failure::file("write to", Path::new(STANDARD)))?;
@@ -64,12 +65,10 @@ impl Output {
         if fs::metadata(name).is_ok_and(|metadata| !metadata.is_file() && !metadata.is_dir()) {
             return Ok(Some(Output::Direct(name.to_path_buf())));
         }
+        check_name(name)?;
         let path = place(name).map_err(Failure::file("find the place of", name))?;
-        if own.contains(&path) {
-            return Err(Failure::Usage(format!(
-                "{} belongs to the state file: choose another output.",
-                name.display()
-            )));
+        if own(&path) {
+            return Err(Failure::Usage(format!("{} belongs to the state file: choose another output.", shown(name))));
         }
         if path.is_dir() {
             return Err(Failure::file("write to", name)(io::Error::from(ErrorKind::IsADirectory)));
@@ -77,11 +76,42 @@ impl Output {
         Ok(Some(Output::File(path)))
     }
 
-    /// Refuses a file that is there already.
+    /// Refuses a file that is there already. A second name of it, which a kill leaves, is removed.
     pub fn must_be_new(&self) -> Result<(), Failure> {
         match self {
-            Output::File(path) if path.exists() => Err(Failure::OutputExists(path.clone())),
+            Output::File(path) if path.exists() => {
+                new_file::remove_leftovers(path);
+                Err(Failure::OutputExists(path.clone()))
+            }
             _ => Ok(()),
+        }
+    }
+
+    /// Whether two outputs are one, by whichever names. What goes to `/dev/null` does not mix.
+    pub fn is_same(&self, other: &Output) -> bool {
+        match (self.metadata(), other.metadata()) {
+            (Ok(own), Ok(other)) if (own.dev(), own.ino()) == (other.dev(), other.ino()) => !is_null(&own),
+            _ => self == other,
+        }
+    }
+
+    /// What is known of the place where it goes, if there is something.
+    fn metadata(&self) -> io::Result<Metadata> {
+        match self {
+            Output::Standard => streams::output()?.metadata(),
+            Output::File(path) | Output::Direct(path) => fs::metadata(path),
+        }
+    }
+
+    /// Whether it goes to a terminal.
+    pub fn is_terminal(&self) -> bool {
+        match self {
+            Output::Standard => stdout().is_terminal(),
+            Output::File(_) => false,
+            Output::Direct(path) => {
+                fs::metadata(path).is_ok_and(|metadata| metadata.file_type().is_char_device())
+                    && OpenOptions::new().write(true).open(path).is_ok_and(|file| file.is_terminal())
+            }
         }
     }
 
@@ -113,7 +143,14 @@ fn write_file(path: &Path, bytes: &[u8], time: Time) -> Result<(), Failure> {
             _ => Failure::file("write", path)(error),
         })?;
     }
-    new_file::sync_name(path).map_err(Failure::file("sync the folder of", path))
+    new_file::sync_name(path).map_err(|source| Failure::NotSynced { path: path.to_path_buf(), source })
+}
+
+/// Whether it is `/dev/null`.
+fn is_null(metadata: &Metadata) -> bool {
+    metadata.file_type().is_char_device()
+        && fs::metadata("/dev/null")
+            .is_ok_and(|null| null.file_type().is_char_device() && null.rdev() == metadata.rdev())
 }
 
 /// Whether a file has just these bytes.

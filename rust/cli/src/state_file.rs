@@ -1,12 +1,13 @@
 //! Opening, locking and committing a state file.
 
-use std::path::PathBuf;
+use std::path::Path;
 use std::time::Duration;
 
 use pevghazo_store::{Error, Presence, Store, Wait};
 
 use crate::arguments::Arguments;
 use crate::failure::Failure;
+use crate::input::{check_name, is_standard};
 use crate::state::State;
 
 /// How many seconds to wait for another program that uses the state file.
@@ -29,30 +30,26 @@ impl<S: State> Used<S> {
         Ok(Used { store, state })
     }
 
-    /// Commits the state: it is on the disk after this, or the failure says how far it got.
+    /// Commits the state: it is on the disk after this, or the failure says how far it got. What the old file holds on the disk,
+    /// which may be a message, is overwritten.
     pub fn commit(&mut self) -> Result<(), Error> {
-        self.store.commit(&self.state.encode())
+        self.store.commit_and_wipe(&self.state.encode())
     }
 
     /// Commits the state if it differs from what the file holds.
     pub fn commit_if_altered(&mut self) -> Result<(), Error> {
         let bytes = self.state.encode();
-        if self.store.bytes() == Some(&bytes[..]) { Ok(()) } else { self.store.commit(&bytes) }
+        if self.store.bytes() == Some(&bytes[..]) { Ok(()) } else { self.store.commit_and_wipe(&bytes) }
     }
 
-    /// Commits the state, and overwrites what the old file holds on the disk.
-    pub fn commit_and_wipe(&mut self) -> Result<(), Error> {
-        self.store.commit_and_wipe(&self.state.encode())
-    }
-
-    /// The number of the last commit.
+    /// The number of the commit that the file is of.
     pub fn generation(&self) -> u64 {
-        self.store.generation()
+        self.store.own_generation()
     }
 
-    /// The paths that no output may take: the state file's and its lock file's.
-    pub fn own_paths(&self) -> [PathBuf; 2] {
-        self.store.own_paths()
+    /// Whether a path is one that no output may take: the state file's, its lock file's, or one of its temporary files'.
+    pub fn is_own(&self, path: &Path) -> bool {
+        self.store.is_own(path)
     }
 }
 
@@ -65,7 +62,11 @@ pub fn create(arguments: &Arguments, state: &impl State) -> Result<(), Failure> 
 fn open(arguments: &Arguments, presence: Presence) -> Result<Store, Failure> {
     let seconds = arguments.number("wait")?.unwrap_or(WAIT_SECONDS);
     let wait = Wait::AtMost(Duration::from_secs(u64::from(seconds)));
-    let path = arguments.required("state")?;
+    let path = Path::new(arguments.required("state")?);
+    if is_standard(path) {
+        return Err(Failure::Usage("A state file is never `-`: name a file.".to_string()));
+    }
+    check_name(path)?;
     Ok(if arguments.has("restore") && presence == Presence::MustExist {
         Store::restore(path, wait)?
     } else {

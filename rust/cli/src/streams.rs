@@ -66,13 +66,19 @@ pub fn check_output() -> io::Result<()> {
     if NO_OUTPUT.load(Ordering::Relaxed) { Err(io::Error::other("it is closed")) } else { Ok(()) }
 }
 
+/// The standard output, to be looked at.
+pub fn output() -> io::Result<File> {
+    check_output()?;
+    Ok(File::from(stdout().as_fd().try_clone_to_owned()?))
+}
+
 /// The standard output. Where it is closed, every write fails.
 pub struct StandardOutput(Option<File>);
 
 impl StandardOutput {
     /// The standard output that the program was started with.
     pub fn new() -> StandardOutput {
-        StandardOutput(check_output().and_then(|()| stdout().as_fd().try_clone_to_owned()).ok().map(File::from))
+        StandardOutput(output().ok())
     }
 }
 

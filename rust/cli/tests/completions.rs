@@ -19,7 +19,9 @@ fn the_committed_files_are_those_of_the_table() {
         let committed = std::fs::read_to_string(&path).unwrap_or_default();
         assert!(committed == made, "{file} differs: `pevghazo completions {shell} > completions/{file}` writes it");
     }
-    folder.fails(2, "completions csh");
+    for line in ["completions csh", "completions", "completions bash zsh", "completions --help"] {
+        assert!(folder.fails(2, line).contains("There are completions for bash, zsh, fish: "), "{line}");
+    }
 }
 
 /// What bash offers after these words, the last of which is being typed.
@@ -50,4 +52,17 @@ fn bash_offers_words_options_and_files() {
     assert_eq!(offered(&folder, &["office", "day", "--allowance", ""]), [""; 0]);
     assert!(offered(&folder, &["group", "--state", "office", "seal", "--o"]).contains(&"--out".to_string()));
     assert_eq!(offered(&folder, &["keygen", "--o"]), ["--out"]);
+    assert_eq!(offered(&folder, &["--v"]), ["--version"]);
+    assert_eq!(offered(&folder, &["office", "day", "--v"]), [""; 0]);
+    // The words of a command after `help`.
+    assert_eq!(offered(&folder, &["help", ""]), ["office", "group", "keygen", "demo", "help"]);
+    assert_eq!(offered(&folder, &["help", "office", "op"]), ["open-group", "open"]);
+    assert_eq!(offered(&folder, &["help", "office", "open", ""]), [""; 0]);
+    // A value after `=`, which may be a word of its own.
+    assert_eq!(offered(&folder, &["office", "day", "--state", "=", "of"]), ["office.state"]);
+    assert_eq!(offered(&folder, &["office", "day", "--state=of"]), ["--state=office.state"]);
+    assert_eq!(offered(&folder, &["office", "day", "--state", "="]), ["office.state"]);
+    assert_eq!(offered(&folder, &["office", "--state", "=", "office.state", "da"]), ["day"]);
+    assert_eq!(offered(&folder, &["office", "--state=office.state", "da"]), ["day"]);
+    assert_eq!(offered(&folder, &["office", "day", "--allowance", "=", "1"]), [""; 0]);
 }

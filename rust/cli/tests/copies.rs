@@ -30,6 +30,9 @@ fn a_state_file_that_was_copied_back_is_refused() {
         }
         // Looking at it does not make it the newest.
         folder.done(&format!("{name} --state {name} show --restore"));
+        let commit = if name == "office" { 3 } else { 1 };
+        let shown = folder.done(&format!("{name} --state {name} show --restore --json"));
+        assert!(shown.starts_with(&format!("{{\"commit\":{commit},")), "its own number: {shown}");
         folder.fails(8, &format!("{name} --state {name} show"));
         folder.write(name, &newest);
         folder.done(&format!("{name} --state {name} show"));
@@ -94,6 +97,71 @@ fn no_file_of_the_user_is_removed_or_altered() {
         assert!(!std::path::Path::new(&format!("{state}.lock")).exists());
     }
     assert_eq!(folder.names(), names);
+}
+
+/// Temporary files of outputs: what a kill leaves is removed, and what only looks like it stays.
+#[test]
+fn leftovers_of_outputs() {
+    let folder = Folder::new();
+    let others = [".key.pevghazo-out-0123456789abcdef", ".key.pevghazo-out-00000000"];
+    for name in others {
+        folder.write(name, name.as_bytes());
+    }
+    let temporaries = || -> Vec<String> {
+        let names = folder.names().into_iter().filter(|name| name.contains(".pevghazo-"));
+        names.filter(|name| !others.contains(&name.as_str())).collect()
+    };
+    let keygen = "keygen --out key";
+    let log = folder.run_with("log", "keygen --out other").said;
+    let step = |name: &str| 1 + log.lines().position(|line| line.ends_with(name)).unwrap();
+    // Before the link there is a temporary file alone, and after it the key with a second name.
+    for (name, made) in [("link the output", false), ("remove the temporary name", true)] {
+        assert!(folder.run_with(&format!("abort@{}", step(name)), keygen).signal.is_some());
+        let left = temporaries();
+        assert_eq!((left.len(), folder.read("key").is_some()), (1, made));
+        if made {
+            assert!(folder.fails(4, keygen).contains("There is a file "));
+        } else {
+            // One that has another name, or is open to others, is not as this program leaves it.
+            let path = folder.0.join(&left[0]);
+            fs::hard_link(&path, folder.0.join("second")).unwrap();
+            folder.done(keygen);
+            assert_eq!(temporaries(), left);
+            fs::remove_file(folder.0.join("second")).unwrap();
+            fs::set_permissions(&path, Permissions::from_mode(0o644)).unwrap();
+            folder.done_anew(keygen);
+            assert_eq!(temporaries(), left);
+            fs::set_permissions(&path, Permissions::from_mode(0o600)).unwrap();
+            folder.done_anew(keygen);
+            fs::remove_file(folder.0.join("key")).unwrap();
+        }
+        assert_eq!(temporaries(), [""; 0]);
+    }
+    for name in others {
+        assert_eq!(folder.read(name).unwrap(), name.as_bytes(), "{name}");
+    }
+}
+
+/// A lock file that was made for a command that is refused does not stay.
+#[test]
+fn a_refused_opening_leaves_no_lock_file() {
+    let folder = Folder::new();
+    folder.done("office --state office create");
+    fs::hard_link(folder.0.join("office"), folder.0.join("second")).unwrap();
+    for name in ["second", "office"] {
+        assert!(folder.fails(3, &format!("office --state {name} show")).contains("has a second name"));
+    }
+    // Each step of a creation, as on a full disk; but what could not be locked may be another's.
+    let log = folder.run_with("log", "office --state new create").said;
+    let steps = log.lines().enumerate().filter(|(_, line)| !line.ends_with(": locked") && !line.ends_with(": end"));
+    for n in steps.map(|(place, _)| place + 1) {
+        let state = format!("new-{n}");
+        assert_eq!(folder.run_with(&format!("fail@{n}"), &format!("office --state {state} create")).status, 3);
+        let names = folder.names();
+        assert_eq!(names.contains(&format!("{state}.lock")), names.contains(&state), "step {n}");
+    }
+    let names = folder.names();
+    assert!(names.contains(&"office.lock".to_string()) && !names.contains(&"second.lock".to_string()));
 }
 
 #[test]

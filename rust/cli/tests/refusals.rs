@@ -352,7 +352,8 @@ fn inputs_and_outputs_that_cannot_be_used() {
     }
     // Outputs in the place of something that would be lost.
     symlink("office", folder.0.join("office-link")).unwrap();
-    for out in ["office", "office.lock", "./office", "office-link"] {
+    let temporary = ".office.pevghazo-0123456789abcdef";
+    for out in ["office", "office.lock", "./office", "office-link", temporary, "./.office.pevghazo-1"] {
         folder.fails(2, &format!("office --state office seal --group 5 --message text --out {out}"));
     }
     let own = folder.0.file_name().unwrap().to_str().unwrap();
@@ -367,6 +368,67 @@ fn inputs_and_outputs_that_cannot_be_used() {
     folder.fails(2, "office --state office seal --group 5 --message text --metadata text --metadata-text a --out out");
     assert!((folder.read("office"), folder.read("text").unwrap()) == (before, b"20001".to_vec()));
     assert_eq!(folder.read("out"), None);
+}
+
+/// The standard output and a file by two names, and what is no name of a file.
+#[test]
+fn names_that_are_not_what_they_seem() {
+    let folder = Folder::pair(5);
+    folder.write("text", b"20001");
+    let seal = "office --state office seal --group 5 --message text --metadata-text size --out";
+    folder.done(&format!("{seal} envelope"));
+    let before = folder.read("group");
+    let open = "group --state group open --in envelope";
+    for line in ["--out - --metadata-out /dev/stdout", "--out /dev/stdout --metadata-out -", "--out - --metadata-out -"]
+    {
+        assert!(folder.fails(2, &format!("{open} {line}")).contains("to the same output"), "{line}");
+    }
+    assert!(folder.read("group") == before);
+    folder.done(&format!("{open} --out /dev/null --metadata-out /dev/null"));
+    let redirected = folder.command_after("exec >into", "group --state group reread --out - --metadata-out into");
+    assert_eq!(Run::of(redirected).status, 2);
+    fs::remove_file(folder.0.join("into")).unwrap();
+    let names = folder.names();
+    for line in [
+        "office --state - create",
+        "office --state - show",
+        "group --state - start --group 5 --key key",
+        "office --state new/ create",
+        "office --state office/ show",
+        "keygen --out new/",
+        "group --state group reread --out new/",
+        "group --state new start --group 5 --key key --restore",
+    ] {
+        folder.fails(2, line);
+    }
+    assert_eq!(folder.names(), names);
+}
+
+/// What is said holds no control characters, whatever a file is called.
+#[test]
+fn paths_are_shown_without_control_characters() {
+    let folder = Folder::new();
+    let name = "red\u{1b}[31m\u{202e}\nline";
+    for words in [["office", "show", "--state", name], ["office", "create", "--state", &format!("{name}/x")]] {
+        let mut command = folder.command("");
+        command.args(words);
+        let run = Run::of(command);
+        assert_eq!(run.status, 3);
+        assert!(run.said.contains("red\\u{1b}[31m\\u{202e}\\nline"), "{}", run.said);
+        assert_eq!(run.said.chars().filter(|letter| letter.is_control()).count(), 1, "{}", run.said);
+    }
+}
+
+/// An output whose name is not known to be on the disk is there all the same.
+#[test]
+fn an_output_that_was_not_confirmed_is_said_to_be_there() {
+    let folder = Folder::new();
+    let log = folder.run_with("log", "keygen --out key").said;
+    let step = 1 + log.lines().position(|line| line.ends_with("sync the output's folder")).unwrap();
+    let run = folder.run_with(&format!("fail@{step}"), "keygen --out other");
+    assert_eq!(run.status, 4);
+    assert!(run.said.contains("other is there and whole, but the disk did not confirm its name: "), "{}", run.said);
+    assert_eq!(folder.read("other").unwrap().len(), 32);
 }
 
 #[test]

@@ -109,6 +109,11 @@ pub enum Damage {
 }
 
 impl Error {
+    /// Whether the new state of a commit is in its place all the same.
+    pub fn is_committed(&self) -> bool {
+        matches!(self, Error::NotSynced { .. } | Error::NotWiped { .. })
+    }
+
     /// The file that the error is about.
     pub fn path(&self) -> &Path {
         match self {
@@ -143,7 +148,7 @@ impl fmt::Display for Damage {
 
 impl fmt::Display for Error {
     fn fmt(&self, f: &mut fmt::Formatter<'_>) -> fmt::Result {
-        let path = self.path().display();
+        let path = shown(self.path());
         match self {
             Error::Missing { .. } => write!(f, "There is no state file {path}."),
             Error::Exists { .. } => write!(f, "There is a state file {path} already."),
@@ -169,7 +174,10 @@ impl fmt::Display for Error {
             Error::Damaged { damage, .. } => write!(f, "The state file {path} cannot be used: {damage}."),
             Error::System { what, source, .. } => write!(f, "Could not {what} {path}: {source}."),
             Error::NotWiped { source, .. } => {
-                write!(f, "The new state is in {path}, but the bytes of the old one were not overwritten: {source}.")
+                write!(
+                    f,
+                    "The new state is in {path}, but the bytes of the old one were not overwritten: {source}. The next command tries again."
+                )
             }
             Error::NotSynced { source, .. } => write!(
                 f,
@@ -188,6 +196,21 @@ impl std::error::Error for Error {
             _ => None,
         }
     }
+}
+
+/// A path as a sentence has it: control characters are escaped, so that none reaches a terminal.
+pub fn shown(path: &Path) -> String {
+    let mut text = String::new();
+    for letter in path.to_string_lossy().chars() {
+        if letter.is_control()
+            || matches!(letter, '\u{2028}' | '\u{2029}' | '\u{202a}'..='\u{202e}' | '\u{2066}'..='\u{2069}')
+        {
+            text.extend(letter.escape_default());
+        } else {
+            text.push(letter);
+        }
+    }
+    text
 }
 
 /// Makes an error of a failed operation of the system.

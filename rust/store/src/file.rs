@@ -12,22 +12,50 @@ use crate::fault::step;
 use crate::format::{self, MAX_BYTES};
 use crate::secret::Secret;
 use crate::system::{self, NO_FOLLOW, NO_WAIT};
-use crate::temporary::{self, Kind};
+use crate::temporary::{self, Kind, is_at, owner_only, wipe_file};
 
-/// Overwrites a file that has no name any more.
-pub(crate) fn wipe_file(file: &File) -> io::Result<()> {
-    let metadata = file.metadata()?;
-    if metadata.nlink() != 0 {
-        return Err(ErrorKind::InvalidInput.into());
+/// Opens the state file for the overwriting of its bytes once another has taken its place.
+pub(crate) fn open_old(path: &Path) -> Result<File, Error> {
+    let for_writing = || OpenOptions::new().write(true).custom_flags(NO_FOLLOW | NO_WAIT).open(path);
+    let old = match for_writing() {
+        // One that its owner may only read.
+        Err(error) if error.kind() == ErrorKind::PermissionDenied => {
+            owner_only(&open(path)?).and_then(|()| for_writing())
+        }
+        old => old,
+    };
+    old.map_err(failed("open the old file", path))
+}
+
+/// Removes a leftover that starts as a state file does, and overwrites it before, as far as that works.
+fn wipe_leftover(name: &Path) -> io::Result<()> {
+    if let Ok(file) = OpenOptions::new().write(true).custom_flags(NO_FOLLOW | NO_WAIT).open(name)
+        && is_at(&file, name)
+    {
+        let _ = wipe_behind_start(&file);
     }
-    const ZEROS: [u8; 4_096] = [0; 4_096];
-    let mut place = 0;
-    while place < metadata.len() {
-        let length = ZEROS.len().min((metadata.len() - place) as usize);
-        step("wipe the old file", || file.write_all_at(&ZEROS[..length], place))?;
-        place += length as u64;
+    step("remove a leftover", || fs::remove_file(name))
+}
+
+/// Overwrites a state file that has a temporary name, and leaves its start: it stays known as a leftover.
+fn wipe_behind_start(file: &File) -> io::Result<()> {
+    wipe_file(file, format::START.len() as u64, 1)
+}
+
+/// Gives a temporary file the place of the state file. The old one gets the temporary name, and is a leftover until it is
+/// overwritten and removed; gives whether it has that name, which not every file system is able to do.
+pub(crate) fn change_places(new: &Path, path: &Path) -> io::Result<bool> {
+    if system::exchange(new, path).is_ok() { Ok(true) } else { fs::rename(new, path).map(|()| false) }
+}
+
+/// Overwrites the old file, and removes the temporary name that it may have.
+pub(crate) fn wipe_old(old: &File, name: Option<&Path>) -> io::Result<()> {
+    match name {
+        // Not the file that was opened: somebody has put another in its place.
+        Some(name) if !is_at(old, name) => Err(ErrorKind::InvalidInput.into()),
+        Some(name) => wipe_behind_start(old).and_then(|()| step("remove the old file", || fs::remove_file(name))),
+        None => wipe_file(old, 0, 0),
     }
-    step("sync the old file", || file.sync_all())
 }
 
 /// The path with an ending after its name.
@@ -120,7 +148,7 @@ pub(crate) fn place_new(new: &Path, path: &Path) -> io::Result<()> {
 /// Removes temporary names of the state file itself, which a kill between their link and their removal leaves.
 pub(crate) fn remove_second_names(path: &Path) -> Result<(), Error> {
     for (name, file) in temporary::found(path, Kind::State).map_err(failed("look for leftovers of", path))? {
-        if temporary::is_at(&file, path) {
+        if is_at(&file, path) {
             step("remove a second name", || fs::remove_file(&name)).map_err(failed("remove the leftover", &name))?;
         }
     }
@@ -132,7 +160,7 @@ pub(crate) fn remove_second_names(path: &Path) -> Result<(), Error> {
 pub(crate) fn remove_leftovers(path: &Path) -> Result<(), Error> {
     for (name, file) in temporary::found(path, Kind::State).map_err(failed("look for leftovers of", path))? {
         if starts_as_state(&file, false).map_err(failed("read the leftover", &name))? {
-            step("remove a leftover", || fs::remove_file(&name)).map_err(failed("remove the leftover", &name))?;
+            wipe_leftover(&name).map_err(failed("remove the leftover", &name))?;
         }
     }
     Ok(())

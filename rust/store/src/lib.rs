@@ -29,9 +29,11 @@
 //! Beside the state file `NAME` there are, in its folder:
 //!
 //! * `NAME.lock`, which carries the lock and the number of the last commit. It is never replaced, and must not be removed while
-//!   a program is running. One that is missing is made anew from the state file.
+//!   a program is running. One that is missing is made anew from the state file. An opening that is refused, and one that ends
+//!   without a state file, removes the lock file that it made.
 //! * `.NAME.pevghazo-` with 16 hexadecimal digits, only while a commit is on its way. One that a killed process left behind is
-//!   removed at the next opening, once the state file was found good, and only where it starts as a state file does.
+//!   overwritten and removed at the next opening, once the state file was found good, and only where it starts as a state file
+//!   does.
 //!
 //! All three are readable and writable by their owner only, from the moment they are created. No other file is altered or
 //! removed, whatever its name. A state file of another owner, and one in whose lock file's place something else stands, is
@@ -41,8 +43,11 @@
 //!
 //! The new bytes are written to the temporary file, which is synced (brought to the disk itself and not just to the system's
 //! memory), then renamed to `NAME`, which replaces the old file in one step, and then the folder is synced, so that the new
-//! name is on the disk too. Last, the commit's number, which the state file holds as well, is noted in the lock file. The folder
+//! name is on the disk too. Then the commit's number, which the state file holds as well, is noted in the lock file. The folder
 //! is also synced at opening: what is read is then safe, even if the process that wrote it was killed between its last steps.
+//!
+//! [`Store::commit_and_wipe`] exchanges the names of the two files instead, which is one step too, and last overwrites the old
+//! file and removes it.
 //!
 //! # A state file that was copied back
 //!
@@ -71,22 +76,22 @@ mod secret;
 mod system;
 mod temporary;
 
-use std::fs::{self, File, OpenOptions};
-use std::io::ErrorKind;
-use std::os::unix::fs::OpenOptionsExt;
+use std::fs::{self, File};
+use std::io::{self, ErrorKind};
 use std::path::{Path, PathBuf};
 use std::time::Duration;
 
 use error::failed;
-pub use error::{Damage, Error};
+pub use error::{Damage, Error, shown};
 use fault::step;
-use file::{beside, look, place_new, read, remove_leftovers, remove_second_names, resolve, wipe_file};
+use file::{
+    beside, change_places, look, open_old, place_new, read, remove_leftovers, remove_second_names, resolve, wipe_old,
+};
 pub use format::{MAX_BYTES, VERSION};
 use lock::Lock;
 pub use secret::Secret;
-use system::NO_FOLLOW;
 pub use system::{random, wipe, wipe_stack};
-use temporary::{Kind, Temporary};
+use temporary::{Kind, Temporary, looks_temporary};
 
 /// Whether a state file may, must or must not be there at opening.
 #[derive(Clone, Copy, Debug, PartialEq, Eq)]
@@ -118,6 +123,8 @@ pub struct Store {
     bytes: Option<Secret>,
     /// The number of the last commit.
     generation: u64,
+    /// The number of the file itself.
+    own_generation: u64,
     /// Unlocks when it is dropped, the last of the fields.
     lock: Lock,
 }
@@ -146,18 +153,20 @@ impl Store {
             if lock.number().is_none() {
                 lock.note(generation).map_err(noted)?;
             }
-            return Ok(Store { path, folder, bytes: None, generation, lock });
+            return Ok(Store { path, folder, bytes: None, generation, own_generation: 0, lock });
         }
         step("sync the folder at opening", || folder.sync_all()).map_err(failed("sync the folder", folder_path))?;
         remove_second_names(&path)?;
-        let (mut generation, bytes) = read(&path)?;
+        let (own_generation, bytes) = read(&path)?;
+        let mut generation = own_generation;
         match lock.number() {
             Some(last) if last > generation && !older => return Err(Error::Older { path, generation, last }),
             Some(last) if last >= generation => generation = last,
             _ => lock.note(generation).map_err(noted)?,
         }
         remove_leftovers(&path)?;
-        Ok(Store { path, folder, bytes: Some(bytes), generation, lock })
+        lock.keep();
+        Ok(Store { path, folder, bytes: Some(bytes), generation, own_generation, lock })
     }
 
     /// The bytes of the last commit, by whomever; none if there has been none yet.
@@ -165,9 +174,14 @@ impl Store {
         self.bytes.as_deref()
     }
 
-    /// The number of the last commit.
+    /// The number of the last commit, also where the file is an older copy.
     pub fn generation(&self) -> u64 {
         self.generation
+    }
+
+    /// The number of the commit that the file is of: a lower one where it is an older copy; 0 if there is no file yet.
+    pub fn own_generation(&self) -> u64 {
+        self.own_generation
     }
 
     /// The file's path, with symbolic links resolved.
@@ -175,9 +189,10 @@ impl Store {
         &self.path
     }
 
-    /// The paths of the state file and of its lock file.
-    pub fn own_paths(&self) -> [PathBuf; 2] {
-        [self.path.clone(), beside(&self.path, ".lock")]
+    /// Whether a path, with symbolic links resolved, is that of the state file or of its lock file, or one that a temporary file
+    /// may have.
+    pub fn is_own(&self, path: &Path) -> bool {
+        path == self.path || path == beside(&self.path, ".lock") || looks_temporary(path, &self.path)
     }
 
     /// Replaces the file's bytes.
@@ -186,6 +201,28 @@ impl Store {
     /// but a power failure may bring the old ones back; after any other error it holds the old bytes. [`Store::bytes`] says
     /// which, and in both cases another commit may be tried.
     pub fn commit(&mut self, bytes: &[u8]) -> Result<(), Error> {
+        self.replace(bytes, |new, path| fs::rename(new, path))
+    }
+
+    /// [`Store::commit`], and then sets the bytes of the old file, if there is one, to zero on the disk, as far as the file system
+    /// writes them to the place where they were. They are overwritten only once the new file is certain to be on the disk. Until
+    /// then the old file has a temporary name: where a kill or a failure comes before, the next opening overwrites it. On a file
+    /// system that cannot exchange two names it has none, and then stays on the disk.
+    pub fn commit_and_wipe(&mut self, bytes: &[u8]) -> Result<(), Error> {
+        if self.bytes.is_none() {
+            return self.commit(bytes);
+        }
+        let old = open_old(&self.path)?;
+        let mut name = None;
+        self.replace(bytes, |new, path| {
+            name = change_places(new, path)?.then(|| new.to_path_buf());
+            Ok(())
+        })?;
+        wipe_old(&old, name.as_deref()).map_err(|source| Error::NotWiped { path: self.path.clone(), source })
+    }
+
+    /// Replaces the file's bytes; `rename` gives the new file the place of the old one.
+    fn replace(&mut self, bytes: &[u8], rename: impl FnOnce(&Path, &Path) -> io::Result<()>) -> Result<(), Error> {
         if bytes.len() > MAX_BYTES {
             return Err(Error::TooLarge { path: self.path.clone(), bytes: bytes.len() as u64 });
         }
@@ -196,7 +233,7 @@ impl Store {
         let steps = ["write the first half", "write the second half", "sync the new file"];
         new.fill(&format::encode(generation, bytes), steps).map_err(failed("write the new file of", &self.path))?;
         let first = self.bytes.is_none();
-        step("rename", || if first { place_new(&new.path, &self.path) } else { fs::rename(&new.path, &self.path) })
+        step("rename", || if first { place_new(&new.path, &self.path) } else { rename(&new.path, &self.path) })
             .map_err(|error| match error.kind() {
                 ErrorKind::AlreadyExists => Error::Exists { path: self.path.clone() },
                 _ => failed("replace the file", &self.path)(error),
@@ -204,6 +241,8 @@ impl Store {
         new.renamed();
         self.bytes = Some(Secret::from(bytes));
         self.generation = generation;
+        self.own_generation = generation;
+        self.lock.keep();
         step("sync the folder", || self.folder.sync_all())
             .and_then(|()| self.lock.note(generation))
             .map_err(|source| Error::NotSynced { path: self.path.clone(), source })?;
@@ -212,14 +251,5 @@ impl Store {
             let _ = remove_leftovers(&self.path);
         }
         Ok(())
-    }
-
-    /// [`Store::commit`], and then sets the bytes of the old file to zero on the disk, as far as the file system writes them to
-    /// the place where they were.
-    pub fn commit_and_wipe(&mut self, bytes: &[u8]) -> Result<(), Error> {
-        let old = OpenOptions::new().write(true).custom_flags(NO_FOLLOW).open(&self.path);
-        let old = old.map_err(failed("open the old file", &self.path))?;
-        self.commit(bytes)?;
-        wipe_file(&old).map_err(|source| Error::NotWiped { path: self.path.clone(), source })
     }
 }

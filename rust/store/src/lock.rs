@@ -13,7 +13,7 @@
 //! The higher of the two numbers counts, and the other is overwritten next: a write that is cut short leaves one whole. An empty
 //! file, as version 1 had it, holds no number. Any other file is not touched.
 
-use std::fs::{File, OpenOptions, TryLockError};
+use std::fs::{self, File, OpenOptions, TryLockError};
 use std::io::{self, ErrorKind};
 use std::os::unix::fs::{FileExt, MetadataExt, OpenOptionsExt};
 use std::path::{Path, PathBuf};
@@ -46,6 +46,8 @@ pub(crate) struct Lock {
     file: File,
     path: PathBuf,
     numbers: [Option<u64>; 2],
+    /// Whether it was made here and nothing needs it yet.
+    unneeded: bool,
 }
 
 impl Lock {
@@ -54,17 +56,22 @@ impl Lock {
         let path = beside(state, ".lock");
         let start = Instant::now();
         loop {
-            let file = open(&path)?;
+            let (file, made) = open(&path)?;
             wait_for(&file, wait, start).map_err(|error| match error {
                 Some(source) => failed("lock", &path)(source),
                 None => Error::Busy { path: state.to_path_buf() },
             })?;
-            let lock = Lock { file, path: path.clone(), numbers: [None; 2] };
+            let lock = Lock { file, path: path.clone(), numbers: [None; 2], unneeded: made };
             // The file that was locked must still be the one of this name: otherwise somebody else locks another.
             if is_at(&lock.file, &path) {
                 return lock.looked_through();
             }
         }
+    }
+
+    /// Says that there is a state file that needs it.
+    pub(crate) fn keep(&mut self) {
+        self.unneeded = false;
     }
 
     /// The number of the last commit, if one is noted.
@@ -104,6 +111,8 @@ impl Lock {
             }
         }
         self.numbers = PLACES.map(|place| number(&content[place as usize..][..RECORD]));
+        // Another process that has locked it before needs it.
+        self.unneeded &= self.number().is_none();
         // Zeros are what a power failure may leave of the first number.
         if self.number().is_none() && (content != [0; LENGTH] || self.length()? > LENGTH as u64) {
             return Err(Error::NotALock { path: self.path.clone() });
@@ -118,8 +127,13 @@ impl Lock {
 }
 
 impl Drop for Lock {
-    /// Unlocks by word and not just by closing the file: a process that was forked off at this moment has it open too.
+    /// Removes a file that was made here for nothing: it is still locked, and whoever waits for it finds that it has no name any
+    /// more and makes another. Unlocks by word and not just by closing the file: a process that was forked off at this moment has
+    /// it open too.
     fn drop(&mut self) {
+        if self.unneeded && is_at(&self.file, &self.path) {
+            let _ = fs::remove_file(&self.path);
+        }
         let _ = self.file.unlock();
     }
 }
@@ -141,27 +155,27 @@ fn number(bytes: &[u8]) -> Option<u64> {
     (bytes == record(found)).then_some(found)
 }
 
-/// Opens the lock file, made if there is none. A symbolic link, another user's file and what is no file are refused, and nothing
+/// Opens the lock file, made if there is none; also whether it was made. A symbolic link, another user's file and what is no file are refused, and nothing
 /// is altered by that.
-fn open(path: &Path) -> Result<File, Error> {
+fn open(path: &Path) -> Result<(File, bool), Error> {
     let mut options = OpenOptions::new();
     options.read(true).write(true).mode(OWNER_ONLY).custom_flags(NO_FOLLOW | NO_WAIT);
     let file = step("open the lock file", || {
         loop {
             match options.open(path) {
                 Err(error) if error.kind() == ErrorKind::NotFound => {}
-                opened => return opened,
+                opened => return opened.map(|file| (file, false)),
             }
             match options.clone().create_new(true).open(path) {
                 Err(error) if error.kind() == ErrorKind::AlreadyExists => {}
-                made => return made,
+                made => return made.map(|file| (file, true)),
             }
         }
     });
     if path.is_symlink() {
         return Err(Error::NotAFile { path: path.to_path_buf() });
     }
-    let file = file.map_err(failed("open the lock file", path))?;
+    let (file, made) = file.map_err(failed("open the lock file", path))?;
     let metadata = file.metadata().map_err(failed("look at the lock file", path))?;
     if !metadata.is_file() {
         return Err(Error::NotAFile { path: path.to_path_buf() });
@@ -169,7 +183,7 @@ fn open(path: &Path) -> Result<File, Error> {
     if metadata.uid() != system::user() {
         return Err(Error::OtherOwner { path: path.to_path_buf() });
     }
-    Ok(file)
+    Ok((file, made))
 }
 
 /// Locks an open file; an error is one of the system, or none where another process holds the lock for too long.

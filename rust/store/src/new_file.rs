@@ -5,10 +5,12 @@
 //! the same time exactly one succeeds. Where the file system has no hard links, a rename that replaces nothing does the same;
 //! where it has neither, no file is made.
 //!
-//! A program holds a lock on its temporary file. One that nobody holds was left behind by a kill.
+//! A program holds a lock on its temporary file. One that nobody holds was left behind by a kill. Before it is removed, it is
+//! looked at: its name has the checksum, it is closed to others, and it has no other name than that of the new file.
 
 use std::fs::{self, File, TryLockError};
 use std::io::{self, ErrorKind};
+use std::os::unix::fs::MetadataExt;
 use std::path::Path;
 
 use crate::fault::step;
@@ -40,10 +42,18 @@ pub fn sync_name(path: &Path) -> io::Result<()> {
 /// Removes what killed processes left behind of new files of this name, as far as that works.
 pub fn remove_leftovers(path: &Path) {
     for (name, file) in found(path, Kind::Output).unwrap_or_default() {
-        if file.try_lock().is_ok() && is_at(&file, &name) {
+        if is_own(&file, path) && file.try_lock().is_ok() && is_at(&file, &name) {
             let _ = fs::remove_file(&name);
         }
     }
+}
+
+/// Whether a file that has a temporary name is one as [`create`] makes it: closed to others, and with no other name, or with
+/// that of the new file as the only other.
+fn is_own(file: &File, path: &Path) -> bool {
+    file.metadata().is_ok_and(|metadata| {
+        metadata.mode() & 0o077 == 0 && (metadata.nlink() == 1 || metadata.nlink() == 2 && is_at(file, path))
+    })
 }
 
 /// A temporary file that no other process takes for a leftover.

@@ -13,7 +13,7 @@ unsafe extern "C" {
     safe fn geteuid() -> c_uint;
     /// Fills a buffer with random bytes of the system.
     fn getrandom(buffer: *mut c_void, length: usize, flags: c_uint) -> isize;
-    /// Renames a file; with the flag 1 it takes the place of none.
+    /// Renames a file; with the flag 1 it takes the place of none, and with 2 the two change names.
     fn renameat2(old_folder: c_int, old: *const c_char, new_folder: c_int, new: *const c_char, flags: c_uint) -> c_int;
 }
 
@@ -55,13 +55,23 @@ pub fn random(bytes: &mut [u8]) -> io::Result<()> {
 
 /// Renames a file, unless something has the new name.
 pub(crate) fn rename_to_new(old: &Path, new: &Path) -> io::Result<()> {
-    /// The folder that relative paths start in, as a number in the place of an open folder.
-    const HERE: c_int = -100;
     /// Takes the place of nothing.
     const NO_REPLACE: c_uint = 1;
+    rename(old, new, NO_REPLACE)
+}
+
+/// Gives two files each other's names, in one step.
+pub(crate) fn exchange(one: &Path, other: &Path) -> io::Result<()> {
+    const EXCHANGE: c_uint = 2;
+    rename(one, other, EXCHANGE)
+}
+
+fn rename(old: &Path, new: &Path, flags: c_uint) -> io::Result<()> {
+    /// The folder that relative paths start in, as a number in the place of an open folder.
+    const HERE: c_int = -100;
     let (old, new) = (text(old.as_os_str())?, text(new.as_os_str())?);
     // SAFETY: both are strings that end in a zero, and outlive the call.
-    let answer = unsafe { renameat2(HERE, old.as_ptr(), HERE, new.as_ptr(), NO_REPLACE) };
+    let answer = unsafe { renameat2(HERE, old.as_ptr(), HERE, new.as_ptr(), flags) };
     if answer == 0 { Ok(()) } else { Err(Error::last_os_error()) }
 }
 

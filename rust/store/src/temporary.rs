@@ -1,7 +1,8 @@
 //! Files that are written beside their place before they take it.
 //!
 //! A temporary file of `NAME` is called `.NAME.pevghazo-` and 16 random hexadecimal digits for a state file, and
-//! `.NAME.pevghazo-out-` and 16 for an output. It is created where nothing is, and is closed to others from the start. Nothing
+//! `.NAME.pevghazo-out-` and 16 for an output, the last eight of which are a checksum: an output has any content, so that its
+//! temporary file is known by its name alone. It is created where nothing is, and is closed to others from the start. Nothing
 //! else is ever removed than a file with such a name of the process's own user, and no other name of the user's is taken. Of a
 //! `NAME` so long that this would not fit, the start and a checksum stand for it.
 
@@ -9,7 +10,7 @@ use std::ffi::{OsStr, OsString};
 use std::fs::{self, File, OpenOptions, Permissions};
 use std::io::{self, ErrorKind, Write};
 use std::os::unix::ffi::OsStrExt;
-use std::os::unix::fs::{MetadataExt, OpenOptionsExt, PermissionsExt};
+use std::os::unix::fs::{FileExt, MetadataExt, OpenOptionsExt, PermissionsExt};
 use std::path::{Path, PathBuf};
 
 use crate::fault::step;
@@ -86,12 +87,29 @@ impl Temporary {
 }
 
 impl Drop for Temporary {
-    /// At worst a leftover stays, which is removed later.
+    /// Overwrites what nobody is to have. At worst a leftover stays, which is removed later.
     fn drop(&mut self) {
         if self.named {
             let _ = fs::remove_file(&self.path);
+            let _ = wipe_file(&self.file, 0, 0);
         }
     }
+}
+
+/// Overwrites a file from a place on, if it has just so many names.
+pub(crate) fn wipe_file(file: &File, from: u64, names: u64) -> io::Result<()> {
+    let metadata = file.metadata()?;
+    if metadata.nlink() != names {
+        return Err(ErrorKind::InvalidInput.into());
+    }
+    const ZEROS: [u8; 4_096] = [0; 4_096];
+    let mut place = from;
+    while place < metadata.len() {
+        let length = ZEROS.len().min((metadata.len() - place) as usize);
+        step("wipe the old file", || file.write_all_at(&ZEROS[..length], place))?;
+        place += length as u64;
+    }
+    step("sync the old file", || file.sync_all())
 }
 
 /// A path's folder and name.
@@ -131,16 +149,39 @@ fn fresh_name(name: &OsStr, kind: Kind) -> io::Result<OsString> {
     system::random(&mut number)?;
     let mut fresh = OsString::from(".");
     fresh.push(stem(name));
-    fresh.push(format!("{}{:016x}", kind.mark(), u64::from_be_bytes(number)));
+    let mut digits = format!("{:016x}", u64::from_be_bytes(number));
+    if kind == Kind::Output {
+        digits.truncate(DIGITS / 2);
+        digits.push_str(&check_digits(name, &digits));
+    }
+    fresh.push(format!("{}{digits}", kind.mark()));
     Ok(fresh)
+}
+
+/// The second half of the digits of an output's temporary name, after the first.
+fn check_digits(name: &OsStr, first: &str) -> String {
+    let checked = [b"pevghazo output ", first.as_bytes(), b" ", name.as_bytes()].concat();
+    format!("{:08x}", crc64(&checked) >> 32)
 }
 
 /// Whether a name is a temporary one of a file of this name.
 fn is_temporary(candidate: &OsStr, name: &OsStr, kind: Kind) -> bool {
     let rest = candidate.as_bytes().strip_prefix(b".").and_then(|rest| rest.strip_prefix(stem(name).as_bytes()));
-    rest.and_then(|rest| rest.strip_prefix(kind.mark().as_bytes())).is_some_and(|digits| {
-        digits.len() == DIGITS && digits.iter().all(|digit| matches!(digit, b'0'..=b'9' | b'a'..=b'f'))
+    let digits = rest.and_then(|rest| str::from_utf8(rest.strip_prefix(kind.mark().as_bytes())?).ok());
+    digits.is_some_and(|digits| {
+        digits.len() == DIGITS
+            && digits.bytes().all(|digit| matches!(digit, b'0'..=b'9' | b'a'..=b'f'))
+            && (kind == Kind::State || digits[DIGITS / 2..] == check_digits(name, &digits[..DIGITS / 2]))
     })
+}
+
+/// Whether a path is one that temporary files of a state file may have, or looks like one.
+pub(crate) fn looks_temporary(candidate: &Path, state: &Path) -> bool {
+    let (Some(candidate_name), Some(name)) = (candidate.file_name(), state.file_name()) else { return false };
+    let mut start = OsString::from(".");
+    start.push(stem(name));
+    start.push(Kind::State.mark());
+    candidate.parent() == state.parent() && candidate_name.as_bytes().starts_with(start.as_bytes())
 }
 
 /// The temporary files of this path that are the process's own user's, opened for reading.
@@ -196,6 +237,16 @@ mod tests {
             assert!(!is_temporary(OsStr::new(other), name, Kind::State), "{other}");
         }
         assert!(is_temporary(OsStr::new(".rings.txt.pevghazo-0123456789abcdef"), name, Kind::State));
+        // By its name alone a file is an output's only with the right last digits.
+        assert!(!is_temporary(OsStr::new(".rings.txt.pevghazo-out-0123456789abcdef"), name, Kind::Output));
+        for (path, looks) in [
+            ("a/.rings.txt.pevghazo-", true),
+            ("a/.rings.txt.pevghazo-out-1", true),
+            ("b/.rings.txt.pevghazo-", false),
+            ("a/rings", false),
+        ] {
+            assert_eq!(looks_temporary(Path::new(path), Path::new("a/rings.txt")), looks, "{path}");
+        }
     }
 
     #[test]

@@ -147,7 +147,7 @@ fn an_old_file_can_be_wiped() {
     Store::open(&path, Presence::MustExist, Wait::Never).unwrap().commit_and_wipe(b"short").unwrap();
     let mut content = Vec::new();
     std::io::Read::read_to_end(&mut old, &mut content).unwrap();
-    assert!(content.len() > 10_000 && content.iter().all(|byte| *byte == 0));
+    assert!(content.len() > 10_000 && content[16..].iter().all(|byte| *byte == 0));
     assert_eq!(get(&path), Some(b"short".to_vec()));
     assert_eq!(folder.names(), ["office.state", "office.state.lock"]);
 }

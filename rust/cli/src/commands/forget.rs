@@ -14,17 +14,17 @@ pub fn forget<E: End>(arguments: &Arguments) -> Result<(), Failure> {
     let group = used.state.group(arguments)?;
     let kept = used.state.kept(group)?;
     if waits(&kept.message) {
-        return Err(not_handed_out::<E>("message", "reread", group));
+        return Err(not_handed_out::<E>("message", "reread", group, arguments));
     }
     let mut found = kept.message.take().is_some();
     if arguments.has("envelope") {
         if waits(&kept.envelope) {
-            return Err(not_handed_out::<E>("envelope", "resend", group));
+            return Err(not_handed_out::<E>("envelope", "resend", group, arguments));
         }
         found |= kept.envelope.take().is_some();
     }
     if found {
-        used.commit_and_wipe()?;
+        used.commit()?;
     }
     tell(&format!(
         "{} is forgotten for group {group}.",
@@ -33,6 +33,7 @@ pub fn forget<E: End>(arguments: &Arguments) -> Result<(), Failure> {
     Ok(())
 }
 
-fn not_handed_out<E: End>(what: &str, command: &str, group: u32) -> Failure {
-    Failure::NotNow(format!("The {what} was not handed out: do that first, with `{}`.", again::<E>(command, group)))
+fn not_handed_out<E: End>(what: &str, command: &str, group: u32, arguments: &Arguments) -> Failure {
+    let again = again::<E>(command, group, arguments);
+    Failure::NotNow(format!("The {what} was not handed out: do that first, with `{again}`."))
 }

@@ -2,6 +2,7 @@
 
 use pevghazo::{Session, envelope};
 
+use super::messages::again;
 use crate::arguments::Arguments;
 use crate::failure::Failure;
 use crate::input;
@@ -13,6 +14,9 @@ use crate::state_file::{Used, create};
 /// Starts the session, in a new state file or in the place of the old session.
 pub fn start(arguments: &Arguments) -> Result<(), Failure> {
     let group = arguments.required_number("group")?;
+    if arguments.has("restore") && !arguments.has("replace") {
+        return Err(Failure::Usage("A new state file is no older copy: --restore needs --replace here.".to_string()));
+    }
     // No envelope can be written for a group above 31: number 3.
     envelope::write(group, &[], &[], &[0; pevghazo::TAG_LENGTH])?;
     let key = input::key(arguments)?;
@@ -24,9 +28,10 @@ pub fn start(arguments: &Arguments) -> Result<(), Failure> {
             return Err(Failure::OtherGroup { asked: group, own: used.state.group });
         }
         if waits(&used.state.kept.message) {
-            return Err(Failure::NotNow(
-                "A message was opened and not handed out: do that first, with `pevghazo group reread`.".to_string(),
-            ));
+            return Err(Failure::NotNow(format!(
+                "A message was opened and not handed out: do that first, with `{}`.",
+                again::<Group>("reread", group, arguments)
+            )));
         }
         used.state.keys.add(&key, reuse)?;
         used.state.session = session;

@@ -3,10 +3,13 @@
 //! Every call and what belongs to it are committed together, with a note that it was not handed out yet; then it is handed
 //! out; then that is noted. A next message for the same session does not take the place of one that was never handed out.
 
+use std::ffi::OsStr;
 use std::io::{Write, stderr};
+use std::os::unix::ffi::OsStrExt;
+use std::path::Path;
 
 use pevghazo::{Number, envelope};
-use pevghazo_store::Secret;
+use pevghazo_store::{Secret, shown};
 
 use crate::arguments::Arguments;
 use crate::end::End;
@@ -28,15 +31,15 @@ pub fn seal<E: End>(arguments: &Arguments, out: &mut dyn Write) -> Result<(), Fa
     if waits(&used.state.kept(group)?.envelope) {
         return Err(Failure::NotNow(format!(
             "An envelope for group {group} was sealed before and not handed out: do that first, with `{}`.",
-            again::<E>("resend", group)
+            again::<E>("resend", group, arguments)
         )));
     }
     output.must_be_new()?;
     let bytes = used.state.seal(group, &metadata, &message)?;
     let length = bytes.len();
     used.state.kept(group)?.envelope = Some(Held::waiting(bytes));
-    used.commit().map_err(|error| kept_envelope::<E>(group, error.into()))?;
-    hand_out_envelope(&mut used, group, &output, Time::First, out)?;
+    used.commit().map_err(|error| kept_envelope::<E>(group, arguments, error.into()))?;
+    hand_out_envelope(&mut used, group, arguments, &output, Time::First, out)?;
     let index = used.state.index(group);
     tell(&format!("Sealed {} bytes for group {group}: envelope of {length} bytes, index {index}.", message.len()));
     Ok(())
@@ -53,7 +56,7 @@ pub fn open<E: End>(arguments: &Arguments, out: &mut dyn Write) -> Result<(), Fa
     if waits(&used.state.kept(group)?.message) {
         return Err(Failure::NotNow(format!(
             "A message of group {group} was opened before and not handed out: do that first, with `{}`.",
-            again::<E>("reread", group)
+            again::<E>("reread", group, arguments)
         )));
     }
     outputs.must_be_new()?;
@@ -72,8 +75,8 @@ pub fn open<E: End>(arguments: &Arguments, out: &mut dyn Write) -> Result<(), Fa
     kept.envelope = None;
     let metadata = Secret::from(arrival.metadata);
     kept.message = Some(Held::waiting(Message { metadata, text }));
-    used.commit().map_err(|error| kept_message::<E>(group, error.into()))?;
-    hand_out_message(&mut used, group, &outputs, Time::First, out)?;
+    used.commit().map_err(|error| kept_message::<E>(group, arguments, error.into()))?;
+    hand_out_message(&mut used, group, arguments, &outputs, Time::First, out)?;
     let index = used.state.index(group);
     tell(&format!("Opened an envelope of group {group}: message of {length} bytes, index {index}."));
     let mut result = if E::NAME == ENDS[0] { format!("group {group}\n") } else { String::new() };
@@ -99,10 +102,10 @@ pub fn resend<E: End>(arguments: &Arguments, out: &mut dyn Write) -> Result<(), 
     let group = used.state.group(arguments)?;
     if used.state.kept(group)?.envelope.is_none() {
         return Err(Failure::NotNow(format!(
-            "No envelope for group {group} is kept: none was sealed, or an arrival has shown that it got there."
+            "No envelope for group {group} is kept: none was sealed, an arrival has shown that it got there, or it was forgotten."
         )));
     }
-    hand_out_envelope(&mut used, group, &output, Time::Again, out)?;
+    hand_out_envelope(&mut used, group, arguments, &output, Time::Again, out)?;
     tell(&format!("Handed out the last envelope for group {group}."));
     Ok(())
 }
@@ -113,9 +116,11 @@ pub fn reread<E: End>(arguments: &Arguments, out: &mut dyn Write) -> Result<(), 
     let outputs = message_outputs(arguments, &used)?;
     let group = used.state.group(arguments)?;
     if used.state.kept(group)?.message.is_none() {
-        return Err(Failure::NotNow(format!("No message of group {group} is kept: none was opened.")));
+        return Err(Failure::NotNow(format!(
+            "No message of group {group} is kept: none was opened, or it was forgotten."
+        )));
     }
-    hand_out_message(&mut used, group, &outputs, Time::Again, out)?;
+    hand_out_message(&mut used, group, arguments, &outputs, Time::Again, out)?;
     tell(&format!("Handed out the last message of group {group}."));
     Ok(())
 }
@@ -123,7 +128,7 @@ pub fn reread<E: End>(arguments: &Arguments, out: &mut dyn Write) -> Result<(), 
 /// Where an envelope goes, or a message.
 fn main_output<E: End>(arguments: &Arguments, used: &Used<E>) -> Result<Output, Failure> {
     arguments.required("out")?;
-    let output = Output::of(arguments, "out", &used.own_paths())?;
+    let output = Output::of(arguments, "out", |path| used.is_own(path))?;
     output.ok_or_else(|| Failure::Usage("The option --out is missing.".to_string()))
 }
 
@@ -147,9 +152,9 @@ impl Outputs {
 }
 
 fn message_outputs<E: End>(arguments: &Arguments, used: &Used<E>) -> Result<Outputs, Failure> {
-    let metadata = Output::of(arguments, "metadata-out", &used.own_paths())?;
+    let metadata = Output::of(arguments, "metadata-out", |path| used.is_own(path))?;
     let message = main_output(arguments, used)?;
-    if metadata.as_ref() == Some(&message) {
+    if metadata.as_ref().is_some_and(|metadata| metadata.is_same(&message)) {
         return Err(Failure::Usage("Message and metadata cannot go to the same output.".to_string()));
     }
     Ok(Outputs { message, metadata })
@@ -159,12 +164,13 @@ fn message_outputs<E: End>(arguments: &Arguments, used: &Used<E>) -> Result<Outp
 fn hand_out_envelope<E: End>(
     used: &mut Used<E>,
     group: u32,
+    arguments: &Arguments,
     output: &Output,
     time: Time,
     out: &mut dyn Write,
 ) -> Result<(), Failure> {
     if let Some(held) = &mut used.state.kept(group)?.envelope {
-        output.write(&held.content, time, out).map_err(|failure| kept_envelope::<E>(group, failure))?;
+        output.write(&held.content, time, out).map_err(|failure| kept_envelope::<E>(group, arguments, failure))?;
         held.handed_out = true;
     }
     used.commit_if_altered().map_err(Failure::NotNoted)
@@ -174,6 +180,7 @@ fn hand_out_envelope<E: End>(
 fn hand_out_message<E: End>(
     used: &mut Used<E>,
     group: u32,
+    arguments: &Arguments,
     outputs: &Outputs,
     time: Time,
     out: &mut dyn Write,
@@ -183,30 +190,74 @@ fn hand_out_message<E: End>(
         let first = outputs.metadata.as_ref().map_or(Ok(()), |output| output.write(metadata, time, out));
         first
             .and_then(|()| outputs.message.write(text, time, out))
-            .map_err(|failure| kept_message::<E>(group, failure))?;
+            .map_err(|failure| kept_message::<E>(group, arguments, failure))?;
         held.handed_out = true;
     }
     used.commit_if_altered().map_err(Failure::NotNoted)
 }
 
-/// The command that hands something out again.
-pub fn again<E: End>(command: &str, group: u32) -> String {
+/// The command that hands something out again, as it is typed; only the output is left to choose.
+pub fn again<E: End>(command: &str, group: u32, arguments: &Arguments) -> String {
+    let state = quoted(arguments.value("state").unwrap_or_default());
+    // A name that starts with dashes would be taken for an option.
+    let state = if state.starts_with('-') { format!("--state={state}") } else { format!("--state {state}") };
     let option = if E::NAME == ENDS[0] { format!(" --group {group}") } else { String::new() };
-    format!("pevghazo {} {command}{option}", E::NAME)
+    format!("pevghazo {} {command} {state}{option} --out FILE", E::NAME)
 }
 
-fn kept_envelope<E: End>(group: u32, source: Failure) -> Failure {
-    kept("envelope", again::<E>("resend", group), source)
+/// A name as a shell takes it, without control characters.
+fn quoted(name: &OsStr) -> String {
+    let plain = |byte: u8| byte.is_ascii_alphanumeric() || b"/._-+,:@%".contains(&byte);
+    match name.to_str() {
+        Some(text) if !text.is_empty() && text.bytes().all(plain) => text.to_string(),
+        Some(text) if shown(Path::new(name)) == text => format!("'{}'", text.replace('\'', "'\\''")),
+        _ => {
+            let mut text = String::from("$'");
+            for byte in name.as_bytes() {
+                match byte {
+                    b'\'' | b'\\' => text.extend(['\\', char::from(*byte)]),
+                    b' '..=b'~' => text.push(char::from(*byte)),
+                    byte => text.push_str(&format!("\\x{byte:02x}")),
+                }
+            }
+            text + "'"
+        }
+    }
 }
 
-fn kept_message<E: End>(group: u32, source: Failure) -> Failure {
-    kept("message", again::<E>("reread", group), source)
+fn kept_envelope<E: End>(group: u32, arguments: &Arguments, source: Failure) -> Failure {
+    kept("envelope", again::<E>("resend", group, arguments), source)
+}
+
+fn kept_message<E: End>(group: u32, arguments: &Arguments, source: Failure) -> Failure {
+    kept("message", again::<E>("reread", group, arguments), source)
 }
 
 /// The failure to hand out something that is kept, unless the state that keeps it was not committed at all.
 fn kept(what: &'static str, command: String, source: Failure) -> Failure {
     match source {
-        Failure::State(error) if !matches!(error, pevghazo_store::Error::NotSynced { .. }) => Failure::State(error),
+        Failure::State(error) if !error.is_committed() => Failure::State(error),
         source => Failure::Kept { what, command, source: Box::new(source) },
+    }
+}
+
+#[cfg(test)]
+mod tests {
+    use super::*;
+
+    #[test]
+    fn names_are_quoted_for_a_shell() {
+        for (name, text) in [
+            (&b"office.state"[..], "office.state"),
+            (b"my office", "'my office'"),
+            (b"it's", "'it'\\''s'"),
+            (b"", "''"),
+            ("\u{e9}t\u{e9}".as_bytes(), "'\u{e9}t\u{e9}'"),
+            (b"a\nb'\\", "$'a\\x0ab\\'\\\\'"),
+            (b"\xff", "$'\\xff'"),
+            ("\u{202e}".as_bytes(), "$'\\xe2\\x80\\xae'"),
+        ] {
+            assert_eq!(quoted(OsStr::from_bytes(name)), text);
+        }
     }
 }

@@ -2,6 +2,7 @@
 
 use std::io::Write;
 
+use super::messages::again;
 use crate::arguments::Arguments;
 use crate::failure::Failure;
 use crate::input;
@@ -39,7 +40,8 @@ pub fn open_group(arguments: &Arguments) -> Result<(), Failure> {
     }
     if waits(&used.state.kept(group)?.message) {
         return Err(Failure::NotNow(format!(
-            "A message of group {group} was opened and not handed out: do that first, with `pevghazo office reread`."
+            "A message of group {group} was opened and not handed out: do that first, with `{}`.",
+            again::<Office>("reread", group, arguments)
         )));
     }
     used.state.keys.add(&key, arguments.has("reuse-key"))?;
