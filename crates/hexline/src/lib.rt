@@ -15,10 +15,13 @@ pub fn print_hex(b: &[u8]) -> usize
     i
 }
 
-// Writes two digits for each byte, and a newline.
-pub fn print_line(b: &[u8]) {
-    print_hex(b);
+// Writes two digits for each byte, and a newline; the answer is the number of bytes.
+pub fn print_line(b: &[u8]) -> usize
+    ensures { λ r. ⌜ r ≡ length (now (b .entry)) ⌝ }
+{
+    let n = print_hex(b);
     io::write_all(1, b"\n");
+    n
 }
 
 // A number of two bytes, the lowest first.
