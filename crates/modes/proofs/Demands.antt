@@ -98,7 +98,7 @@ module _ {k : Kind} (w : Whole k) where
 -- ---- the demands
 
 module _ (k : Kind) where
-  at-records : (x : Side) (p : Records k) → k .stateOf (recordAt k x p) ≡ at x (sessionsHeld k p)
+  pub at-records : (x : Side) (p : Records k) → k .stateOf (recordAt k x p) ≡ at x (sessionsHeld k p)
   at-records office p = refl
   at-records group p = refl
 

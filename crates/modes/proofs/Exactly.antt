@@ -18,10 +18,10 @@ use Rattle.modes.specs.Exactly.{Check6, Check7, Check8, Check9, NoneBefo
 use Rattle.modes.proofs.Entries.{equalTags-refl, equalTags-true}
 
 -- a number that is k, under the condition of k; and one that is not, where that condition does not hold
-is : {P : Type 0} {n k : ℕ} → n ≡ k → P → (n ≡ k) ↔ P
+pub is : {P : Type 0} {n k : ℕ} → n ≡ k → P → (n ≡ k) ↔ P
 is e p = (λ h. p, λ h. e)
 
-isnt : {P : Type 0} {n k : ℕ} → n ≢ k → (P → ⊥) → (n ≡ k) ↔ P
+pub isnt : {P : Type 0} {n k : ℕ} → n ≢ k → (P → ⊥) → (n ≡ k) ↔ P
 isnt e p = (λ h. absurd (e h), λ h. absurd (p h))
 
 -- the first check, or x where there is none

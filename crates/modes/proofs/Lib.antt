@@ -16,3 +16,5 @@ pub mod Demands
 pub mod Fresh
 pub mod Edges
 pub mod Leaves
+pub mod Codes
+pub mod CodeLists

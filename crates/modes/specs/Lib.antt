@@ -15,3 +15,5 @@ pub mod Promises
 pub mod Demands
 pub mod Fresh
 pub mod Edges
+pub mod Codes
+pub mod CodeLists

@@ -1,0 +1,273 @@
+-- Codes of packets in the lists of demand 3, of all promises that are their equations with the rules: each code is that of the ledger's history,
+-- and lists with and without codes have the same runs. Assumes nothing.
+use mathlib.Core.Bool.{Bool, true, false, cond}
+use mathlib.Core.List.{List, [], _∷_, _++_, map}
+use mathlib.Core.Logic.{_↔_, _≢_, _⊎_, inl, inr}
+use mathlib.Core.Path.{_≡_, refl, sym, ap, ap₂, _∙_, subst}
+use Prim.Native.Nat.{ℕ, zero, suc, _+_, _<_, _≤_}
+use native.Mathlib.Omega.{arith}
+use lib.ListN.{length}
+use Rattle.deck.specs.declared.DeckState.{DeckState}
+use Rattle.deck.specs.Strings.{Str}
+use Rattle.deck.specs.Deck.{indexOf}
+use Rattle.modes.specs.Call.{CallInput, Side, office, group, Call, wrap, unwrap, sideOf}
+use Rattle.modes.specs.Mode.{Mode, incremental, sanse}
+use Rattle.modes.specs.Rules.{SessionState, Outcome, growth}
+use Rattle.modes.specs.Paper.{PaperResult, sanseOpens}
+use Rattle.modes.specs.Ledger.{PaperMode, sansePaper, Ledger, Entry, equalTags, wrapFinds, unwrapFinds, checkBefore11, onCheck, accepts, refuses11, ledgerWrap, ledgerUnwrap}
+use Rattle.modes.specs.TwoEnds.{Ledgers, ledgerAt, setLedger, ledgerStep, nextLedgers, entries, finishLedgers, freshLedgers}
+use Rattle.modes.specs.Demand3.{outcomeOf, ByLedgers}
+use Rattle.modes.specs.Promises.{Kind, Promises, Starts, Records, recordAt, sessionsHeld, leftBy, Run}
+use Rattle.modes.specs.Codes.{CodeOutcome, codeAt, AnyCode, CodeClaim}
+use Rattle.modes.specs.CodeLists.{Request, call, code, callsOf, NoneAccepted, CodeThere, EachCode, WithCodes, Codes, codesByRules, CodeRun, AnyCodeOf, CodeOf, WithCodesOf, SameRuns}
+use Rattle.modes.proofs.Modes.{Follows, sanse-follows}
+use Rattle.modes.proofs.Ledgers.{wrap-key, unwrap-key}
+use Rattle.modes.proofs.Entries.{PaperLaws, paper-laws}
+use Rattle.modes.proofs.Demands.{ByRules, StartByRules, at-records, demand-3-of}
+use Rattle.modes.proofs.Codes.{any-code, index-none, code-claim, claim-decides, claim-twelve}
+
+-- ---- a ledger's history has no string exactly where nothing was accepted at its end
+
+-- a call that is accepted moves the index
+growth-some : (a n : ℕ) → 1 ≤ growth a n
+unfolding growth
+growth-some a zero = omega arith
+growth-some zero (suc n) = omega arith
+growth-some (suc a) (suc n) = omega arith
+
+longer : (g h : List Str) (a n : ℕ) → indexOf g ≡ indexOf h + growth a n → g ≢ []
+longer g h a n e z = omega (arith, e, growth-some a n, index-none g .1 z)
+
+module _ {m : PaperMode} (laws : PaperLaws m) (l : Ledger) (i : CallInput) where
+  wrap-empty : (ledgerWrap m l i .ledger .history ≡ []) ↔ ((l .history ≡ []) × (ledgerWrap m l i .answer .number ≢ 0))
+  unfolding ledgerWrap
+  wrap-empty = go (checkBefore11 m (wrapFinds m l i) i)
+    where
+      r : PaperResult
+      r = wrapFinds m l i
+
+      go : (n : ℕ) → (onCheck m n l i (accepts m l i r (r .tag)) .ledger .history ≡ [])
+          ↔ ((l .history ≡ []) × (onCheck m n l i (accepts m l i r (r .tag)) .answer .number ≢ 0))
+      go zero = (
+        λ e. absurd (longer (r .history) (l .history) (length (i .metadata)) (length (i .text)) (laws .wraps-index (l .key) (l .history) (l .toggle) (i .metadata) (i .text)) e),
+        λ w. absurd (w .1 refl),
+      )
+      go (suc n) = (λ e. (e, λ z. omega arith), λ w. w .0)
+
+  unwrap-empty : (ledgerUnwrap m l i .ledger .history ≡ []) ↔ ((l .history ≡ []) × (ledgerUnwrap m l i .answer .number ≢ 0))
+  unfolding ledgerUnwrap
+  unwrap-empty = go (checkBefore11 m (unwrapFinds m l i) i) (equalTags (i .tag) (unwrapFinds m l i .tag))
+    where
+      r : PaperResult
+      r = unwrapFinds m l i
+
+      go : (n : ℕ) (q : Bool) → (onCheck m n l i (cond q (accepts m l i r (i .tag)) (refuses11 m l i)) .ledger .history ≡ [])
+          ↔ ((l .history ≡ []) × (onCheck m n l i (cond q (accepts m l i r (i .tag)) (refuses11 m l i)) .answer .number ≢ 0))
+      go zero true = (
+        λ e.
+            absurd
+            (longer (r .history) (l .history) (length (i .metadata)) (length (i .text)) (laws .unwraps-index (l .key) (l .history) (l .toggle) (i .metadata) (i .text) (i .tag)) e),
+        λ w. absurd (w .1 refl),
+      )
+      go zero false = (λ e. (e, λ z. omega arith), λ w. w .0)
+      go (suc n) q = (λ e. (e, λ z. omega arith), λ w. w .0)
+
+-- the two ends are apart
+abbrev IsOffice : Side → Type 0
+IsOffice office = Unit {0}
+IsOffice group = ⊥
+
+apart : office ≢ group
+apart e = subst IsOffice e tt
+
+module _ {m : PaperMode} (laws : PaperLaws m) where
+  -- one call: the ledger of the end x has no string after it exactly where it had none, and the call was made elsewhere or refused
+  set-empty : (x y : Side) (e : Entry) (p : Ledgers) → (e .ledger .history ≡ []) ↔ ((ledgerAt y p .history ≡ []) × (e .answer .number ≢ 0))
+      → (ledgerAt x (setLedger y (e .ledger) p) .history ≡ []) ↔ ((ledgerAt x p .history ≡ []) × ((y ≢ x) ⊎ (e .answer .number ≢ 0)))
+  set-empty office office e p (to, from) = (λ z. (to z .0, inr (to z .1)), λ w. back w)
+    where
+      back : (p .office .history ≡ []) × ((office ≢ office) ⊎ (e .answer .number ≢ 0)) → e .ledger .history ≡ []
+      back (h, inl z) = absurd (z refl)
+      back (h, inr z) = from (h, z)
+  set-empty group group e p (to, from) = (λ z. (to z .0, inr (to z .1)), λ w. back w)
+    where
+      back : (p .group .history ≡ []) × ((group ≢ group) ⊎ (e .answer .number ≢ 0)) → e .ledger .history ≡ []
+      back (h, inl z) = absurd (z refl)
+      back (h, inr z) = from (h, z)
+  set-empty office group e p f = (λ z. (z, inl (λ g. apart (sym g))), λ w. w .0)
+  set-empty group office e p f = (λ z. (z, inl apart), λ w. w .0)
+
+  step-empty : (x : Side) (c : Call) (p : Ledgers) → (ledgerAt x (nextLedgers m c p) .history ≡ [])
+      ↔ ((ledgerAt x p .history ≡ []) × ((sideOf c ≢ x) ⊎ (ledgerStep m c p .answer .number ≢ 0)))
+  step-empty x (wrap y i) p = set-empty x y (ledgerWrap m (ledgerAt y p) i) p (wrap-empty laws (ledgerAt y p) i)
+  step-empty x (unwrap y i) p = set-empty x y (ledgerUnwrap m (ledgerAt y p) i) p (unwrap-empty laws (ledgerAt y p) i)
+
+  -- every list
+  pub none-accepted : (x : Side) (cs : List Call) (p : Ledgers) → (ledgerAt x (finishLedgers m cs p) .history ≡ [])
+      ↔ ((ledgerAt x p .history ≡ []) × NoneAccepted x cs (map outcomeOf (entries m cs p)))
+  unfolding entries finishLedgers
+  none-accepted x [] p = (λ e. (e, NoneAccepted.none), λ w. w .0)
+  none-accepted x (c ∷ cs) p = let ih = none-accepted x cs (nextLedgers m c p) in (λ e. to (ih .0 e), λ w. from (ih .1) (w .0) (w .1))
+    where
+      later : List (Outcome DeckState)
+      later = map outcomeOf (entries m cs (nextLedgers m c p))
+
+      more : (sideOf c ≢ x) ⊎ (ledgerStep m c p .answer .number ≢ 0) → NoneAccepted x cs later → NoneAccepted x (c ∷ cs) (outcomeOf (ledgerStep m c p) ∷ later)
+      more (inl z) n = NoneAccepted.elsewhere z n
+      more (inr z) n = NoneAccepted.refused z n
+
+      to : (ledgerAt x (nextLedgers m c p) .history ≡ []) × NoneAccepted x cs later
+          → (ledgerAt x p .history ≡ []) × NoneAccepted x (c ∷ cs) (outcomeOf (ledgerStep m c p) ∷ later)
+      to (e, n) = let w = step-empty x c p .0 e in (w .0, more (w .1) n)
+
+      from : ((ledgerAt x (nextLedgers m c p) .history ≡ []) × NoneAccepted x cs later → ledgerAt x (finishLedgers m cs (nextLedgers m c p)) .history ≡ [])
+          → ledgerAt x p .history ≡ [] → NoneAccepted x (c ∷ cs) (outcomeOf (ledgerStep m c p) ∷ later)
+          → ledgerAt x (finishLedgers m cs (nextLedgers m c p)) .history ≡ []
+      from ih e (NoneAccepted.refused z n) = ih (step-empty x c p .1 (e, inr z), n)
+      from ih e (NoneAccepted.elsewhere z n) = ih (step-empty x c p .1 (e, inl z), n)
+
+-- ---- a ledger keeps its key
+
+module _ {r : Mode} {m : PaperMode} (f : Follows r m) where
+  set-key : (x y : Side) (l : Ledger) (p : Ledgers) → l .key ≡ ledgerAt y p .key → ledgerAt x (setLedger y l p) .key ≡ ledgerAt x p .key
+  set-key office office l p e = e
+  set-key group group l p e = e
+  set-key office group l p e = refl
+  set-key group office l p e = refl
+
+  step-key : (x : Side) (c : Call) (p : Ledgers) → ledgerAt x (nextLedgers m c p) .key ≡ ledgerAt x p .key
+  step-key x (wrap y i) p =
+      set-key x y (ledgerWrap m (ledgerAt y p) i .ledger) p
+      (subst (λ (m : PaperMode). ledgerWrap m (ledgerAt y p) i .ledger .key ≡ ledgerAt y p .key) (f .paper) (wrap-key (f .laws) (ledgerAt y p) i))
+  step-key x (unwrap y i) p =
+      set-key x y (ledgerUnwrap m (ledgerAt y p) i .ledger) p
+      (subst (λ (m : PaperMode). ledgerUnwrap m (ledgerAt y p) i .ledger .key ≡ ledgerAt y p .key) (f .paper) (unwrap-key (f .laws) (ledgerAt y p) i))
+
+  finish-key : (x : Side) (cs : List Call) (p : Ledgers) → ledgerAt x (finishLedgers m cs p) .key ≡ ledgerAt x p .key
+  unfolding finishLedgers
+  finish-key x [] p = refl
+  finish-key x (c ∷ cs) p = finish-key x cs (nextLedgers m c p) ∙ step-key x c p
+
+fresh-key : (x : Side) (key : List ℕ) (opening : List Str) → ledgerAt x (freshLedgers key opening) .key ≡ key
+fresh-key office key opening = refl
+fresh-key group key opening = refl
+
+fresh-none : (x : Side) (key : List ℕ) → ledgerAt x (freshLedgers key sanseOpens) .history ≡ []
+fresh-none office key = refl
+fresh-none group key = refl
+
+-- ---- runs with codes
+
+-- what is asked of a promise of codes: that it is the equation with the definition, no less and no more
+abbrev pub CodesByRules : (k : Kind) → Codes k → Type 0
+CodesByRules k codes = (s : k .Record) (packet : ℕ) (out : List ℕ) (g : CodeOutcome) → codes s packet out g ↔ codesByRules k s packet out g
+
+-- the equation itself is such
+pub codes-by-rules : (k : Kind) → CodesByRules k (codesByRules k)
+codes-by-rules k s packet out g = (λ e. e, λ e. e)
+
+module _ {k : Kind} {p : Promises k} where
+  -- a call after a run
+  snoc : {cs : List Call} {from mid to : Records k} {os : List (Outcome DeckState)} {c : Call} {o : Outcome DeckState}
+      → Run k p cs from os mid → Run k p (c ∷ []) mid (o ∷ []) to → Run k p (cs ++ c ∷ []) from (os ++ o ∷ []) to
+  snoc Run.none r = r
+  snoc (Run.wrapped w q) r = Run.wrapped w (snoc q r)
+  snoc (Run.unwrapped w q) r = Run.unwrapped w (snoc q r)
+
+  -- a call before a run
+  before : {cs : List Call} {from mid to : Records k} {os : List (Outcome DeckState)} {c : Call} {o : Outcome DeckState}
+      → Run k p (c ∷ []) from (o ∷ []) mid → Run k p cs mid os to → Run k p (c ∷ cs) from (o ∷ os) to
+  before (Run.wrapped w Run.none) r = Run.wrapped w r
+  before (Run.unwrapped w Run.none) r = Run.unwrapped w r
+
+  -- without the codes
+  without : {codes : Codes k} {rs : List Request} {from to : Records k} {os : List (Outcome DeckState)} {gs : List CodeOutcome}
+      → CodeRun k p codes rs from os gs to → Run k p (callsOf rs) from os to
+  without CodeRun.none = Run.none
+  without (CodeRun.called r q) = before r (without q)
+  without (CodeRun.asked w q) = without q
+
+module _ (k : Kind) (codes : Codes k) (g : CodesByRules k codes) where
+  pub any-code-of : AnyCodeOf k codes
+  any-code-of s packet out o w =
+      subst (AnyCode incremental (k .stateOf s) packet out) (sym (g s packet out o .0 w)) (any-code incremental (k .stateOf s) packet out)
+
+  pub code-of : CodeOf k codes
+  code-of key h e s packet out o q w =
+      subst (CodeClaim key h packet out) (sym (g s packet out o .0 w ∙ ap (λ (z : SessionState DeckState). codeAt incremental z packet out) q))
+      (code-claim key h e packet out)
+
+  -- with codes: one is given whatever is asked
+  within : {p : Promises k} (rs : List Request) {from to : Records k} {os : List (Outcome DeckState)} → Run k p (callsOf rs) from os to
+      → (gs : List CodeOutcome) × CodeRun k p codes rs from os gs to
+  within [] Run.none = ([], CodeRun.none)
+  within (call c ∷ rs) (Run.wrapped w q) = let z = within rs q in (z .0, CodeRun.called (Run.wrapped w Run.none) (z .1))
+  within (call c ∷ rs) (Run.unwrapped w q) = let z = within rs q in (z .0, CodeRun.called (Run.unwrapped w Run.none) (z .1))
+  within (code x packet out ∷ rs) {from} r =
+      let z = within rs r in
+      let s = recordAt k x from in
+      let o = codeAt incremental (k .stateOf s) packet out in
+      (o ∷ z .0, CodeRun.asked (g s packet out o .1 refl) (z .1))
+
+  -- lists with and without codes have the same runs
+  pub same-runs : (p : Promises k) → SameRuns k p codes
+  same-runs p rs from os to = (λ w. without (w .1), λ r. within rs r)
+
+-- ---- demand 3 with codes
+
+module _ {k : Kind} {starts : Starts k} {p : Promises k} {codes : Codes k} (s : StartByRules k starts) (l : ByRules sanse p) (g : CodesByRules k codes)
+    (key : List ℕ) (long : 16 ≤ length key) (short : length key ≤ 47) (one two : k .Result) (a : starts key one) (b : starts key two) where
+  -- one code, after some calls
+  there : {cs : List Call} {os : List (Outcome DeckState)} {from : Records k} → Run k p cs (leftBy k one two) os from
+      → (x : Side) (packet : ℕ) (out : List ℕ) (o : CodeOutcome) → codes (recordAt k x from) packet out o → CodeThere key cs os x packet out o
+  there {cs} {os} {from} r x packet out o w =
+      record {
+        ledger = claim;
+        first = (λ e. to (claim-twelve key packet out _ o claim .0 e), λ z. claim-twelve key packet out _ o claim .1 (back z));
+      }
+    where
+      by : ByLedgers sansePaper key sanseOpens cs os (sessionsHeld k from)
+      by = demand-3-of s l key long short one two a b cs os from r .calls
+
+      then : Ledger
+      then = ledgerAt x (finishLedgers sansePaper cs (freshLedgers key sanseOpens))
+
+      claim : CodeClaim key (then .history) packet out o
+      claim =
+          subst (λ (key : List ℕ). CodeClaim key (then .history) packet out o)
+          (finish-key sanse-follows x cs (freshLedgers key sanseOpens) ∙ fresh-key x key sanseOpens)
+          (code-of k codes g (then .key) (then .history) (then .toggle) (recordAt k x from) packet out o (at-records k x from ∙ by .finish x) w)
+
+      empty : (then .history ≡ [])
+          ↔ ((ledgerAt x (freshLedgers key sanseOpens) .history ≡ []) × NoneAccepted x cs (map outcomeOf (entries sansePaper cs (freshLedgers key sanseOpens))))
+      empty = none-accepted (paper-laws sanse-follows) x cs (freshLedgers key sanseOpens)
+
+      to : (then .history ≡ []) ⊎ (2047 < packet) → NoneAccepted x cs os ⊎ (2047 < packet)
+      to (inl z) = inl (subst (NoneAccepted x cs) (sym (by .same)) (empty .0 z .1))
+      to (inr z) = inr z
+
+      back : NoneAccepted x cs os ⊎ (2047 < packet) → (then .history ≡ []) ⊎ (2047 < packet)
+      back (inl z) = inl (empty .1 (fresh-none x key, subst (NoneAccepted x cs) (by .same) z))
+      back (inr z) = inr z
+
+  each : {cs : List Call} {os ps : List (Outcome DeckState)} {rs : List Request} {gs : List CodeOutcome} {from to : Records k}
+      → Run k p cs (leftBy k one two) os from → CodeRun k p codes rs from ps gs to → EachCode key cs os rs ps gs
+  each r CodeRun.none = EachCode.none
+  each r (CodeRun.called w q) = EachCode.called (each (snoc r w) q)
+  each r (CodeRun.asked {x = x} {packet = packet} {out = out} {g = o} w q) = EachCode.asked (there r x packet out o w) (each r q)
+
+pub with-codes-of : {k : Kind} {starts : Starts k} {p : Promises k} {codes : Codes k} → StartByRules k starts → ByRules sanse p → CodesByRules k codes
+    → WithCodesOf k starts p codes
+with-codes-of s l g key long short one two a b rs os gs to r =
+    record {
+      calls = demand-3-of s l key long short one two a b (callsOf rs) os to (without r);
+      codes = each s l g key long short one two a b Run.none r;
+    }
+
+-- what is claimed of the codes of a list leaves none of them open
+pub codes-decide : {key : List ℕ} {cs : List Call} {os ps : List (Outcome DeckState)} {rs : List Request} {gs gs′ : List CodeOutcome}
+    → EachCode key cs os rs ps gs → EachCode key cs os rs ps gs′ → gs ≡ gs′
+codes-decide EachCode.none EachCode.none = refl
+codes-decide (EachCode.called q) (EachCode.called q′) = codes-decide q q′
+codes-decide {key} (EachCode.asked {packet = packet} {out = out} {g = o} w q) (EachCode.asked {g = o′} w′ q′) =
+    ap₂ {C = List CodeOutcome} (λ o os. o ∷ os) (claim-decides key packet out _ o o′ (w .ledger) (w′ .ledger)) (codes-decide q q′)
