@@ -96,8 +96,25 @@ use Rattle.groups.specs.Groups.{unwrapOnDay, groupResult}
 use Rattle.office.specs.Table.{noGroup, refused3, unwrapGroupAt, zeroRecord, tableOf, tableResult}'''),
 ]
 
+# ---- over a record that is lent to be read: codes
+
+CODES = [
+    Lent(
+        path='codes::code', core='codes::code_of', record='sanse::Session', result='session::Answer', session=None,
+        answer='session::Answer', answer_field=None, answer_parts=[],
+        params=[('s', 'read'), ('packet', 'u32'), ('out', 'buffer')], core_args=['s', 'packet', 'out'],
+        gives='codeResult r out′ ≡ codeAt incremental (stateOf h) packet out',
+        says='Coded s packet out res out′',
+        proof='e',
+        uses='''use Rattle.modes.specs.Mode.{incremental}
+use Rattle.modes.specs.Codes.{codeAt}
+use Rattle.sanse.specs.Session.{stateOf}
+use Rattle.codes.specs.Code.{codeResult, Coded}''',
+        environment='Rattle.session.proofs.Env'),
+]
+
 # ---- that hand all their parameters on: capi
 
 PASSING = (
-    [f'capi::c_session::pevghazo_{function}' for function in ('start', 'wrap', 'unwrap')]
+    [f'capi::c_session::pevghazo_{function}' for function in ('start', 'wrap', 'unwrap')] + ['capi::c_codes::pevghazo_code']
     + [f'capi::c_table::pevghazo_{function}' for function in ('open_group', 'wrap_group', 'unwrap_group')])

@@ -1,7 +1,8 @@
-"""The walk of a function over a lent record, or over one record of a lent table.
+"""The walk of a function over a lent record, over one that is lent to be read, or over one record of a lent table.
 
 The shapes, beside other parameters:
     fn f(s: &mut S, ..) -> R       { let r = core(*s, ..); *s = r.session; R of r's fields }
+    fn f(s: &S, ..) -> R           { core(*s, ..) }
     fn f(table: &mut [S], g: usize, ..) -> R
         { if test(table.len(), g) { return refusal(..); } let r = core(table[g], ..); table[g] = r.session; r.answer }
 `core` takes the record by value. `test` and `refusal` are small functions: of numbers, bools and plain structs.
@@ -45,11 +46,11 @@ class Lent:
     core: str                        # the function by value
     record: str                      # the path of S
     result: str                      # the path of the struct that the core gives
-    session: tuple                   # its field that is the new record: (name, number)
+    session: Optional[tuple]         # its field that is the new record: (name, number); none where the record is only read
     answer: str                      # the path of R
     answer_field: Optional[tuple]    # R is this field of the core's result, (name, number) ..
-    answer_parts: list               # .. or is made of these, [(name, number)]
-    params: list                     # [(name, kind)]; 'record': &mut S, 'table': &mut [S], 'bytes': &[u8], 'buffer': &mut [u8], 'bool', u8 .. usize, or the path of a struct
+    answer_parts: list               # .. or is made of these, [(name, number)]; neither where R is the core's result itself
+    params: list                     # [(name, kind)]; 'record': &mut S, 'read': &S, 'table': &mut [S], 'bytes': &[u8], 'buffer': &mut [u8], 'bool', u8 .. usize, or the path of a struct
     core_args: list                  # the core's parameters by the names of these; the lent one stands for the record's copy
     uses: str                        # imports for the clauses and the terms
     gives: str                       # what the core ensures: h is the record, r the result; a buffer's last contents have a prime
@@ -70,11 +71,12 @@ class Terms:
         self.count = len(self.function.locals)                     # the locals, the result and the parameters among them
         self.kind = dict(config.params)
         self.names = [name for name, _ in config.params]
-        self.lent = next(name for name, kind in config.params if kind in ('record', 'table'))
+        self.lent = next(name for name, kind in config.params if kind in ('record', 'read', 'table'))
+        self.reads = self.kind[self.lent] == 'read'
         self.table = config.table
         # a parameter's local, and the lifetime of a reference by its place among the lifetimes
         self.local_of = {name: place + 1 for place, name in enumerate(self.names)}
-        self.refs = self.of_kind('record', 'table', 'bytes', 'buffer')
+        self.refs = self.of_kind('record', 'read', 'table', 'bytes', 'buffer')
         self.lifetime = {name: place for place, name in enumerate(self.refs)}
         self.slices = self.of_kind('bytes', 'buffer')
         self.integers = self.of_kind(*WIDTHS)
@@ -87,11 +89,11 @@ class Terms:
         self.core_plain = [name for name in config.core_args if name in self.plain]
         self.S, self.O, self.R = last(config.record), last(config.result), last(config.answer)
         # the record that the core gave, and the answer, of its result r
-        self.new_record = f'(r .{config.session[0]})'
-        self.answer = (f'(r .{config.answer_field[0]})' if config.answer_field else
+        self.new_record = f'(r .{config.session[0]})' if config.session else None
+        self.answer = (f'(r .{config.answer_field[0]})' if config.answer_field else 'r' if not config.answer_parts else
                        '(record { ' + '; '.join(f'{name} = r .{name}' for name, _ in config.answer_parts) + ' })')
         # the context at a way out
-        self.front = [f'own-{self.lent}', f'tok-{self.lent}'] if self.table else ['obs', 'bor', f'tok-{self.lent}']
+        self.front = ([f'own-{self.lent}'] if self.table else [] if self.reads else ['obs', 'bor']) + [f'tok-{self.lent}']
         self.exit_order = self.front + [f'tok-{name}' for name in self.core_refs] + [f'fin-{name}' for name in self.core_buffers]
 
     # ---- names and terms
@@ -138,14 +140,14 @@ class Terms:
             return 'Boolean'
         if name in self.structs:
             return f'{self.struct_module[name]}.the-row'
-        shape = {'record': 'MutRef', 'table': 'MutSlice', 'bytes': 'ShrSlice', 'buffer': 'MutSlice'}[kind]
+        shape = {'record': 'MutRef', 'read': 'ShrRef', 'table': 'MutSlice', 'bytes': 'ShrSlice', 'buffer': 'MutSlice'}[kind]
         return f"{shape} (named {self.lifetime[name]}) {self.κ(name)} {'T.the-row' if name == self.lent else 'u8'}"
 
     def denoted(self, name):
         """The type of its value."""
         kind = self.kind[name]
         if name in self.refs:
-            return {'record': f'RefT {self.S}', 'table': f'RefT (List {self.S})'}.get(kind, 'RefT (List ℕ)')
+            return {'record': f'RefT {self.S}', 'read': f'RefT {self.S}', 'table': f'RefT (List {self.S})'}.get(kind, 'RefT (List ℕ)')
         return 'Bool' if kind == 'bool' else last(kind) if name in self.structs else 'ℕ'
 
     def owns(self, kind, value, known, name=None):

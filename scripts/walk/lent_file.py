@@ -22,8 +22,10 @@ class Proof(Walk):
         called = f"`{self.config.core}` is called{' on the copy' if self.lent in self.config.core_args else ''}"
         known = ' and '.join(f'`{path}`' for path in [self.config.core] + [small.path for small in self.config.small])
         knows = 'it meets its contract' if not self.config.small else 'they meet their contracts'
-        text = (f'-- `{self.config.path}` meets its contract: a walk of its MIR in the program logic. {opened}; {called}, the record that it gave is stored whole, '
-                f'and the borrow is closed. All that the proof knows of {known} is that {knows}. Assumes nothing.')
+        done = 'the record that it gave is stored whole, and the borrow is closed'
+        if self.reads:
+            opened, done = 'The borrow is looked into, the record is copied out whole, and the borrow is shut', 'and what it gave is returned'
+        text = (f'-- `{self.config.path}` meets its contract: a walk of its MIR in the program logic. {opened}; {called}, {done}. All that the proof knows of {known} is that {knows}. Assumes nothing.')
         return '\n-- '.join(textwrap.wrap(text, 138))
 
     def imports(self):
@@ -31,6 +33,8 @@ class Proof(Walk):
         config, crate = self.config, self.crate
         types = [config.record, config.result] + [self.kind[name] for name in self.structs] + [config.answer]
         modules = ['T', 'B'] + [self.struct_module[name] for name in self.structs] + ['R']
+        if self.reads:                                             # the core's result is the answer
+            types, modules = types[:1] + types[2:], modules[:1] + modules[2:]
         declared = [f'use {specs_module(path, crate)}.{{{last(path)}}}' for path in types[:2]]
         laws = [f'use {proofs_module(path, crate)} as {module}\nuse {proofs_module(path, crate)}.Laws as {module}′' for path, module in zip(types[:2], modules[:2])]
         more = [f'use {specs_module(path, crate)}.{{{last(path)}}}\nuse {proofs_module(path, crate)} as {module}\nuse {proofs_module(path, crate)}.Laws as {module}′'
@@ -50,8 +54,9 @@ class Proof(Walk):
         lent = f'List {self.S}' if self.table else self.S
         gives = f'(h : {self.S}){lists(self.core_refs)}{plain(self.core_plain)} (r : {self.O}){lists(self.core_buffers, "′")}'
         given = ' '.join(['h', *self.core_refs, *self.core_plain, 'r', *[f'{name}′' for name in self.core_buffers]])
-        says = f'({self.lent} : {lent}){lists(self.core_refs)}{plain(self.plain)} (res : {self.R}) ({self.lent}′ : {lent}){lists(self.core_buffers, "′")}'
-        said = ' '.join([self.lent, *self.core_refs, *self.plain, 'res', f'{self.lent}′', *[f'{name}′' for name in self.core_buffers]])
+        after = '' if self.reads else f' ({self.lent}′ : {lent})'
+        says = f'({self.lent} : {lent}){lists(self.core_refs)}{plain(self.plain)} (res : {self.R}){after}{lists(self.core_buffers, "′")}'
+        said = ' '.join([self.lent, *self.core_refs, *self.plain, 'res', *([] if self.reads else [f'{self.lent}′']), *[f'{name}′' for name in self.core_buffers]])
         return f'''-- what the core ensures, and what this function ensures: the clauses of the two contracts
 
 abbrev Gives : {gives} → Type 0
@@ -78,7 +83,9 @@ mach-{name} d = LL.tuple-val {self.struct_module[name]}.the-type {self.struct_mo
             element = f"tt (plain (λ _. {'u8' if kind == 'buffer' else 'T.the-row'}))"
             place = self.lifetime[name]
             return f'{says}-{shape} ({place} ∷ []) {element}', f'{goes}-{shape} 𝓤 H A W {count} {place} {element}'
-        if kind == 'bytes':
+        if kind == 'read':
+            type_ = f'(shrRefTo ({self.lifetime[name]} ∷ []) tt (plain (λ _. T.the-row)))'
+        elif kind == 'bytes':
             type_ = f'(shrSliceOf ({self.lifetime[name]} ∷ []) tt (plain (λ _. u8)))'
         else:
             type_ = f'(plain (λ _. {self.type_of(name)}))'
@@ -137,19 +144,9 @@ mach-{name} d = LL.tuple-val {self.struct_module[name]}.the-type {self.struct_mo
 
 ''' for name in self.slices)
         owed = lambda number: f'LL.owed B.the-type B′.the-laws r _ is{part(number)}'
-        made = owed(self.config.answer_field[1]) if self.config.answer_field else 'LL.owes R.the-type R′.the-laws _ ' + tuple_of([owed(number) for _, number in self.config.answer_parts])
-        field_name, field_number = self.config.session
-        return f'''{lent}
-{slices}  abbrev a : Arg
-  a = {tuple_of([self.value(name) for name in self.names])}
-
-  abbrev at : {product_of(['List Val'] * len(self.names))}
-  at = {tuple_of([self.machine(name) + ' ∷ []' for name in self.names])}
-
-  -- the machine values of a record and of the core's result, and what whoever holds the result knows of its fields
-  abbrev mach : {S} → Val
-  mach d = LL.tuple-val T.the-type T′.the-laws (T.the-type .to d)
-
+        made = '' if self.reads else owed(self.config.answer_field[1]) if self.config.answer_field else 'LL.owes R.the-type R′.the-laws _ ' + tuple_of([owed(number) for _, number in self.config.answer_parts])
+        field_name, field_number = self.config.session or ('', 0)
+        result = '' if self.reads else f'''
   abbrev mach-b : {O} → Val
   mach-b r = LL.tuple-val B.the-type B′.the-laws (B.the-type .to r)
 
@@ -158,7 +155,19 @@ mach-{name} d = LL.tuple-val {self.struct_module[name]}.the-type {self.struct_mo
 
   result-of : (r : {O}) → Is B.the-row r (mach-b r ∷ []) → {self.is_answer(self.answer)}
   result-of r is = {made}
+'''
+        values = 'the machine value of a record' if self.reads else "the machine values of a record and of the core's result, and what whoever holds the result knows of its fields"
+        return f'''{lent}
+{slices}  abbrev a : Arg
+  a = {tuple_of([self.value(name) for name in self.names])}
 
+  abbrev at : {product_of(['List Val'] * len(self.names))}
+  at = {tuple_of([self.machine(name) + ' ∷ []' for name in self.names])}
+
+  -- {values}
+  abbrev mach : {S} → Val
+  mach d = LL.tuple-val T.the-type T′.the-laws (T.the-type .to d)
+{result}
   abbrev bound : walkOf 𝓤 H A f.ended stayed (f.clauses 𝓤 H A at-mem run) .Ghost
   bound = (({self.lifetimes()}, {self.shares()}, tt, a, at), tt)
 
@@ -189,7 +198,7 @@ mach-{name} d = LL.tuple-val {self.struct_module[name]}.the-type {self.struct_mo
 
     def says_at(self, result, lent, buffers):
         """`Says`, at an answer and at what the lent one and the buffers hold last."""
-        return ' '.join(['Says', 'ys' if self.table else 'h', *self.contents(), *self.plain, result, lent, *buffers])
+        return ' '.join(['Says', 'ys' if self.table else 'h', *self.contents(), *self.plain, result, *([] if self.reads else [lent]), *buffers])
 
     def exits(self):
         """Every way out: the answer, and what was had of the parameters, is what is owed."""
@@ -199,22 +208,22 @@ mach-{name} d = LL.tuple-val {self.struct_module[name]}.the-type {self.struct_mo
             steps += context.move(f'tok-{name}', 'tokens') + context.join('tokens', 'join')
         steps += 'frame ! $ '
         context.labels.pop(0)
-        if not self.table:
+        if not self.table and not self.reads:
             steps += context.move('obs', 'bor') + 'feqI ! (List Val) (vptr b o ∷ []) (vptr b o ∷ []) refl $ fjoin3 ! $ '
             context.replace(2, f'own-{self.lent}')
         steps += context.push('had', 'nothing !')
         for name in reversed(self.names):
-            label = f'own-{name}' if name == self.lent else f'fin-{name}' if name in self.core_buffers else None
+            label = None if name == self.lent and self.reads else f'own-{name}' if name == self.lent else f'fin-{name}' if name in self.core_buffers else None
             steps += (context.move(label, 'had') if label else context.push('none', 'nothing !')) + context.join('had')
         steps += 'owned ! R.the-row (Is R.the-row) (LL.makes R.the-type R′.the-plain 𝓤 H A) res _ res-ok $ move ! (1 ∷ 0 ∷ []) $ done !'
-        last_of = {self.lent: 'last', **{name: f'last-{name}' for name in self.core_buffers}}
+        last_of = {self.lent: 'tt' if self.reads else 'last', **{name: f'last-{name}' for name in self.core_buffers}}
         length_of = {self.lent: 'len' if self.table else 'tt', **{name: f'len-{name}' for name in self.core_buffers}}
         lasts = [f'last-{name}' for name in self.core_buffers]
         items = list_of('‵ (Own last)' if label == f'own-{self.lent}' else self.item(label) for label in self.exit_order)
-        bound = f"(res : {self.R}) (last : {f'List {self.S}' if self.table else self.S})" + ''.join(f' ({name} : List ℕ)' for name in lasts)
+        bound = f'(res : {self.R})' + ('' if self.reads else f" (last : {f'List {self.S}' if self.table else self.S})") + ''.join(f' ({name} : List ℕ)' for name in lasts)
         asked = self.is_answer('res') + ' → ' + ('length last ≡ length ys → ' if self.table else '')
         asked += ''.join(f'length last-{name} ≡ length (x-{name} .now) → ' for name in self.core_buffers)
-        names = ' '.join(['res last', *lasts, 'res-ok', *(['len'] if self.table else []), *[f'len-{name}' for name in self.core_buffers], 'said'])
+        names = ' '.join(['res', *([] if self.reads else ['last']), *lasts, 'res-ok', *(['len'] if self.table else []), *[f'len-{name}' for name in self.core_buffers], 'said'])
         return f'''
   -- every way out
   exits : {bound} → {asked}{self.says_at('res', 'last', lasts)} → ent 𝓤 (⋆ 𝓤 H A ({items})) (Post {self.answer_value('res')})
@@ -313,7 +322,7 @@ mach-{name} d = LL.tuple-val {self.struct_module[name]}.the-type {self.struct_mo
         kind = self.kind[name]
         if name in self.structs:
             return f'LL.vals {self.struct_module[name]}.the-type {self.struct_module[name]}′.the-laws'
-        return {'record': 'ptr-vals', 'table': 'slice-vals', 'bytes': 'slice-vals', 'buffer': 'slice-vals', 'bool': 'bool-vals'}.get(kind) or f'uint-vals w{WIDTHS[kind]}'
+        return {'record': 'ptr-vals', 'read': 'ptr-vals', 'table': 'slice-vals', 'bytes': 'slice-vals', 'buffer': 'slice-vals', 'bool': 'bool-vals'}.get(kind) or f'uint-vals w{WIDTHS[kind]}'
 
     def tells(self, name):
         """That its type tells them."""
@@ -322,7 +331,7 @@ mach-{name} d = LL.tuple-val {self.struct_module[name]}.the-type {self.struct_mo
             return f'LL.tells {self.struct_module[name]}.the-type {self.struct_module[name]}′.the-laws'
         if name in self.plain:
             return 'bool-tells' if kind == 'bool' else f'uint-tells w{WIDTHS[kind]}'
-        law = {'record': 'mut-tells', 'table': 'mut-slice-tells', 'bytes': 'shr-slice-tells', 'buffer': 'mut-slice-tells'}[kind]
+        law = {'record': 'mut-tells', 'read': 'shr-tells', 'table': 'mut-slice-tells', 'bytes': 'shr-slice-tells', 'buffer': 'mut-slice-tells'}[kind]
         place = self.lifetime[name]
         return f"{law} (named {place}) (κs{part(place)}) {'T.the-row' if name == self.lent else 'u8'}"
 
@@ -372,7 +381,7 @@ unfolding code.routine tablesOf
 abbrev Arg : Type 0
 Arg = {product_of([self.denoted(name) for name in self.names])}
 
--- what is had of the parameters at exit: the lent borrow; what says the last list of a slice that the core was given for good; nothing of the rest
+-- what is had of the parameters at exit: {'' if self.reads else 'the lent borrow; '}what says the last list of a slice that the core was given for good; nothing of the rest
 abbrev stayed : Stays (f.ended .signature .params) (f.ended .kept)
 stayed = {tuple_of([self.stays(name)[0] for name in self.names])}
 

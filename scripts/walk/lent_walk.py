@@ -128,6 +128,13 @@ class Walk(Terms):
             self.put(moved + 'fsplit ! $ drop ! $ fsplit ! $ opens-slice ! tt T.the-row ys b o $')
             self.put(f'elem-out ! T.the-row (Is T.the-row) (shows 𝓤 H A T.the-row) (LL.vals T.the-type T′.the-laws) (LL.tells T.the-type T′.the-laws) fullShare ys {self.table.index} {self.table.past_end} b o ({self.table.inside}) (λ was.')
             self.context.replace(2, 'cell', 'own', 'others', 'obor', 'obs', 'auth')
+        elif self.reads:
+            self.note('the borrow is looked into')
+            laws = '(Is T.the-row) (shows 𝓤 H A T.the-row) (LL.vals T.the-type T′.the-laws) (LL.tells T.the-type T′.the-laws)'
+            self.put(self.context.move('shared', f'tok-{self.lent}') + f'looks ! tt T.the-row {laws} (LL.copy T.the-type T′.the-copy 𝓤 H A W) h b o (λ q′ vs. spelt ! T.the-row {laws} q′ h vs b o $')
+            self.put('move ! (1 ∷ []) $ peeks ! T.the-row (Is T.the-row) (shows 𝓤 H A T.the-row) h (mach h ∷ []) (λ was. move ! (1 ∷ 0 ∷ []) $')
+            self.context.replace(2, 'cell', 'own', 'obor', 'shared')
+            self.cells[self.local_of[self.lent]] = 'cell'
         else:
             self.note('the borrow is opened')
             moved = self.context.move('obs', 'bor', f'tok-{self.lent}')
@@ -136,6 +143,13 @@ class Walk(Terms):
             self.context.replace(3, 'cell', 'own', 'obor', 'obs', 'auth')
             self.cells[self.local_of[self.lent]] = 'cell'
         self.cell_typed = self.typed('T', 'h', 'was')
+        self.show()
+
+    def shuts(self):
+        """The borrow that was looked into is shut, and nothing more of it is needed."""
+        self.put(self.context.move('cell', 'own', 'obor') + 'shuts ! tt T.the-row q′ h (mach h ∷ []) b o $')
+        self.context.replace(3, f'tok-{self.lent}')
+        self.put(self.context.drop('shared').strip())
         self.show()
 
     def closes(self):
@@ -165,14 +179,16 @@ class Walk(Terms):
         arguments, (target, _) = mir.items(statement[2]), mir.place(statement[3])
         self.note('the core is called on the copy')
         handed = (['own'] if self.lent in config.core_args else []) + [f'own-{name}' for name in self.core_refs] + [f'tok-{name}' for name in self.core_refs]
-        moved = context.move(*handed) + (f'group ! {len(handed)} $ ' if len(handed) > 1 else '')
+        moved = context.push('own', 'owned ! T.the-row (Is T.the-row) (LL.makes T.the-type T′.the-plain 𝓤 H A) h _ was') if self.reads else ''
+        moved += context.move(*handed) + (f'group ! {len(handed)} $ ' if len(handed) > 1 else '')
         self.put(moved + 'use1 W (raw (Core 𝓤 H A at-mem run .pre to-core)) goes-core $')
         context.replace(len(handed), 'called')
         self.put(f'calls-at ! fm (Core 𝓤 H A at-mem run) known to-core {self.operands(arguments)} (λ v.')
         tokens = ' ⊛ '.join([f'‵ (flft {self.κ(name)} {self.q(name)})' for name in self.core_refs] + ['‵ ftrue'])
         tokens = f'({tokens})' if self.core_refs else tokens
         lifetimes, values = tuple_of([self.κ(name) for name in self.core_refs]), self.core_values()
-        self.put(f'use1 W (later (some (λ (r : {self.O}). ({tokens} ⊛ ‵ (B.the-row .own r (v ∷ []))) ⊛ raw (ensured 𝓤 H A core.ended (core.clauses 𝓤 H A at-mem run) {lifetimes} {values} tt r)))) (id⊢ 𝓤 _) $ await ! tt $ pick ! (λ r.')
+        result = 'R' if self.reads else 'B'
+        self.put(f'use1 W (later (some (λ (r : {self.O}). ({tokens} ⊛ ‵ ({result}.the-row .own r (v ∷ []))) ⊛ raw (ensured 𝓤 H A core.ended (core.clauses 𝓤 H A at-mem run) {lifetimes} {values} tt r)))) (id⊢ 𝓤 _) $ await ! tt $ pick ! (λ r.')
         self.note('what the core ensures, at some last lists')
         last_type = product_of(['List ℕ' if name in self.core_buffers else 'Unit {0}' for name in config.core_args])
         gives = ' '.join(['Gives h', *self.contents(), *self.core_plain, 'r', *[self.last_contents(name) for name in self.core_buffers]])
@@ -191,6 +207,13 @@ class Walk(Terms):
         for name in self.core_refs:                                # the tokens come back
             steps += context.split(f'tok-{name}', 'tokens', 'split') + context.move('tokens')
         self.put(steps + context.drop('tokens') + context.move('result'))
+        if self.reads:                                             # the answer itself
+            self.lands('R', 'r', target)
+            self.put(f"peeks ! R.the-row (Is R.the-row) (shows 𝓤 H A R.the-row) r ({self.answer_value('r')} ∷ []) (λ is. drop ! $")
+            context.labels.pop(0)
+            self.locals[target] = Local('')
+            self.show()
+            return
         self.lands('B', 'r', target)
         self.put('peeks ! B.the-row (Is B.the-row) (shows 𝓤 H A B.the-row) r (mach-b r ∷ []) (λ is. drop ! $')
         context.labels.pop(0)
@@ -266,10 +289,13 @@ class Walk(Terms):
         for name in self.names:
             steps += context.split(f'own-{name}', 'owned')
             steps += context.move('owned') if name in self.refs else context.drop(f'own-{name}')
-        if not self.table:
+        if self.reads:
+            steps += context.move(f'own-{self.lent}') + 'fsplit3 ! $ drop ! $ drop ! $ '
+            context.replace(1, 'shared')
+        elif not self.table:
             steps += context.move(f'own-{self.lent}') + 'fsplit3 ! $ drop ! $ '
             context.replace(1, 'obs', 'bor')
-        steps += context.keep(*self.front, *[f'own-{name}' for name in self.core_refs], *[f'tok-{name}' for name in self.core_refs])
+        steps += context.keep(*(['shared'] if self.reads else []), *self.front, *[f'own-{name}' for name in self.core_refs], *[f'tok-{name}' for name in self.core_refs])
         types = list_of(self.type_of(name) for name in self.names)
         self.put(f'qed W (({tokens}) ∷ ‵ (owns ({types}) a at) ∷ []) ∵ {steps.strip()}')
         self.show()
@@ -286,7 +312,7 @@ class Walk(Terms):
     def parameter(self, name):
         """What is known of a parameter at entry."""
         kind = self.kind[name]
-        if kind == 'record':
+        if kind in ('record', 'read'):
             return Local('(tt, tt)')
         if name in self.plain:
             typed = fits(self.known(name)) if kind in WIDTHS else '(tt, tt)' if kind == 'bool' else self.typed(self.struct_module[name], name, self.known(name))
@@ -326,14 +352,15 @@ class Walk(Terms):
 
     def returns(self):
         """The last way out."""
-        self.closes()
+        if not self.reads:
+            self.closes()
         self.put(f'returns ! (look ! {self.context.at("L0")} refl) $')
         self.frees()
         lasts = [self.last_contents(name) for name in self.core_buffers]
         lengths = [f'len-{name}' for name in self.core_buffers]
-        record = f'(set ys {self.table.index} {self.new_record})' if self.table else self.new_record
+        record = [] if self.reads else [f'(set ys {self.table.index} {self.new_record})' if self.table else self.new_record]
         length = [f'(length-set ys {self.table.index} {self.new_record})'] if self.table else []
-        exits = ' '.join(['exits', self.answer, record, *lasts, '(result-of r is)', *length, *lengths, self.config.proof])
+        exits = ' '.join(['exits', self.answer, *record, *lasts, 'is' if self.reads else '(result-of r is)', *length, *lengths, self.config.proof])
         self.put(self.context.keep(*self.exit_order) + f'by ! ({exits})')
 
     def body(self):
@@ -359,4 +386,6 @@ class Walk(Terms):
                     self.opens()
                     opened = True
                 self.assign(statement)
+                if copies and self.reads:
+                    self.shuts()
         return '\n        '.join(line.rstrip() for line in self.lines) + unclosed(self.lines)

@@ -31,11 +31,11 @@ use denote.Laws.{Is, shows}
 use denote.Memory.{mem}
 use denote.Plain.{Boolean, bool-vals, bool-tells, bool-makes, bool-lawful, uint-vals, uint-tells, uint-makes}
 use denote.Builtin.{u8, u16, u32, u64, usize}
-use denote.Ref.{RefT, MutRef, ptr-vals, mut-tells}
+use denote.Ref.{RefT, MutRef, ShrRef, ptr-vals, mut-tells, shr-tells}
 use denote.Slice.{sliceVal, slice-vals, MutSlice, ShrSlice, Room, heres, codedHoleys, at-slice, finally, res-finally, mut-slice-tells, shr-slice-tells}
 use denote.Index.{place-is, elem-out, elem-put, opens-slice, closes-slice}
-use denote.Signature.{plain, shrSliceOf}
-use denote.Steps.{only, opens, closes, owned, peeks, heard, nothing}
+use denote.Signature.{plain, shrRefTo, shrSliceOf}
+use denote.Steps.{only, opens, closes, looks, shuts, owned, peeks, heard, nothing}
 use denote.Struct.Steps.{spelt}
 use denote.Struct.Laws as LL
 use denote.Triple.Statement.{Contract, Triple}

@@ -1,0 +1,71 @@
+-- What is claimed of codes holds of `code_of`, known by its `ensures` alone, beside start, wrap and unwrap by value; and what the claims say, written
+-- out. Assumes nothing.
+use mathlib.Core.Bool.{Bool}
+use mathlib.Core.List.{List}
+use mathlib.Core.Logic.{_↔_}
+use mathlib.Core.Path.{_≡_, refl}
+use Prim.Native.Nat.{ℕ, _≤_}
+use lib.ListN.{length}
+use Rattle.deck.specs.declared.DeckState.{DeckState}
+use Rattle.deck.specs.Strings.{Str}
+use Rattle.modes.specs.Mode.{incremental, sanse}
+use Rattle.modes.specs.Rules.{Outcome}
+use Rattle.modes.specs.OneCall.{sessionOf}
+use Rattle.modes.specs.Promises.{Promises, Records, Run, sessionsHeld}
+use Rattle.modes.specs.Codes.{CodeOutcome, AnyCode, CodeClaim}
+use Rattle.modes.specs.CodeLists.{Codes, Request, callsOf, CodeRun, WithCodes, AnyCodeOf, CodeOf, WithCodesOf, SameRuns}
+use Rattle.modes.proofs.Demands.{ByRules}
+use Rattle.modes.proofs.CodeLists.{any-code-of, code-of, with-codes-of, same-runs}
+use Rattle.sanse.specs.declared.Session.{Session}
+use Rattle.sanse.specs.declared.CallResult.{CallResult}
+use Rattle.sanse.specs.Session.{stateOf, startResult, sanseKind}
+use Rattle.sanse.proofs.Contracts.{StartPromise, promises, start-is, wrap-is, unwrap-is}
+use Rattle.codes.proofs.Contracts.{codes, code-is}
+
+-- ---- what the claims say of these records, written out
+
+pub any-code-says : (c : Codes sanseKind)
+    → AnyCodeOf sanseKind c
+    ≡ ((s : Session) (packet : ℕ) (out : List ℕ) (g : CodeOutcome) → c s packet out g → AnyCode incremental (stateOf s) packet out g)
+any-code-says c = refl
+
+pub code-says : (c : Codes sanseKind)
+    → CodeOf sanseKind c
+    ≡ ((key : List ℕ) (h : List Str) (e : Bool) (s : Session) (packet : ℕ) (out : List ℕ) (g : CodeOutcome)
+    → stateOf s ≡ sessionOf key h e → c s packet out g → CodeClaim key h packet out g)
+code-says c = refl
+
+pub with-codes-says : (starts : (key : List ℕ) → CallResult → Type 0) (p : Promises sanseKind) (c : Codes sanseKind)
+    → WithCodesOf sanseKind starts p c
+    ≡ ((key : List ℕ) → 16 ≤ length key → length key ≤ 47 → (first second : CallResult) → starts key first → starts key second
+    → (rs : List Request) (os : List (Outcome DeckState)) (gs : List CodeOutcome) (to : Records sanseKind)
+    → CodeRun sanseKind p c rs (record { office = first .session; group = second .session }) os gs to
+    → WithCodes key rs (startResult first) (startResult second) os gs (sessionsHeld sanseKind to))
+with-codes-says starts p c = refl
+
+pub same-runs-says : (p : Promises sanseKind) (c : Codes sanseKind)
+    → SameRuns sanseKind p c
+    ≡ ((rs : List Request) (from : Records sanseKind) (os : List (Outcome DeckState)) (to : Records sanseKind)
+    → ((gs : List CodeOutcome) × CodeRun sanseKind p c rs from os gs to) ↔ Run sanseKind p (callsOf rs) from os to)
+same-runs-says p c = refl
+
+-- ---- the claims
+
+program : ByRules sanse promises
+program = record { wraps = wrap-is; unwraps = unwrap-is }
+
+-- asked of any record
+pub any-code : AnyCodeOf sanseKind codes
+any-code = any-code-of sanseKind codes code-is
+
+-- asked of the record of a history
+pub one-code : CodeOf sanseKind codes
+one-code = code-of sanseKind codes code-is
+
+-- in every list of demand 3
+pub demand-3-with-codes : WithCodesOf sanseKind StartPromise promises codes
+demand-3-with-codes = with-codes-of start-is program code-is
+
+-- a code changes nothing
+pub codes-change-nothing : SameRuns sanseKind promises codes
+codes-change-nothing = same-runs sanseKind codes code-is promises
