@@ -1,7 +1,7 @@
 -- What `write_code` and `code_of` compute is what the definition says, over plain values, so that a function's proof only hands its facts over.
 -- Assumes nothing.
 use mathlib.Core.Bool.{Bool, true, false, not, _||_, cond}
-use mathlib.Core.List.{List, _++_}
+use mathlib.Core.List.{List, [], _++_}
 use mathlib.Core.Logic.{_≢_}
 use mathlib.Core.Path.{_≡_, refl, sym, ap, ap₂, _∙_}
 use Prim.Native.Nat.{ℕ, zero, suc, _+_, _*_, _≤_}
@@ -32,7 +32,7 @@ zeros-added f i =
 
 -- what the leaf counts for it
 pub counts-two : (packet : ℕ) → outputCount (32 + 8 * packet) 8 ≡ 2
-counts-two packet = omega (arith, code-counts packet)
+counts-two packet = omega (arith, code-counts (λ i. i) packet [])
 
 -- ---- the checks
 

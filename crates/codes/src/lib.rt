@@ -23,10 +23,10 @@ fn first_check(opened: bool, index: u32, packet: u32, outlen: usize) -> u32
         return 5;
     }
     if index == 0 {
-        return 12;
+        return 12; // no message was accepted yet
     }
     if 2047 < packet {
-        return 12;
+        return 12; // no such packet
     }
     if outlen < 8 {
         return 8;

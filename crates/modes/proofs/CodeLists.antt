@@ -19,7 +19,7 @@ use Rattle.modes.specs.TwoEnds.{Ledgers, ledgerAt, setLedger, ledgerStep
 use Rattle.modes.specs.Demand3.{outcomeOf, ByLedgers}
 use Rattle.modes.specs.Promises.{Kind, Promises, Starts, Records, recordAt, sessionsHeld, leftBy, Run}
 use Rattle.modes.specs.Codes.{CodeOutcome, codeAt, AnyCode, CodeClaim}
-use Rattle.modes.specs.CodeLists.{Request, call, code, callsOf, NoneAccepted, CodeThere, EachCode, WithCodes, Codes, codesByRules, CodeRun, AnyCodeOf, CodeOf, WithCodesOf, SameRuns}
+use Rattle.modes.specs.CodeLists.{Request, call, code, callsOf, NoneAccepted, CodeThere, EachCode, Codes, codesByRules, CodeRun, AnyCodeOf, CodeOf, WithCodesOf, SameRuns}
 use Rattle.modes.proofs.Modes.{Follows, sanse-follows}
 use Rattle.modes.proofs.Ledgers.{wrap-key, unwrap-key}
 use Rattle.modes.proofs.Entries.{PaperLaws, paper-laws}

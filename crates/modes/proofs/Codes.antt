@@ -1,10 +1,10 @@
 -- Codes of packets: each number exactly, of any session; the code of what a session keeps is that of the whole history; and its count, from the
 -- leaf's. Assumes nothing.
 use mathlib.Core.Bool.{Bool, true, false, not, _||_, cond, true≢false}
-use mathlib.Core.List.{List, [], _∷_, _++_}
+use mathlib.Core.List.{List, [], _∷_}
 use mathlib.Core.Logic.{_↔_, _≢_, _⊎_, inl, inr}
-use mathlib.Core.Path.{_≡_, refl, sym, ap, _∙_, subst}
-use Prim.Native.Nat.{ℕ, zero, suc, _+_, _*_, _<_, _≤_}
+use mathlib.Core.Path.{_≡_, refl, sym, ap, _∙_}
+use Prim.Native.Nat.{ℕ, suc, _+_, _*_, _<_, _≤_}
 use native.Mathlib.Omega.{arith}
 use borrow.Author.Tests.{ltb-true, ltb-false, eqb-true, eqb-false}
 use lib.Dec.{ltb, eqb}
@@ -18,15 +18,19 @@ use Rattle.xoofff.specs.Leaves.{outputBlocks}
 use Rattle.modes.specs.Mode.{HistoryRep, incremental}
 use Rattle.modes.specs.Rules.{SessionState}
 use Rattle.modes.specs.OneCall.{sessionOf}
-use Rattle.modes.specs.Codes.{CodeOutcome, codeCheck, noCode, codeOf, unlessCheck, codeAt, Code5, Code12, Code8, AnyCode, CodeClaim}
+use Rattle.modes.specs.Codes.{CodeOutcome, codeCheck, noCode, codeOf, unlessCheck, codeAt, Code5, Code12, AnyCode, CodeClaim}
 use Rattle.modes.proofs.Exactly.{is, isnt}
 
 -- ---- the count
 
--- 8 bytes from a multiple of 8 on lie in one block of 48, so that a code takes one permutation of the accumulator and one for its block
-pub code-counts : (packet : ℕ) → 1 + outputBlocks (32 + 8 * packet) 8 ≡ 2
+-- 8 bytes from a multiple of 8 on lie in one block of 48
+one-block : (packet : ℕ) → outputBlocks (32 + 8 * packet) 8 ≡ 1
 unfolding outputBlocks
-code-counts packet = omega arith
+one-block packet = omega arith
+
+-- so that a code takes one permutation of the accumulator and one for its block, by the leaf's count of blocks
+pub code-counts : (f : ℕ → ℕ) (packet : ℕ) (out : List ℕ) → codeOf f packet out .count ≡ 1 + outputBlocks (32 + 8 * packet) 8
+code-counts f packet out = omega (arith, one-block packet)
 
 -- ---- each number exactly, of any session
 
