@@ -53,6 +53,15 @@ pub enum Failure {
     },
     /// The key was used in this state file before.
     UsedKey,
+    /// A code that was read off a packet is not the packet's.
+    Mismatch {
+        /// The group.
+        group: u32,
+        /// The packet.
+        packet: u32,
+        /// The index that the session stands at.
+        index: u32,
+    },
     /// The proved library refused the call.
     Refused(Refusal),
     /// The library found a wrong tag, and the day's count could not be committed, or not as it should.
@@ -94,6 +103,7 @@ impl Failure {
             Failure::NotNow(_) => 5,
             Failure::OtherGroup { .. } => 6,
             Failure::UsedKey => 7,
+            Failure::Mismatch { .. } => 9,
             Failure::Refused(refusal) => 10 + refusal.number.number(),
             Failure::Kept { source, .. } => source.status(),
         }
@@ -136,6 +146,9 @@ impl fmt::Display for Failure {
                 write!(f, "This is for group {asked}, and the state file is that of group {own}.")
             }
             Failure::UsedKey => f.write_str(USED_KEY),
+            Failure::Mismatch { group, packet, index } => {
+                write!(f, "This is not the code of packet {packet} of group {group} at index {index}. {MISMATCH}")
+            }
             Failure::Refused(refusal) => refused(f, refusal),
             Failure::NotCounted(refusal, error) => {
                 refused(f, refusal)?;
@@ -163,6 +176,10 @@ all the same, which is right only if nothing was sealed or opened since the copy
 const USED_KEY: &str = "\
 This key was used in this state file before: under it, old envelopes would be accepted again. Make a new one, as with \
 `pevghazo keygen`; `--reuse-key` takes it all the same.";
+
+/// What is said of a code that does not match besides that.
+const MISMATCH: &str = "\
+Codes change with each message that is sealed or opened: look whether the packet was labelled at the same index.";
 
 /// What is said of a wrong tag besides that it is wrong.
 const WRONG_TAG: &str = "\
