@@ -179,7 +179,7 @@ This key was used in this state file before: under it, old envelopes would be ac
 
 /// What is said of a code that does not match besides that.
 const MISMATCH: &str = "\
-Codes change with each message that is sealed or opened: look whether the packet was labelled at the same index.";
+Codes change with each message that is sealed or opened: was the packet labelled at this index?";
 
 /// What is said of a wrong tag besides that it is wrong.
 const WRONG_TAG: &str = "\

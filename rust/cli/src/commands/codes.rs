@@ -13,7 +13,7 @@ use crate::output::{Output, Time, print, tell};
 use crate::state_file::Used;
 use crate::table::FORMATS;
 
-/// Gives the codes of a range of packets, all or none.
+/// Lists the codes of a range of packets, all or none.
 pub fn codes<E: End>(arguments: &Arguments, out: &mut dyn Write) -> Result<(), Failure> {
     let packets = arguments.required_range("packets")?;
     let format = arguments.word("format", &FORMATS)?.unwrap_or(FORMATS[0]);
@@ -27,7 +27,7 @@ pub fn codes<E: End>(arguments: &Arguments, out: &mut dyn Write) -> Result<(), F
     // Whoever reads the output may be slow, and needs the state file no more.
     drop(used);
     output.write(labels.text(format).as_bytes(), Time::First, out)?;
-    tell(&format!("Gave the codes of {labels}."));
+    tell(&format!("Listed the codes of {labels}."));
     Ok(())
 }
 
