@@ -146,9 +146,7 @@ impl fmt::Display for Failure {
                 write!(f, "This is for group {asked}, and the state file is that of group {own}.")
             }
             Failure::UsedKey => f.write_str(USED_KEY),
-            Failure::Mismatch { group, packet, index } => {
-                write!(f, "This is not the code of packet {packet} of group {group} at index {index}. {MISMATCH}")
-            }
+            Failure::Mismatch { group, packet, index } => mismatch(f, *group, *packet, *index),
             Failure::Refused(refusal) => refused(f, refusal),
             Failure::NotCounted(refusal, error) => {
                 refused(f, refusal)?;
@@ -177,10 +175,6 @@ const USED_KEY: &str = "\
 This key was used in this state file before: under it, old envelopes would be accepted again. Make a new one, as with \
 `pevghazo keygen`; `--reuse-key` takes it all the same.";
 
-/// What is said of a code that does not match besides that.
-const MISMATCH: &str = "\
-Codes change with each message that is sealed or opened: was the packet labelled at this index?";
-
 /// What is said of a wrong tag besides that it is wrong.
 const WRONG_TAG: &str = "\
 Or both ends have sealed at once: then neither envelope can be opened, and the session is replaced under a new key.";
@@ -189,4 +183,13 @@ Or both ends have sealed at once: then neither envelope can be opened, and the s
 fn refused(f: &mut fmt::Formatter<'_>, refusal: &Refusal) -> fmt::Result {
     write!(f, "Refused, number {}: {}", refusal.number.number(), refusal.number.sentence())?;
     if refusal.number == Number::WrongTag { write!(f, " {WRONG_TAG}") } else { Ok(()) }
+}
+
+/// The sentences of a code that does not match.
+fn mismatch(f: &mut fmt::Formatter<'_>, group: u32, packet: u32, index: u32) -> fmt::Result {
+    write!(
+        f,
+        "This is not the code of packet {packet} of group {group} at index {index}. Codes change with each message that is \
+         sealed or opened: was the packet labelled at this index?"
+    )
 }

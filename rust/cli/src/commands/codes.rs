@@ -22,7 +22,7 @@ pub fn codes<E: End>(arguments: &Arguments, out: &mut dyn Write) -> Result<(), F
     output.must_be_new()?;
     let group = used.state.group(arguments)?;
     let code = |packet| Ok((packet, used.state.code(group, packet)?));
-    let codes = packets.clone().map(code).collect::<Result<_, Refusal>>()?;
+    let codes = packets.map(code).collect::<Result<_, Refusal>>()?;
     let labels = Labels { group, index: used.state.index(group), codes };
     // Whoever reads the output may be slow, and needs the state file no more.
     drop(used);

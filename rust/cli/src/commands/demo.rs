@@ -55,14 +55,7 @@ pub fn run(out: &mut dyn Write, run: Run) -> Result<(), Failure> {
             &format!("  group {group:2}: an envelope of {envelope} bytes comes in and is opened as {opened}\n"),
         )?;
     }
-    print(out, "\nOther arrivals that are refused:\n")?;
-    print(out, "  repeated: the office gets the envelope of group 11 a second time:\n")?;
-    folder.refused(out, &["office", "open", "--in", "from-11", "--out", "none"], "office.state")?;
-    print(out, "  misdirected: group 27 gets the envelope for group 4:\n")?;
-    folder.refused(out, &["group", "open", "--in", "to-4", "--out", "none"], "group-27.state")?;
-    print(out, "  misdirected, and readdressed to 27:\n")?;
-    folder.readdress("to-4", "S,4,", "S,27,", "readdressed")?;
-    folder.refused(out, &["group", "open", "--in", "readdressed", "--out", "none"], "group-27.state")?;
+    misdirect(&folder, out)?;
     print(out, "\nWhat the office holds:\n")?;
     print(out, &indented(&folder.play(&["office", "show"], "office.state")?))?;
     print(out, "\nWhat the groups hold:\n")?;
@@ -97,6 +90,18 @@ fn label(folder: &Folder, out: &mut dyn Write) -> Result<(), Failure> {
     print(out, &format!("  the office checks the code of packet 0: {verdict}"))?;
     print(out, "  the same code on packet 1:\n")?;
     folder.refused(out, &check("1"), "office.state")
+}
+
+/// Arrivals in the wrong place are refused.
+fn misdirect(folder: &Folder, out: &mut dyn Write) -> Result<(), Failure> {
+    print(out, "\nOther arrivals that are refused:\n")?;
+    print(out, "  repeated: the office gets the envelope of group 11 a second time:\n")?;
+    folder.refused(out, &["office", "open", "--in", "from-11", "--out", "none"], "office.state")?;
+    print(out, "  misdirected: group 27 gets the envelope for group 4:\n")?;
+    folder.refused(out, &["group", "open", "--in", "to-4", "--out", "none"], "group-27.state")?;
+    print(out, "  misdirected, and readdressed to 27:\n")?;
+    folder.readdress("to-4", "S,4,", "S,27,", "readdressed")?;
+    folder.refused(out, &["group", "open", "--in", "readdressed", "--out", "none"], "group-27.state")
 }
 
 fn indented(text: &str) -> String {
