@@ -19,6 +19,7 @@ const char *pevghazo_number_text(uint32_t number) {
     case PEVGHAZO_INDEX_FULL: return "The session is full: start a new one with a new key.";
     case PEVGHAZO_ALLOWANCE: return "The day's allowance does not cover this call.";
     case PEVGHAZO_WRONG_TAG: return "The tag is wrong: the arrival is damaged, repeated, out of order or not meant for this session.";
+    case PEVGHAZO_NO_CODE: return "There is no such code: no message was accepted yet, or the packet is above 2,047.";
     case PEVGHAZO_STORED_LENGTH: return "The stored bytes are too few or too many.";
     case PEVGHAZO_STORED_FLAG: return "The stored bytes hold a flag that is neither 0 nor 1.";
     case PEVGHAZO_STORED_INDEX: return "The stored bytes hold an index above 1,048,576.";

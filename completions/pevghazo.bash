@@ -19,7 +19,7 @@ _pevghazo() {
     for i in "${all[@]}"; do
         if [[ -n $skip ]]; then skip=''; continue; fi
         case $i in
-            --state|--wait|--allowance|--group|--key|--message|--metadata|--metadata-text|--out|--in|--from|--metadata-out|--mark) skip=1 ;;
+            --state|--wait|--allowance|--group|--key|--message|--metadata|--metadata-text|--out|--in|--from|--metadata-out|--mark|--packets|--format|--packet|--code) skip=1 ;;
             -*) ;;
             office|group) [[ -z $end$name ]] && end=$i || name=$i ;;
             help) [[ -z $help$end$name ]] && help=1 || name=$i ;;
@@ -28,14 +28,15 @@ _pevghazo() {
     done
     case $before in
         --state|--key|--message|--metadata|--out|--in|--metadata-out) compopt -o filenames; mapfile -t COMPREPLY < <(compgen -P "$prefix" -f -- "$word"); return ;;
-        --wait|--allowance|--group|--metadata-text|--from|--mark) return ;;
+        --format) mapfile -t COMPREPLY < <(compgen -P "$prefix" -W 'text csv html' -- "$word"); return ;;
+        --wait|--allowance|--group|--metadata-text|--from|--mark|--packets|--packet|--code) return ;;
     esac
     local words
     [[ -n $help && -n $name ]] && return
     case "$end $name" in
         ' ') words='office group keygen demo help --help --version' ;;
-        'office ') words='create day open-group seal open resend reread forget nearly-full show --help' ;;
-        'group ') words='start seal open resend reread forget show --help' ;;
+        'office ') words='create day open-group seal open resend reread forget nearly-full codes check-code show --help' ;;
+        'group ') words='start seal open resend reread forget codes check-code show --help' ;;
         'office create') words='--state --wait --help' ;;
         'office day') words='--state --allowance --wait --restore --help' ;;
         'office open-group') words='--state --group --key --replace --reuse-key --wait --restore --help' ;;
@@ -45,6 +46,8 @@ _pevghazo() {
         'office reread') words='--state --group --out --metadata-out --wait --restore --help' ;;
         'office forget') words='--state --group --envelope --wait --restore --help' ;;
         'office nearly-full') words='--state --mark --wait --restore --help' ;;
+        'office codes') words='--state --group --packets --format --out --wait --restore --help' ;;
+        'office check-code') words='--state --group --packet --code --wait --restore --help' ;;
         'office show') words='--state --json --wait --restore --help' ;;
         'group start') words='--state --group --key --replace --reuse-key --wait --restore --help' ;;
         'group seal') words='--state --message --metadata --metadata-text --out --wait --restore --help' ;;
@@ -52,6 +55,8 @@ _pevghazo() {
         'group resend') words='--state --out --wait --restore --help' ;;
         'group reread') words='--state --out --metadata-out --wait --restore --help' ;;
         'group forget') words='--state --envelope --wait --restore --help' ;;
+        'group codes') words='--state --packets --format --out --wait --restore --help' ;;
+        'group check-code') words='--state --packet --code --wait --restore --help' ;;
         'group show') words='--state --json --wait --restore --help' ;;
         ' keygen') words='--out --help' ;;
         ' demo') words='--help' ;;

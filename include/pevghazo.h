@@ -1,15 +1,16 @@
-/* Pevghazo: sessions of Xoofff-SANSE, the office's table of sessions, and message envelopes.
+/* Pevghazo: sessions of Xoofff-SANSE, the office's table of sessions, message envelopes, and codes for packets.
  *
  *     pevghazo/session.h    a lone session
  *     pevghazo/table.h      the office's table of 32 sessions, and its day
  *     pevghazo/envelope.h   the bytes in which a message travels
+ *     pevghazo/codes.h      codes for packets of rings
  *     pevghazo/stored.h     a session as bytes, for storing it
  *     pevghazo/memory.h     setting secrets in memory to zero
  *     pevghazo/numbers.h    the numbers of refusals, with a sentence for each, and limits; the others include it
  *     pevghazo/version.h    the version
  *     pevghazo/language.h   what differs between old C, later C and C++
  *
- * Proved for all bytes are the functions of session.h, table.h and envelope.h. The others are plain C, which is tested only:
+ * Proved for all bytes are the functions of session.h, table.h, envelope.h and codes.h. The others are plain C, which is tested only:
  * pevghazo_store_session, pevghazo_load_session, pevghazo_wipe, pevghazo_wipe_stack, pevghazo_number_text and pevghazo_version.
  *
  * Every proved function takes any bytes and returns. Its number is 0 where the call was accepted, and otherwise the number of the first check
@@ -35,6 +36,7 @@
 #ifndef PEVGHAZO_H
 #define PEVGHAZO_H
 
+#include "pevghazo/codes.h"
 #include "pevghazo/envelope.h"
 #include "pevghazo/memory.h"
 #include "pevghazo/numbers.h"

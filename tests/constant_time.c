@@ -1,13 +1,13 @@
 /* Constant time: which branches and addresses depend on a secret?
  *
  * Valgrind's memcheck follows every bit that was never set, and reports a branch or an address that depends on one. Here the secrets are
- * marked so: the key, the lanes of a record, and the message, before they are handed to the library. Start and wrap must give no report.
+ * marked so: the key, the lanes of a record, and the message, before they are handed to the library. Start, wrap and codes must give no report.
  * Unwrap may give one, once in a call: its verdict on the tag, which everybody may know. tests/constant_time.sh runs this, once for lone
  * sessions and once for a group of a table, and checks that all these reports come from one branch. The lengths go up to the limit of
  * 16,384 bytes. A second argument N plants a leak in every wrap of a message of more than N bytes, which must be seen.
  *
  * A record's index, toggle and openness and all lengths are no secrets: anybody who sees the messages can count them. Metadata,
- * cryptograms and tags travel in the clear. */
+ * cryptograms and tags travel in the clear, and packets are numbered in the open. */
 #include <pevghazo.h>
 #include <stdio.h>
 #include <stdlib.h>
@@ -195,6 +195,39 @@ static void store_and_load(void) {
     is_public(&s->index, PUBLIC, "index, toggle or openness depend on a secret");
 }
 
+/* A packet's code into a buffer of this length, or its refusal by this number; a refusal depends on no secret, either. */
+static void code(uint32_t packet, size_t out_len, uint32_t number) {
+    static char text[64];
+    const size_t written = number == PEVGHAZO_ACCEPTED ? PEVGHAZO_CODE_LENGTH : 0;
+    uint8_t out[2 * PEVGHAZO_CODE_LENGTH] = {0};
+    pevghazo_session *s = &table[group];
+    pevghazo_answer answer;
+    snprintf(text, sizeof text, "code of packet %u, %zu bytes", packet, out_len);
+    doing = text;
+    hide_lanes(s);
+    reports();
+    answer = pevghazo_code(s, packet, out, out_len);
+    no_report();
+    is_public(&answer, sizeof answer, "the answer depends on a secret");
+    is_public(&s->index, PUBLIC, "index, toggle or openness depend on a secret");
+    if (answer.number != number) fail("the number is not the expected one");
+    is_secret(out, written, "the code does not depend on the session");
+    is_public(out + written, sizeof out - written, "a byte beside the code depends on a secret");
+}
+
+static void codes(void) {
+    static const uint32_t packets[] = {0, 1, 2, 5, 6, 7, 8, 100, 1023, 2046, PEVGHAZO_PACKET_MAX};
+    for (size_t i = 0; i < sizeof packets / sizeof packets[0]; i++) {
+        code(packets[i], PEVGHAZO_CODE_LENGTH, PEVGHAZO_ACCEPTED);
+        code(packets[i], 2 * PEVGHAZO_CODE_LENGTH, PEVGHAZO_ACCEPTED);
+        code(packets[i], PEVGHAZO_CODE_LENGTH - 1, PEVGHAZO_NO_ROOM);
+    }
+    code(PEVGHAZO_PACKET_MAX + 1, PEVGHAZO_CODE_LENGTH, PEVGHAZO_NO_CODE);
+    table[group].opened = false;
+    code(0, PEVGHAZO_CODE_LENGTH, PEVGHAZO_NOT_OPEN);
+    table[group].opened = true;
+}
+
 /* Both ends of a session are played in turn with one record: what it was before a wrap is put back for the unwrap. */
 static void message_of(bool for_group, size_t a, size_t m) {
     static char text[64];
@@ -238,8 +271,10 @@ int main(int argc, char **argv) {
     day = pevghazo_start_day(UINT32_MAX);
     doing = for_group ? "open a group" : "start";
     for (size_t n = PEVGHAZO_KEY_MIN; n <= PEVGHAZO_KEY_MAX; n++) start(for_group, n);
+    code(0, PEVGHAZO_CODE_LENGTH, PEVGHAZO_NO_CODE);
     store_and_load();
     messages(for_group);
+    codes();
     printf("constant time, %s: %u calls, %u verdicts on tags seen, nothing else\n", argv[1], calls, verdicts);
     return 0;
 }

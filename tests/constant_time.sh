@@ -1,6 +1,7 @@
 #!/usr/bin/env bash
 # Runs tests/constant_time.c under valgrind, for lone sessions and for a group. It fails where a branch or an address depends on a secret,
-# but for the verdict on the tag, which is a single branch. Leaks planted in long messages only must be seen, too.
+# but for the verdict on the tag, which is a single branch. Leaks planted in long messages only must be seen, too. Then the same for codes as
+# the Rust crate compares them (rust/pevghazo/examples/constant_time.rs).
 set -eu
 cd "$(dirname "$0")/.."
 lib=${PEVGHAZO_LIB_DIR:-target/staticlib}
@@ -15,10 +16,11 @@ mkdir -p "$out"
 echo '#include <valgrind/memcheck.h>' | gcc -fsyntax-only -x c - 2>/dev/null || fail "valgrind/memcheck.h is missing (Debian package valgrind)"
 gcc -O2 -g -std=c89 -Iinclude -c c/stored.c -o "$out/stored.o"
 gcc -O1 -g -std=gnu11 -Wall -Wextra -Iinclude tests/constant_time.c "$out/stored.o" "$lib/libcapi.a" -o "$out/constant_time"
-run() { # LOG WORDS ..
+followed() { # LOG PROGRAM WORDS ..
   # The library has no tables for walking its stack, so reports are told apart by their innermost function alone.
-  valgrind --quiet --expensive-definedness-checks=yes --error-limit=no --num-callers=1 --log-file="$1" "$out/constant_time" "${@:2}"
+  valgrind --quiet --expensive-definedness-checks=yes --error-limit=no --num-callers=1 --log-file="$1" "${@:2}"
 }
+run() { followed "$1" "$out/constant_time" "${@:2}"; } # LOG WORDS ..
 # Leaks made on purpose in messages above a length.
 for above in 1024 16383; do
   if run "$out/planted" lone $above >"$out/said" 2>&1; then fail "a leak in messages above $above bytes was not seen"; fi
@@ -41,3 +43,5 @@ for who in lone group; do
     fail "$who: more than the verdict's branch depends on a secret; all reports are in $out/$who"
   fi
 done
+cargo build --manifest-path rust/Cargo.toml --locked --offline --quiet --release --package pevghazo --example constant_time
+followed "$out/compared" rust/target/release/examples/constant_time || fail "comparing codes failed; all reports are in $out/compared"

@@ -8,7 +8,7 @@
 extern "C" {
 #endif
 
-/* Numbers, in the order in which they are checked. */
+/* Numbers, in the order in which they are checked; but a code meets 5, 12, 8, in this order. */
 enum {
     PEVGHAZO_ACCEPTED = 0,
     PEVGHAZO_BAD_HEADER = 1,     /* the envelope's header does not follow the layout */
@@ -21,7 +21,8 @@ enum {
     PEVGHAZO_NO_ROOM = 8,        /* the output buffer is too short */
     PEVGHAZO_INDEX_FULL = 9,     /* the index after the call would exceed 1,048,576 */
     PEVGHAZO_ALLOWANCE = 10,     /* the allowance is smaller than the day's count plus this call's count */
-    PEVGHAZO_WRONG_TAG = 11      /* the tag differs */
+    PEVGHAZO_WRONG_TAG = 11,     /* the tag differs */
+    PEVGHAZO_NO_CODE = 12        /* no message was accepted yet, or the packet is above 2,047 */
 };
 
 /* Limits: the groups of a table, the bytes of a tag, and the most bytes of metadata and of a message. */

@@ -3,6 +3,7 @@
 //! A command line is some words, as `office seal`, and options, as `--group 4` or `--group=4`, in any order.
 
 use std::ffi::{OsStr, OsString};
+use std::ops::RangeInclusive;
 use std::os::unix::ffi::{OsStrExt, OsStringExt};
 
 use crate::completions;
@@ -45,8 +46,7 @@ impl Arguments {
     /// The number that an option has as its value, if it was given.
     pub fn number(&self, name: &str) -> Result<Option<u32>, Failure> {
         let Some((option, value)) = self.0.iter().find(|(known, _)| known.name == name) else { return Ok(None) };
-        let digits = value.to_str().filter(|text| text.bytes().all(|byte| byte.is_ascii_digit()));
-        digits.and_then(|text| text.parse().ok()).map(Some).ok_or_else(|| {
+        value.to_str().and_then(digits).map(Some).ok_or_else(|| {
             let highest = if let Value::Number(_, highest) = option.value { highest } else { u32::MAX };
             Failure::Usage(format!("The option --{name} needs a number from 0 to {highest}, in digits."))
         })
@@ -57,6 +57,34 @@ impl Arguments {
         self.required(name)?;
         self.number(name)?.ok_or_else(|| Failure::Usage(format!("The option --{name} is missing.")))
     }
+
+    /// The numbers that an option has as its value: one, or all from a first to a last.
+    pub fn required_range(&self, name: &str) -> Result<RangeInclusive<u32>, Failure> {
+        let ends = self.required(name)?.to_str().and_then(|text| {
+            let (first, last) = text.split_once('-').unwrap_or((text, text));
+            Some((digits(first)?, digits(last)?))
+        });
+        match ends {
+            Some((first, last)) if first <= last => Ok(first..=last),
+            Some(_) => Err(Failure::Usage(format!("The range of the option --{name} ends before it begins."))),
+            None => Err(Failure::Usage(format!(
+                "The option --{name} needs a number in digits, as 7, or a first and a last one, as 0-23."
+            ))),
+        }
+    }
+
+    /// The word that an option has as its value, one of these, if it was given.
+    pub fn word(&self, name: &str, words: &[&'static str]) -> Result<Option<&'static str>, Failure> {
+        let Some(value) = self.value(name) else { return Ok(None) };
+        words.iter().find(|word| **word == value).map(|word| Some(*word)).ok_or_else(|| {
+            Failure::Usage(format!("The option --{name} needs one of these words: {}.", words.join(", ")))
+        })
+    }
+}
+
+/// A number of 32 bits in digits.
+fn digits(text: &str) -> Option<u32> {
+    text.bytes().all(|byte| byte.is_ascii_digit()).then(|| text.parse().ok()).flatten()
 }
 
 /// Reads a command line, without the program's own name.
@@ -96,11 +124,18 @@ fn command_of<'a>(words: &[&'a str]) -> Result<(&'a str, Option<&'static Command
     };
     let [name, extra @ ..] = rest else { return Ok((end, None)) };
     let command = table::find(end, name).ok_or_else(|| unknown_word(name))?;
-    extra.first().map_or(Ok((end, Some(command))), |word| Err(unknown_word(word)))
+    extra.first().map_or(Ok((end, Some(command))), |word| Err(extra_word(command, word)))
 }
 
 fn unknown_word(word: &str) -> Failure {
     Failure::Usage(format!("There is no command {word:?} here: `pevghazo --help` lists them."))
+}
+
+/// A word after those of a command, which may be a part of a text.
+fn extra_word(command: &Command, word: &str) -> Failure {
+    let text = command.options.iter().find(|option| matches!(option.value, Value::Text(_)));
+    let quotes = text.map(|option| format!(" Spaces in the value of --{} need quotes around it.", option.name));
+    Failure::Usage(format!("{}{}", unknown_word(word), quotes.unwrap_or_default()))
 }
 
 /// Splits a command line into its words and its options.
@@ -154,7 +189,7 @@ fn long(option: &[u8], tokens: &mut impl Iterator<Item = OsString>) -> Result<(&
     Ok((known, value))
 }
 
-/// Checks that all options are the command's own, that none is missing, and that numbers are numbers.
+/// Checks that all options are the command's own, that none is missing, and that each value is what its option takes.
 fn check(command: &'static Command, given: Given) -> Result<Arguments, Failure> {
     let mut own = Given::new();
     for (option, value) in given {
@@ -169,8 +204,11 @@ fn check(command: &'static Command, given: Given) -> Result<Arguments, Failure> 
         if option.required {
             arguments.required(option.name)?;
         }
-        if matches!(option.value, Value::Number(..)) {
-            arguments.number(option.name)?;
+        match option.value {
+            Value::Number(..) => arguments.number(option.name).map(drop)?,
+            Value::Range(_) => arguments.required_range(option.name).map(drop)?,
+            Value::Word(words) => arguments.word(option.name, words).map(drop)?,
+            Value::None | Value::File | Value::Text(_) => {}
         }
     }
     Ok(arguments)
@@ -213,6 +251,52 @@ mod tests {
             let line = format!("office day --state f --allowance={text}");
             assert_eq!(parsed(&line).unwrap_err().status(), 2, "{text}");
         }
+    }
+
+    #[test]
+    fn ranges_are_one_number_or_two() {
+        let line = |text: &str| format!("group codes --state f --packets={text}");
+        for (text, range) in
+            [("7", 7..=7), ("0-23", 0..=23), ("5-5", 5..=5), ("00-07", 0..=7), ("0-4294967295", 0..=u32::MAX)]
+        {
+            assert_eq!(options(&line(text)).required_range("packets").ok(), Some(range), "{text}");
+        }
+        for text in
+            ["", "-", "7-", "-7", "0--7", "0-7-9", "0..7", "0,7", "+0-7", "0 - 7", "x", "4294967296", "0-4294967296"]
+        {
+            let said = parse(["group", "codes", "--state", "f", &format!("--packets={text}")].map(OsString::from));
+            let said = said.unwrap_err().to_string();
+            assert!(
+                said.ends_with(" needs a number in digits, as 7, or a first and a last one, as 0-23."),
+                "{text}: {said}"
+            );
+        }
+        for text in ["1-0", "23-7", "4294967295-0"] {
+            let said = parsed(&line(text)).unwrap_err().to_string();
+            assert_eq!(said, "The range of the option --packets ends before it begins.", "{text}");
+        }
+    }
+
+    #[test]
+    fn words_are_those_of_the_table() {
+        let line = |text: &str| format!("group codes --state f --packets 7 --format={text}");
+        for word in table::FORMATS {
+            assert_eq!(options(&line(word)).word("format", &table::FORMATS).ok(), Some(Some(word)));
+        }
+        assert_eq!(options("group codes --state f --packets 7").word("format", &table::FORMATS).ok(), Some(None));
+        for text in ["", "TEXT", "tex", "pdf"] {
+            let said = parsed(&line(text)).unwrap_err().to_string();
+            assert_eq!(said, "The option --format needs one of these words: text, csv, html.", "{text}");
+        }
+    }
+
+    #[test]
+    fn spaces_of_a_text_need_quotes() {
+        let said = parsed("group check-code --state f --packet 7 --code 0123 4567 89ab cdef").unwrap_err().to_string();
+        assert!(said.starts_with("There is no command \"4567\" here"), "{said}");
+        assert!(said.ends_with(" Spaces in the value of --code need quotes around it."), "{said}");
+        let said = parsed("office show more --state f").unwrap_err().to_string();
+        assert!(!said.contains("quotes"), "{said}");
     }
 
     #[test]

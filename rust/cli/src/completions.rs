@@ -61,6 +61,19 @@ fn with_value(value: fn(Value) -> bool) -> String {
     names.join("|")
 }
 
+/// The options whose value is a word, each once, with these words.
+fn with_words() -> Vec<(&'static str, String)> {
+    let mut all: Vec<(&str, String)> = Vec::new();
+    for option in COMMANDS.iter().flat_map(|command| command.options) {
+        if let Value::Word(words) = option.value
+            && !all.iter().any(|(name, _)| *name == option.name)
+        {
+            all.push((option.name, words.join(" ")));
+        }
+    }
+    all
+}
+
 fn bash() -> String {
     let mut text = String::from(
         "# Completions of pevghazo for bash; `pevghazo completions bash` prints them.\n\
@@ -96,10 +109,16 @@ fn bash() -> String {
         "        {}) compopt -o filenames; mapfile -t COMPREPLY < <(compgen -P \"$prefix\" -f -- \"$word\"); return ;;",
         with_value(|value| value == Value::File)
     );
+    for (name, words) in with_words() {
+        let _ = writeln!(
+            text,
+            "        --{name}) mapfile -t COMPREPLY < <(compgen -P \"$prefix\" -W '{words}' -- \"$word\"); return ;;"
+        );
+    }
     let _ = writeln!(
         text,
         "        {}) return ;;\n    esac\n    local words",
-        with_value(|value| !matches!(value, Value::None | Value::File))
+        with_value(|value| !matches!(value, Value::None | Value::File | Value::Word(_)))
     );
     text.push_str("    [[ -n $help && -n $name ]] && return\n    case \"$end $name\" in\n");
     let _ = writeln!(
@@ -141,6 +160,7 @@ fn zsh_option(option: &Opt) -> String {
     match option.value {
         Value::None => format!("'--{name}[{about}]'"),
         Value::File => format!("'--{name}=[{about}]:file:_files'"),
+        Value::Word(words) => format!("'--{name}=[{about}]:word:({})'", words.join(" ")),
         value => format!("'--{name}=[{about}]:{value}: '"),
     }
 }
@@ -211,9 +231,10 @@ fn fish() -> String {
         let seen = format!("{seen}; and not __fish_seen_subcommand_from help");
         for option in command.options {
             let value = match option.value {
-                Value::None => "",
-                Value::File => " -r -F",
-                _ => " -x",
+                Value::None => String::new(),
+                Value::File => " -r -F".to_string(),
+                Value::Word(words) => format!(" -x -a '{}'", words.join(" ")),
+                _ => " -x".to_string(),
             };
             let about = fish_text(option.about);
             let _ = writeln!(text, "complete -c pevghazo -n '{seen}' -l {}{value} -d '{about}'", option.name);

@@ -1,6 +1,6 @@
-//! The two ends of sessions, for the commands that both have: sealing and opening by the proved library.
+//! The two ends of sessions, for the commands that both have: sealing, opening and codes by the proved library.
 
-use pevghazo::{Envelope, Plain, Refusal};
+use pevghazo::{Code, Envelope, Plain, Refusal};
 use pevghazo_store::Secret;
 
 use crate::arguments::Arguments;
@@ -24,6 +24,8 @@ pub trait End: State {
     fn kept(&mut self, group: u32) -> Result<&mut Kept, Refusal>;
     /// The index of a group's session.
     fn index(&self, group: u32) -> u32;
+    /// The code of a packet of a group.
+    fn code(&self, group: u32, packet: u32) -> Result<Code, Refusal>;
 }
 
 impl End for Office {
@@ -52,6 +54,10 @@ impl End for Office {
     fn index(&self, group: u32) -> u32 {
         self.table.group(group).map_or(0, |group| group.index)
     }
+
+    fn code(&self, group: u32, packet: u32) -> Result<Code, Refusal> {
+        Ok(self.table.code(group, packet)?.0)
+    }
 }
 
 impl End for Group {
@@ -79,5 +85,9 @@ impl End for Group {
 
     fn index(&self, _: u32) -> u32 {
         self.session.index()
+    }
+
+    fn code(&self, _: u32, packet: u32) -> Result<Code, Refusal> {
+        Ok(self.session.code(packet)?.0)
     }
 }

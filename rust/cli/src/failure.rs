@@ -53,6 +53,15 @@ pub enum Failure {
     },
     /// The key was used in this state file before.
     UsedKey,
+    /// A code that was read off a packet is not the packet's.
+    Mismatch {
+        /// The group.
+        group: u32,
+        /// The packet.
+        packet: u32,
+        /// The index that the session stands at.
+        index: u32,
+    },
     /// The proved library refused the call.
     Refused(Refusal),
     /// The library found a wrong tag, and the day's count could not be committed, or not as it should.
@@ -94,6 +103,7 @@ impl Failure {
             Failure::NotNow(_) => 5,
             Failure::OtherGroup { .. } => 6,
             Failure::UsedKey => 7,
+            Failure::Mismatch { .. } => 9,
             Failure::Refused(refusal) => 10 + refusal.number.number(),
             Failure::Kept { source, .. } => source.status(),
         }
@@ -136,6 +146,7 @@ impl fmt::Display for Failure {
                 write!(f, "This is for group {asked}, and the state file is that of group {own}.")
             }
             Failure::UsedKey => f.write_str(USED_KEY),
+            Failure::Mismatch { group, packet, index } => mismatch(f, *group, *packet, *index),
             Failure::Refused(refusal) => refused(f, refusal),
             Failure::NotCounted(refusal, error) => {
                 refused(f, refusal)?;
@@ -172,4 +183,13 @@ Or both ends have sealed at once: then neither envelope can be opened, and the s
 fn refused(f: &mut fmt::Formatter<'_>, refusal: &Refusal) -> fmt::Result {
     write!(f, "Refused, number {}: {}", refusal.number.number(), refusal.number.sentence())?;
     if refusal.number == Number::WrongTag { write!(f, " {WRONG_TAG}") } else { Ok(()) }
+}
+
+/// The sentences of a code that does not match.
+fn mismatch(f: &mut fmt::Formatter<'_>, group: u32, packet: u32, index: u32) -> fmt::Result {
+    write!(
+        f,
+        "This is not the code of packet {packet} of group {group} at index {index}. Codes change with each message that is \
+         sealed or opened: was the packet labelled at this index?"
+    )
 }

@@ -24,7 +24,8 @@ pub fn list(end: &str) -> String {
     text.push_str(
         "\nExit status: 0 done; 2 command line; 3 state file; 4 input or output; 5 not now; 6 another group's;\n",
     );
-    text.push_str("7 key used before; 8 state file is an older copy; 11 to 21 refused, 10 and the refusal's number.\n");
+    text.push_str("7 key used before; 8 state file is an older copy; 9 code does not match;\n");
+    text.push_str("11 to 22 refused, 10 and the refusal's number.\n");
     text.push_str("`man pevghazo` is the manual.\n");
     text
 }

@@ -11,7 +11,8 @@
 //! | [`arguments`] | the words and options of a command line, checked against the table |
 //! | [`help`], [`completions`] | the help texts, and the completions for shells |
 //! | [`commands`] | what each command does |
-//! | [`end`] | the two ends, and their sealing and opening by the proved library |
+//! | [`end`] | the two ends, and their sealing, opening and codes by the proved library |
+//! | [`labels`] | the codes of packets as lines, as a table and as a page to print |
 //! | [`state`] | what a state file holds, and its bytes |
 //! | [`keys`] | the keys that were used in a state file, and their fingerprints |
 //! | [`state_file`] | opening, locking and committing a state file |
@@ -28,6 +29,7 @@ mod failure;
 mod help;
 mod input;
 mod keys;
+mod labels;
 mod output;
 mod state;
 mod state_file;

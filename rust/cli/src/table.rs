@@ -3,8 +3,13 @@
 
 use std::fmt;
 
+use pevghazo::PACKET_MAX;
+
 /// The two ends, whose commands start with these words.
 pub const ENDS: [&str; 2] = ["office", "group"];
+
+/// How codes may be given.
+pub const FORMATS: [&str; 3] = ["text", "csv", "html"];
 
 /// A command.
 #[derive(Debug)]
@@ -38,6 +43,8 @@ pub enum Id {
     OfficeReread,
     OfficeForget,
     OfficeNearlyFull,
+    OfficeCodes,
+    OfficeCheckCode,
     OfficeShow,
     GroupStart,
     GroupSeal,
@@ -45,6 +52,8 @@ pub enum Id {
     GroupResend,
     GroupReread,
     GroupForget,
+    GroupCodes,
+    GroupCheckCode,
     GroupShow,
     Keygen,
     Demo,
@@ -95,6 +104,10 @@ pub enum Value {
     Text(&'static str),
     /// A number, of which those up to this one have a meaning.
     Number(&'static str, u32),
+    /// A number, or a first and a last one with a hyphen between them.
+    Range(&'static str),
+    /// One of these words.
+    Word(&'static [&'static str]),
 }
 
 impl fmt::Display for Value {
@@ -102,7 +115,8 @@ impl fmt::Display for Value {
         match self {
             Value::None => Ok(()),
             Value::File => f.write_str("FILE"),
-            Value::Text(name) | Value::Number(name, _) => f.write_str(name),
+            Value::Text(name) | Value::Number(name, _) | Value::Range(name) => f.write_str(name),
+            Value::Word(words) => f.write_str(&words.join("|")),
         }
     }
 }
@@ -161,6 +175,11 @@ const METADATA_OUT: Opt = optional("metadata-out", Value::File, "where the metad
 const ENVELOPE: Opt = flag("envelope", "forget the kept envelope too");
 const ALLOWANCE: Opt = required("allowance", Value::Number("N", u32::MAX), "the most permutations of the day");
 const MARK: Opt = required("mark", Value::Number("N", u32::MAX), "the index above which a group counts as nearly full");
+const PACKETS: Opt = required("packets", Value::Range("RANGE"), "a packet, as 7, or a first and a last one, as 0-23");
+const FORMAT: Opt = optional("format", Value::Word(&FORMATS), "lines, a table, or a page of labels to print; text");
+const CODES_OUT: Opt = optional("out", Value::File, "where the codes go; the standard output");
+const PACKET: Opt = required("packet", Value::Number("P", PACKET_MAX), "the packet, 0 to 2047");
+const CODE: Opt = required("code", Value::Text("TEXT"), "the code that was read off the packet");
 const JSON: Opt = flag("json", "as JSON, for scripts");
 const KEY_OUT: Opt = required("out", Value::File, "where the key goes");
 
@@ -173,6 +192,13 @@ const OPENED_ONCE: &str = "\
 The message is kept in the state: `reread` hands it out again, `forget` removes it. A refused arrival leaves no output.";
 const FORGOTTEN: &str = "\
 What was not handed out is not forgotten. Without its envelope a session cannot go on, unless the other end has it.";
+
+const CODES_CHANGE: &str = "\
+Codes belong to the session as it stands and change with the next message that is sealed or opened here. So both ends have
+the same codes only while they stand at the same message. The state file and the day's count stay as they are.";
+const CODE_CHECKED: &str = "\
+Prints `match`, or `mismatch` with status 9. The code's 16 digits may be in either case, and between the groups of four may
+be hyphens, or spaces, if the whole is in quotes. A code of the session before its last message is a mismatch.";
 
 /// All commands.
 pub const COMMANDS: &[Command] = &[
@@ -258,6 +284,24 @@ pub const COMMANDS: &[Command] = &[
         more: "Prints the group's number, or `none` if there is no such group. An index may reach 1048576.",
     },
     Command {
+        id: Id::OfficeCodes,
+        end: "office",
+        name: "codes",
+        words: "",
+        about: "list the codes of a group's packets",
+        options: &[STATE, GROUP, PACKETS, FORMAT, CODES_OUT, WAIT, RESTORE],
+        more: CODES_CHANGE,
+    },
+    Command {
+        id: Id::OfficeCheckCode,
+        end: "office",
+        name: "check-code",
+        words: "",
+        about: "check a code that was read off a packet",
+        options: &[STATE, GROUP, PACKET, CODE, WAIT, RESTORE],
+        more: CODE_CHECKED,
+    },
+    Command {
         id: Id::OfficeShow,
         end: "office",
         name: "show",
@@ -319,6 +363,24 @@ pub const COMMANDS: &[Command] = &[
         about: "remove the last message from the state file",
         options: &[STATE, ENVELOPE, WAIT, RESTORE],
         more: FORGOTTEN,
+    },
+    Command {
+        id: Id::GroupCodes,
+        end: "group",
+        name: "codes",
+        words: "",
+        about: "list the codes of packets",
+        options: &[STATE, PACKETS, FORMAT, CODES_OUT, WAIT, RESTORE],
+        more: CODES_CHANGE,
+    },
+    Command {
+        id: Id::GroupCheckCode,
+        end: "group",
+        name: "check-code",
+        words: "",
+        about: "check a code that was read off a packet",
+        options: &[STATE, PACKET, CODE, WAIT, RESTORE],
+        more: CODE_CHECKED,
     },
     Command {
         id: Id::GroupShow,

@@ -54,6 +54,14 @@ fn bash_offers_words_options_and_files() {
     assert_eq!(offered(&folder, &["keygen", "--o"]), ["--out"]);
     assert_eq!(offered(&folder, &["--v"]), ["--version"]);
     assert_eq!(offered(&folder, &["office", "day", "--v"]), [""; 0]);
+    // The words that an option takes.
+    assert_eq!(offered(&folder, &["group", "c"]), ["codes", "check-code"]);
+    assert_eq!(offered(&folder, &["office", "codes", "--format", ""]), ["text", "csv", "html"]);
+    assert_eq!(offered(&folder, &["office", "codes", "--format", "h"]), ["html"]);
+    assert_eq!(offered(&folder, &["office", "codes", "--format", "=", "c"]), ["csv"]);
+    assert_eq!(offered(&folder, &["office", "codes", "--format=h"]), ["--format=html"]);
+    assert_eq!(offered(&folder, &["office", "codes", "--packets", ""]), [""; 0]);
+    assert_eq!(offered(&folder, &["group", "--format", "html", "co"]), ["codes"]);
     // The words of a command after `help`.
     assert_eq!(offered(&folder, &["help", ""]), ["office", "group", "keygen", "demo", "help"]);
     assert_eq!(offered(&folder, &["help", "office", "op"]), ["open-group", "open"]);

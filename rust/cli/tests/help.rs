@@ -17,7 +17,7 @@ fn every_command_has_a_help_text_and_a_place_in_the_manual() {
     let list = folder.done("--help");
     let lines = list.lines().filter_map(|line| line.strip_prefix("  pevghazo "));
     let titles: Vec<&str> = lines.filter_map(|line| Some(line.split_once("  ")?.0.trim())).collect();
-    assert_eq!(titles.len(), 20, "{list}");
+    assert_eq!(titles.len(), 24, "{list}");
     for title in titles {
         let help = folder.done(&format!("{title} --help"));
         assert!(help.starts_with(&format!("pevghazo {title}: ")), "{help}");
@@ -49,7 +49,7 @@ fn every_command_has_a_help_text_and_a_place_in_the_manual() {
 #[test]
 fn the_manual_has_every_status() {
     let manual = include_str!("../../../docs/COMMANDS.md");
-    for status in (0..=8).filter(|status| *status != 1).chain(11..=16).chain(19..=21) {
+    for status in (0..=9).filter(|status| *status != 1).chain(11..=16).chain(19..=22) {
         assert!(manual.contains(&format!("\n| {status} | ")), "{status}");
     }
 }

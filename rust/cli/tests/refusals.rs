@@ -9,7 +9,7 @@ use common::{Folder, Run};
 use pevghazo_store::{Presence, Store, Wait};
 
 /// The sentences, by number. Numbers 7 and 8 cannot be met here: this program makes the buffers itself.
-const SENTENCES: [(i32, &str); 9] = [
+const SENTENCES: [(i32, &str); 10] = [
     (1, "This is not an envelope: its header does not follow the layout."),
     (2, "The envelope ends before all that its header announces."),
     (3, "There is no such group: groups are numbered 0 to 31."),
@@ -23,7 +23,11 @@ const SENTENCES: [(i32, &str); 9] = [
         "The tag is wrong: the arrival is damaged, repeated, out of order or not meant for this session. Or both ends have \
          sealed at once: then neither envelope can be opened, and the session is replaced under a new key.",
     ),
+    (12, "There is no such code: no message was accepted yet, or the packet is above 2,047."),
 ];
+
+/// The option with a code, which is no packet's.
+const CODE: &str = "--code 0123-4567-89ab-cdef";
 
 /// The command is refused under this number. No output is written, and but for number 11 the state stays.
 fn refused(folder: &Folder, number: i32, line: &str) {
@@ -41,14 +45,6 @@ fn refused(folder: &Folder, number: i32, line: &str) {
             break;
         }
     }
-}
-
-/// Puts bytes in the place of those at an offset of a state file's state.
-fn forge(folder: &Folder, name: &str, offset: usize, bytes: &[u8]) {
-    let mut store = Store::open(folder.0.join(name), Presence::MustExist, Wait::Never).unwrap();
-    let mut state = store.bytes().unwrap().to_vec();
-    state[offset..offset + bytes.len()].copy_from_slice(bytes);
-    store.commit(&state).unwrap();
 }
 
 #[test]
@@ -77,6 +73,8 @@ fn number_3_a_group_that_there_is_not() {
         refused(&folder, 3, &format!("office --state office seal --group {group} --message text --out OUT"));
         refused(&folder, 3, &format!("office --state office resend --group {group} --out OUT"));
         refused(&folder, 3, &format!("office --state office reread --group {group} --out OUT"));
+        refused(&folder, 3, &format!("office --state office codes --group {group} --packets 0-5000 --out OUT"));
+        refused(&folder, 3, &format!("office --state office check-code --group {group} --packet 5000 {CODE}"));
         refused(&folder, 3, &format!("group --state new-group start --group {group} --key key"));
         assert_eq!(folder.read("new-group"), None);
     }
@@ -108,9 +106,13 @@ fn number_5_a_session_that_is_not_open() {
     refused(&folder, 5, "office --state office seal --group 6 --message text --out OUT");
     folder.write("in", &[b"S,6,0,0,", &[0; 32][..]].concat());
     refused(&folder, 5, "office --state office open --in in --out OUT");
+    refused(&folder, 5, "office --state office codes --group 6 --packets 0-5000 --out OUT");
+    refused(&folder, 5, &format!("office --state office check-code --group 6 --packet 5000 {CODE}"));
     // A group's state file with a closed session: no command makes one.
-    forge(&folder, "group", 12, &[0; 102]);
+    folder.forge("group", 12, &[0; 102]);
     refused(&folder, 5, "group --state group seal --message text --out OUT");
+    refused(&folder, 5, "group --state group codes --packets 5000 --out OUT");
+    refused(&folder, 5, &format!("group --state group check-code --packet 5000 {CODE}"));
     assert!(folder.done("group --state group show").starts_with("group  5: closed, index       0,"));
 }
 
@@ -133,8 +135,8 @@ fn number_9_a_session_that_is_full() {
     folder.write("text", b"20001");
     for (index, status) in [(1_048_575, 19), (1_048_574, 0)] {
         // The index is after the accumulator and the mask of the session.
-        forge(&folder, "group", 12 + 96, &u32::to_le_bytes(index));
-        forge(&folder, "office", 8 + 5 * 102 + 96, &u32::to_le_bytes(index));
+        folder.forge("group", 12 + 96, &u32::to_le_bytes(index));
+        folder.forge("office", 8 + 5 * 102 + 96, &u32::to_le_bytes(index));
         if status == 19 {
             refused(&folder, 9, "group --state group seal --message text --out OUT");
             refused(&folder, 9, "office --state office seal --group 5 --message text --out OUT");
@@ -194,6 +196,27 @@ fn number_11_arrivals_that_are_not_the_next_of_the_session() {
     spent += 3 * 7;
     assert!(folder.done("office --state office show").starts_with(&shown(spent)));
     assert_eq!(folder.read("opened"), folder.read("text"));
+}
+
+#[test]
+fn number_12_a_code_that_there_is_not() {
+    let folder = Folder::pair(5);
+    let both = |packets: &str| {
+        refused(&folder, 12, &format!("office --state office codes --group 5 --packets {packets} --out OUT"));
+        refused(&folder, 12, &format!("group --state group codes --packets {packets} --format html --out OUT"));
+        if let Some(packet) = packets.split('-').next_back() {
+            refused(&folder, 12, &format!("office --state office check-code --group 5 --packet {packet} {CODE}"));
+            refused(&folder, 12, &format!("group --state group check-code --packet {packet} {CODE}"));
+        }
+    };
+    // No message yet.
+    ["0", "0-23", "2047", "2048"].into_iter().for_each(both);
+    folder.write("text", b"20001");
+    folder.done("office --state office seal --group 5 --message text --out in");
+    folder.done("group --state group open --in in --out out");
+    // One packet above the last is enough.
+    ["2048", "2047-2048", "0-2048", "4294967295", "0-4294967295"].into_iter().for_each(both);
+    folder.done("office --state office codes --group 5 --packets 0-2047");
 }
 
 /// The allowance ends also where refused arrivals spent it.
@@ -321,9 +344,11 @@ fn any_content_of_a_state_file_is_taken_or_refused() {
                 "open --in in --out /dev/null".to_string(),
                 format!("resend --out /dev/null{group}"),
                 format!("reread --out /dev/null{group}"),
+                format!("codes --packets 0-24 --format html{group}"),
+                format!("check-code --packet 7 {CODE}{group}"),
             ] {
                 let run = folder.run(&format!("{name} --state {name} {command}"));
-                assert!([0, 3, 5, 6].contains(&run.status) || (11..=21).contains(&run.status), "{run:?}");
+                assert!([0, 3, 5, 6, 9].contains(&run.status) || (11..=22).contains(&run.status), "{run:?}");
             }
         }
     }

@@ -165,6 +165,15 @@ fn the_demo_plays_a_season() {
     assert!(shown.contains("day: count 59 of allowance 200\n"), "{shown}");
     // 2 strings of one block each and a blank index after each, for 2 messages, at both ends.
     assert_eq!(shown.matches(&format!("index {:7}, toggle 0", 8)).count(), 6, "{shown}");
+    // The codes are those of the first message, by the independent implementation.
+    let mut group = session::Session::start(b"a fixed key, for the demo, of group 4").unwrap();
+    group.wrap(b"rings", b"S 20001 to S 20100", &mut [0; 18], &mut [0; 32]).unwrap();
+    for packet in 0..3 {
+        let line = format!("  {packet:4} {}\n", common::code(&group, packet));
+        assert_eq!(shown.matches(&line).count(), 1, "{line}{shown}");
+    }
+    assert!(shown.contains("  the office checks the code of packet 0: match\n"), "{shown}");
+    assert!(shown.contains("      This is not the code of packet 1 of group 4 at index 4. "), "{shown}");
     assert_eq!(folder.done("demo"), shown, "every run prints the same");
     assert_eq!(folder.names(), [""; 0], "nothing is left behind");
 }

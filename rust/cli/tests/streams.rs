@@ -6,6 +6,9 @@ use std::process::Command;
 
 use common::{Folder, PROGRAM, Run};
 
+/// The check of a code that is not the packet's.
+const CHECK: &str = "group --state group check-code --packet 7 --code 0123-4567-89ab-cdef";
+
 fn after(folder: &Folder, shell: &str, line: &str) -> Run {
     Run::of(folder.command_after(shell, line))
 }
@@ -14,6 +17,7 @@ fn after(folder: &Folder, shell: &str, line: &str) -> Run {
 fn a_closed_standard_input_or_output_is_refused() {
     let folder = Folder::pair(5);
     folder.write("text", b"20001");
+    folder.done("group --state group seal --message text --out sealed");
     let before = (folder.read("office"), folder.read("group"));
     for (shell, line, stream) in [
         ("exec <&-", "office --state office seal --group 5 --message - --out out", "read standard input"),
@@ -27,6 +31,9 @@ fn a_closed_standard_input_or_output_is_refused() {
         ("exec >&-", "office --state office seal --group 5 --message text --out -", "write to standard output"),
         ("exec >&-", "keygen --out -", "write to standard output"),
         ("exec >&-", "office --state office show", "write to standard output"),
+        ("exec >&-", "group --state group codes --packets 7", "write to standard output"),
+        ("exec >&-", "group --state group codes --packets 7 --format csv --out -", "write to standard output"),
+        ("exec >&-", CHECK, "write to standard output"),
         ("exec >&-", "--help", "write to standard output"),
         // Open, but not for this.
         ("exec 0>/dev/null", "group --state group seal --message - --out out", "read standard input"),
@@ -45,6 +52,7 @@ fn a_closed_standard_input_or_output_is_refused() {
         ("exec <&-", "office --state office seal --group 5 --message /proc/self/fd/0 --out out"),
         ("exec <&-", "group --state new start --group 5 --key /dev/stdin"),
         ("exec >&-", "office --state office seal --group 5 --message text --out /dev/stdout"),
+        ("exec >&-", "group --state group codes --packets 7 --out /dev/stdout"),
         ("exec <&- >&-", "office --state office seal --group 5 --message text --out /dev/fd/1"),
     ] {
         let run = after(&folder, shell, line);
@@ -54,6 +62,8 @@ fn a_closed_standard_input_or_output_is_refused() {
     }
     // A closed stream that is not used is no hindrance, nor is the standard error.
     let run = after(&folder, "exec <&- >&-", "office --state office seal --group 5 --message text --out first");
+    assert_eq!((run.status, run.said.as_str()), (0, ""));
+    let run = after(&folder, "exec <&- >&-", "group --state group codes --packets 7 --out codes");
     assert_eq!((run.status, run.said.as_str()), (0, ""));
     assert_eq!(after(&folder, "exec 2>&-", "office --state office resend --group 6 --out x").status, 5);
 }

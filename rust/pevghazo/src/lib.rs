@@ -28,6 +28,7 @@
 //! | the office's 32 sessions with a day's allowance | [`Table`] |
 //! | what is handed over, by name | [`Plain`], [`Arrival`] |
 //! | the bytes in which a sealed message travels | [`envelope`] |
+//! | the code that is printed on a packet of rings | [`Code`] |
 //! | a refused call: its number and a plain sentence | [`Refusal`], [`Number`] |
 //! | the C interface itself, on slices | [`raw`] |
 //!
@@ -40,6 +41,7 @@
 //! repository that the crate stands in, where `make lib` makes it; then with `pkg-config`, which finds an installed one.
 #![deny(unsafe_code)]
 
+mod code;
 pub mod envelope;
 #[allow(unsafe_code)]
 pub mod raw;
@@ -50,6 +52,7 @@ mod session;
 mod table;
 mod texts;
 
+pub use code::{BadCode, Code};
 pub use envelope::Envelope;
 pub use raw::wipe;
 pub use refusal::{BadBytes, Number, Refusal};
@@ -72,6 +75,10 @@ pub const TEXT_MAX: usize = 16_384;
 pub const HEADER_MAX: usize = 17;
 /// The highest index that a session may reach.
 pub const INDEX_MAX: u32 = 1_048_576;
+/// The bytes of a code.
+pub const CODE_LENGTH: usize = 8;
+/// The highest number of a packet.
+pub const PACKET_MAX: u32 = 2_047;
 
 /// A tag.
 pub type Tag = [u8; TAG_LENGTH];

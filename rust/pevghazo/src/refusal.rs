@@ -2,7 +2,8 @@
 
 use std::fmt;
 
-/// The numbers of refusals. A call's checks are made in the order of these numbers, and the first that is met is given.
+/// The numbers of refusals. A call's checks are made in the order of these numbers, and the first that is met is given; but a
+/// code meets 5, 12 and 8, in this order.
 ///
 /// More may follow, so a `match` on one has an arm for the others:
 ///
@@ -11,7 +12,7 @@ use std::fmt;
 ///     use pevghazo::Number::*;
 ///     match number {
 ///         BadHeader | TooFewBytes | WrongTag => true,
-///         BadGroup | BadKey | NotOpen | TooLong | BadTagLength | NoRoom | IndexFull | Allowance => false,
+///         BadGroup | BadKey | NotOpen | TooLong | BadTagLength | NoRoom | IndexFull | Allowance | NoCode => false,
 ///     }
 /// }
 /// ```
@@ -41,11 +42,13 @@ pub enum Number {
     Allowance = 10,
     /// 11: the tag differs.
     WrongTag = 11,
+    /// 12: no message was accepted yet, or the packet is above 2,047.
+    NoCode = 12,
 }
 
 impl Number {
     /// All numbers, in their order.
-    pub const ALL: [Number; 11] = [
+    pub const ALL: [Number; 12] = [
         Number::BadHeader,
         Number::TooFewBytes,
         Number::BadGroup,
@@ -57,9 +60,10 @@ impl Number {
         Number::IndexFull,
         Number::Allowance,
         Number::WrongTag,
+        Number::NoCode,
     ];
 
-    /// The number itself, 1 to 11.
+    /// The number itself, 1 to 12.
     pub const fn number(self) -> u8 {
         self as u8
     }
@@ -80,6 +84,7 @@ impl Number {
             Number::WrongTag => {
                 "The tag is wrong: the arrival is damaged, repeated, out of order or not meant for this session."
             }
+            Number::NoCode => "There is no such code: no message was accepted yet, or the packet is above 2,047.",
         }
     }
 }

@@ -2,6 +2,7 @@
 
 use std::fmt;
 
+use crate::code::Code;
 use crate::envelope::{self, sealed};
 use crate::raw::{self, Record};
 use crate::record;
@@ -154,6 +155,34 @@ impl Session {
         let arrived = envelope::read(bytes)?;
         let unwrapped = self.unwrap(&arrived.arrival())?;
         Ok(arrived.opened(unwrapped))
+    }
+
+    /// The code of a packet, 0 to 2,047, and the permutations done. Checks 5 and 12.
+    ///
+    /// Both ends give the same codes between two messages. They belong to the session as it stands: the next accepted message
+    /// gives every packet another one.
+    ///
+    /// ```
+    /// use pevghazo::{Number, Plain, Session};
+    ///
+    /// # fn main() -> Result<(), pevghazo::Refusal> {
+    /// let (mut office, _) = Session::start(&[7; 32])?;
+    /// let (mut group, _) = Session::start(&[7; 32])?;
+    /// assert_eq!(office.code(12).unwrap_err().number, Number::NoCode);
+    ///
+    /// let sealed = office.seal(7, &Plain { metadata: b"size C", message: b"12001-12100" })?;
+    /// group.open(&sealed.envelope)?;
+    /// let (code, count) = office.code(12)?;
+    /// assert_eq!((group.code(12)?, count), ((code, 2), 2));
+    ///
+    /// // What a person reads off the packet.
+    /// let text = code.to_string();
+    /// assert_eq!(text.parse(), Ok(code));
+    /// # Ok(())
+    /// # }
+    /// ```
+    pub fn code(&self, packet: u32) -> Result<(Code, u32), Refusal> {
+        Code::of(&self.record, packet)
     }
 
     /// The index: how many blocks the session's history has taken so far, with one more for each string. It grows with each

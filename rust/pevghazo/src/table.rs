@@ -2,11 +2,12 @@
 
 use std::fmt;
 
+use crate::code::Code;
 use crate::envelope::{self, sealed};
 pub use crate::raw::Day;
 use crate::raw::{self, GroupAnswer, Record};
 use crate::record;
-use crate::refusal::{BadBytes, Refusal, answer};
+use crate::refusal::{BadBytes, Number, Refusal, answer};
 use crate::secret::Secret;
 use crate::texts::{Arrival, Opened, Plain, Sealed, Unwrapped, Wrapped};
 use crate::{GROUPS, TAG_LENGTH, Tag};
@@ -175,6 +176,13 @@ impl Table {
         Ok(arrived.opened(unwrapped))
     }
 
+    /// [`Session::code`](crate::Session::code) of a group's session: the code of a packet, 0 to 2,047, and the permutations
+    /// done. Checks 3, 5 and 12. The day's allowance is not looked at, and its count stays.
+    pub fn code(&self, group: u32, packet: u32) -> Result<(Code, u32), Refusal> {
+        let record = self.record(group).ok_or(Refusal { number: Number::BadGroup, count: 0 })?;
+        Code::of(record, packet)
+    }
+
     /// An open group whose index is above the mark, or none, which is said only where there is none.
     #[must_use]
     pub fn nearly_full(&self, mark: u32) -> Option<u32> {
@@ -183,10 +191,15 @@ impl Table {
         given.found.then_some(given.group)
     }
 
+    /// A group's record; none for a group above 31.
+    fn record(&self, group: u32) -> Option<&Record> {
+        self.sessions.get(usize::try_from(group).ok()?)
+    }
+
     /// What may be seen of a group's session; none for a group above 31.
     #[must_use]
     pub fn group(&self, group: u32) -> Option<Group> {
-        let record = self.sessions.get(usize::try_from(group).ok()?)?;
+        let record = self.record(group)?;
         Some(Group { group, is_open: record.opened, index: record.index, toggle: record.toggle })
     }
 

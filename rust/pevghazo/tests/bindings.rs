@@ -1,9 +1,10 @@
 //! The safe types: stored bytes, refusals, and what is shown.
 
 use pevghazo::{
-    Arrival, BadBytes, Day, GROUPS, INDEX_MAX, Number, Plain, Refusal, Session, TEXT_MAX, Table, Wrapped, envelope,
-    raw, wipe,
+    Arrival, BadBytes, Code, Day, GROUPS, INDEX_MAX, Number, PACKET_MAX, Plain, Refusal, Session, TEXT_MAX, Table,
+    Wrapped, envelope, raw, wipe,
 };
+use pevghazo_reference::session::Session as Reference;
 
 const KEY: &[u8] = b"a key for the tests here";
 
@@ -27,7 +28,7 @@ fn every_number_has_its_sentence() {
     let mut sentences: Vec<&str> = Number::ALL.map(Number::sentence).to_vec();
     sentences.sort();
     sentences.dedup();
-    assert_eq!(sentences.len(), 11);
+    assert_eq!(sentences.len(), 12);
 }
 
 #[test]
@@ -197,6 +198,118 @@ fn a_table_and_its_refusals() {
     assert_eq!(office.nearly_full(0), Some(0));
     assert_eq!(office.nearly_full(2), None);
     assert_eq!(office.group(0).unwrap().index, 2);
+}
+
+#[test]
+fn codes_as_text() {
+    let code = Code::from([0x01, 0x23, 0x45, 0x67, 0x89, 0xAB, 0xCD, 0xEF]);
+    assert_eq!(code.to_string(), "0123 4567 89ab cdef");
+    assert_eq!(format!("{code:?}"), "Code(0123 4567 89ab cdef)");
+    let read = |text: &str| text.parse::<Code>();
+    for text in [
+        "0123 4567 89ab cdef",
+        "0123456789abcdef",
+        "0123456789ABCDEF",
+        "0123-4567-89aB-CdEf",
+        "0123 - 4567  89ab--cdef",
+        "01234567 89abcdef",
+    ] {
+        assert_eq!(read(text), Ok(code), "{text}");
+    }
+    for text in [
+        "",
+        " ",
+        "0123 4567 89ab cde",
+        "0123 4567 89ab cdef 0",
+        "0123 4567 89ab cdeg",
+        " 0123 4567 89ab cdef",
+        "0123 4567 89ab cdef ",
+        "-0123456789abcdef",
+        "0123456789abcdef-",
+        "01 23 45 67 89 ab cd ef",
+        "0 123 4567 89ab cdef",
+        "0123\t4567 89ab cdef",
+        "0123\n4567 89ab cdef",
+        "0123,4567,89ab,cdef",
+        "0123 4567 89ab +def",
+        "0x123456789abcdef",
+        "０123456789abcdef",
+        "0123 4567 89ab cdéf",
+    ] {
+        let error = read(text).expect_err(text).to_string();
+        assert!(error.starts_with("A code has 16 hexadecimal digits, ") && error.ends_with('.'), "{error}");
+    }
+}
+
+#[test]
+fn codes_differ_by_any_bit() {
+    let code = Code::from([0x5A; 8]);
+    assert_eq!(code, code.bytes().into());
+    for bit in 0..64 {
+        let mut bytes = code.bytes();
+        bytes[bit / 8] ^= 1 << (bit % 8);
+        assert_ne!(code, bytes.into(), "bit {bit}");
+        assert_ne!(Code::from(bytes), code, "bit {bit}");
+    }
+    assert_ne!(code, [0xA5; 8].into());
+}
+
+#[test]
+fn codes_of_a_session() {
+    let refused = |number| Err(Refusal { number, count: 0 });
+    let (mut here, _) = Session::start(KEY).unwrap();
+    let (mut there, _) = Session::start(KEY).unwrap();
+    assert_eq!(here.code(0), refused(Number::NoCode), "no message was accepted yet");
+    let mut reference = Reference::start(KEY).unwrap();
+    reference.wrap(b"", b"12001-12100", &mut [0; 11], &mut [0; 32]).unwrap();
+    let first = here.wrap(&plain(b"12001-12100")).unwrap();
+    assert_eq!(there.code(0), refused(Number::NoCode));
+    let _ = there.unwrap(&arrival(&first)).unwrap();
+    let before = here.to_bytes();
+    for packet in 0..=PACKET_MAX {
+        let mut expected = [0; 8];
+        let count = reference.code(packet, &mut expected).unwrap();
+        assert_eq!(here.code(packet), Ok((Code::from(expected), count)), "packet {packet}");
+        assert_eq!(there.code(packet), here.code(packet), "packet {packet}");
+    }
+    assert_eq!(here.code(PACKET_MAX + 1), refused(Number::NoCode));
+    assert_eq!(here.code(u32::MAX), refused(Number::NoCode));
+    assert_eq!(*here.to_bytes(), *before, "codes alter nothing");
+    let _ = here.wrap(&plain(b"")).unwrap();
+    assert_ne!(here.code(7), there.code(7), "one end has accepted another message");
+    let closed = Session::from_bytes(&[0; Session::BYTES]).unwrap();
+    assert_eq!(closed.code(5_000), refused(Number::NotOpen));
+}
+
+#[test]
+fn codes_of_groups() {
+    let refused = |number| Err(Refusal { number, count: 0 });
+    let mut office = Table::new();
+    office.start_day(1_000);
+    let mut lone = Vec::new();
+    for group in [0, 7, 31] {
+        let key = [group as u8; 16];
+        office.open_group(group, &key).unwrap();
+        assert_eq!(office.code(group, 0), refused(Number::NoCode), "no message was accepted yet");
+        let (mut session, _) = Session::start(&key).unwrap();
+        let _ = session.open(&office.seal(group, &plain(b"12001-12100")).unwrap().envelope).unwrap();
+        lone.push((group, session));
+    }
+    // Codes need no allowance, and cost none.
+    office.start_day(0);
+    let before = office.to_bytes();
+    for (group, session) in &lone {
+        for packet in [0, 1, 2, 2_047] {
+            assert_eq!(office.code(*group, packet).unwrap(), session.code(packet).unwrap());
+        }
+        assert_eq!(office.code(*group, 2_048), refused(Number::NoCode));
+    }
+    assert_ne!(office.code(0, 5).unwrap(), office.code(31, 5).unwrap());
+    assert_eq!(office.code(8, 5_000), refused(Number::NotOpen));
+    for group in [32, 33, 256, u32::MAX] {
+        assert_eq!(office.code(group, 5_000), refused(Number::BadGroup));
+    }
+    assert_eq!(*office.to_bytes(), *before, "codes alter neither a session nor the day");
 }
 
 /// Sealing is wrapping and writing, opening is reading and unwrapping, and the first check that is met is the one that is named.

@@ -10,12 +10,14 @@ use std::os::unix::fs::FileExt;
 use std::process::Command;
 
 use pevghazo::{Arrival, Plain, Session, Table};
-use pevghazo_reference::rolling::roll_input;
+use pevghazo_reference::deck::p;
+use pevghazo_reference::rolling::{roll_input, roll_output};
 use pevghazo_reference::session::Session as Reference;
 
 const KEY: &[u8] = b"a key for the memory's test";
 const METADATA: &[u8] = b"size C";
 const GROUP: u32 = 7;
+const PACKET: u32 = 2;
 const VARIABLE: &str = "PEVGHAZO_LANES";
 
 /// The messages that go out, longer and longer.
@@ -23,13 +25,16 @@ fn messages() -> [Vec<u8>; 3] {
     [vec![], vec![0x31; 40], vec![0x32; 400]]
 }
 
-/// All lanes of mask and accumulator from the start to the last message, also those of the masks in between.
+/// All lanes of mask and accumulator from the start to the last message, also those of the masks in between, and those of the
+/// states that the packet's code is made from, which would give these away.
 fn lanes() -> BTreeSet<u32> {
     let mut session = Reference::start(KEY).unwrap();
     let mut states = vec![session.mask];
     for message in messages() {
         session.wrap(METADATA, &message, &mut vec![0; message.len()], &mut [0; 32]).unwrap();
-        states.extend([session.accumulator, session.mask]);
+        let first = p(&session.accumulator);
+        let second = roll_output(&first);
+        states.extend([session.accumulator, session.mask, first, second, p(&second)]);
     }
     let mut mask = states[0];
     while mask != session.mask {
@@ -138,6 +143,8 @@ fn lone(memory: &mut Memory) {
     for message in messages() {
         sent.push(session.wrap(&Plain { metadata: METADATA, message: &message }).unwrap());
         memory.one_record("after wrap");
+        session.code(PACKET).unwrap();
+        memory.one_record("after a code");
     }
     drop(session);
     memory.nothing("after the end of a session");
@@ -172,6 +179,8 @@ fn table(memory: &mut Memory) {
     for message in messages() {
         sent.push(office.seal(GROUP, &Plain { metadata: METADATA, message: &message }).unwrap());
         memory.one_record("after sealing for a group");
+        office.code(GROUP, PACKET).unwrap();
+        memory.one_record("after a code for a group");
     }
     assert_eq!(office.nearly_full(1), Some(GROUP));
     memory.one_record("after the nearly-full question");

@@ -1,5 +1,5 @@
 //! Sessions through the C library, beside the independent implementation: every answer, buffer and record is the same, and
-//! no arrival is accepted but the one that the other end sealed next.
+//! no arrival is accepted but the one that the other end sealed next. Codes are asked for in between.
 
 mod common;
 
@@ -59,9 +59,17 @@ fn accept(random: &mut Random, end: &mut Both, arrival: &Arrival, numbers: &mut 
     }
 }
 
+/// Asks for some codes at both ends; what they were answered is told by `codes`.
+fn ask(random: &mut Random, ends: &[Both; 2], codes: &mut [u64; 13]) {
+    for _ in 0..random.below(3) {
+        let end = &ends[random.below(2)];
+        codes[end.any_code(random).number as usize] += 1;
+    }
+}
+
 #[test]
 fn messages_both_ways() {
-    let mut numbers = [0; 12];
+    let (mut numbers, mut codes) = ([0; 12], [0; 13]);
     let mut forged = 0;
     cases("messages_both_ways", |random| {
         let (shared, other) = (key(random), key(random));
@@ -69,8 +77,10 @@ fn messages_both_ways() {
         let mut stranger = Both::start(random, &other).0;
         let mut earlier: Vec<Arrival> = Vec::new();
         for _ in 0..1 + random.below(6) {
+            ask(random, &ends, &mut codes);
             let from = random.below(2);
             let arrival = seal(random, &mut ends[from], &mut numbers);
+            ask(random, &ends, &mut codes);
             // Damaged on the way, repeated, reflected to its sender, or meant for another session.
             let mut wrong: Vec<Arrival> = (0..1 + random.below(3)).map(|_| arrival.damaged(random)).collect();
             if !earlier.is_empty() {
@@ -84,6 +94,7 @@ fn messages_both_ways() {
                 forged += 1;
             }
             refuse(random, &mut ends[from], &arrival);
+            ask(random, &ends, &mut codes);
             accept(random, &mut ends[1 - from], &arrival, &mut numbers);
             assert!(same(&ends[0].library, &ends[1].library), "the ends' records differ");
             refuse(random, &mut ends[1 - from], &arrival);
@@ -105,6 +116,7 @@ fn messages_both_ways() {
     if is_whole_run() {
         assert!(forged > 10_000, "{forged} forged arrivals");
         assert!(numbers[0] > 5_000 && [6, 7, 8].iter().all(|number| numbers[*number] > 100), "{numbers:?}");
+        assert!([0, 8, 12].iter().all(|number| codes[*number] > 1_000), "codes: {codes:?}");
     }
 }
 

@@ -3,8 +3,8 @@
 mod common;
 
 use common::{
-    Arrival, Both, answer_of, any_session, cases, copy, is_whole_run, key, maybe_long, other_length, record_of, same,
-    text,
+    Arrival, Both, answer_of, any_session, cases, copy, is_whole_run, key, maybe_long, other_length, packet, record_of,
+    same, text,
 };
 use pevghazo::raw::{self, Answer, Day, GroupAnswer, Record};
 use pevghazo_reference::envelope;
@@ -35,10 +35,15 @@ impl Tables {
         assert_eq!(Answer { number: given.number, count: given.count }, answer);
         self.day = given.day;
         assert_eq!((self.day.spent, self.day.allowance), (self.reference.count, self.reference.allowance), "the day");
+        self.check_records();
+        answer
+    }
+
+    /// Both sides hold the same records.
+    fn check_records(&self) {
         for (group, (library, reference)) in self.sessions.iter().zip(&self.reference.sessions).enumerate() {
             assert!(same(library, &record_of(reference)), "the records of group {group} differ");
         }
-        answer
     }
 
     fn start_day(&mut self, allowance: u32) {
@@ -67,6 +72,19 @@ impl Tables {
         let answer = self.reference.unwrap(group, metadata, cryptogram, tag, &mut out_too);
         assert!(out == out_too, "unwrap: the buffers differ");
         self.check(given, answer_of(answer))
+    }
+
+    /// A code is asked of the group's record, past the table: its size, its other records and its day play no part.
+    fn code(&self, random: &mut Random, group: usize) -> u32 {
+        let (packet, room) = (packet(random), other_length(random, 8, 4));
+        let mut out = random.bytes(room);
+        let mut out_too = out.clone();
+        let given = raw::code(&self.sessions[group], packet, &mut out);
+        let answer = self.reference.sessions[group].code(packet, &mut out_too);
+        assert_eq!(given, answer_of(answer), "code");
+        assert!(out == out_too, "code: the buffers differ");
+        self.check_records();
+        given.number
     }
 
     /// Which of several groups is named is free.
@@ -121,7 +139,7 @@ fn any_size(random: &mut Random) -> usize {
 
 #[test]
 fn any_table_and_any_day() {
-    let mut numbers = [0; 12];
+    let mut numbers = [0; 13];
     cases("any_table_and_any_day", |random| {
         let sessions: Vec<Session> = (0..any_size(random)).map(|_| any_session(random)).collect();
         let group = any_group(random);
@@ -133,7 +151,7 @@ fn any_table_and_any_day() {
         let mut out = random.bytes(room);
         let tag_length = other_length(random, 32, 12);
         let mut tag = random.bytes(tag_length);
-        let number = match random.below(8) {
+        let number = match random.below(9) {
             0 | 1 => {
                 let key = key(random);
                 let one = any_day(random, 1);
@@ -157,6 +175,7 @@ fn any_table_and_any_day() {
                 assert!(answer.number != 0 || bad.travels_as(&arrival));
                 answer.number
             }
+            7 if !tables.sessions.is_empty() => tables.code(random, group as usize % tables.sessions.len()),
             _ => {
                 let highest = tables.reference.sessions.iter().filter(|s| s.open).map(|s| s.index).max().unwrap_or(0);
                 for mark in [0, 1, highest.saturating_sub(1), highest, u32::MAX, random.bits() as u32] {
@@ -168,7 +187,7 @@ fn any_table_and_any_day() {
         numbers[number as usize] += 1;
     });
     if is_whole_run() {
-        assert!((3..12).chain([0]).all(|number| numbers[number] >= 5), "{numbers:?}");
+        assert!((3..13).chain([0]).all(|number| numbers[number] >= 5), "{numbers:?}");
     }
 }
 
@@ -256,6 +275,7 @@ fn an_office_and_its_groups() {
                 refused += 1;
             }
             assert!(same(&lone.library, &office.sessions[group]));
+            office.code(random, group);
         }
     });
     if is_whole_run() {

@@ -1,14 +1,17 @@
-//! The sessions of the repository's vectors through the C library: each end as a lone session, and as a group's session in a
-//! table.
+//! The sessions and codes of the repository's vectors through the C library: each end as a lone session, and as a group's session
+//! in a table.
 
 #[path = "../../reference/tests/common/mod.rs"]
 mod vectors;
+
+use std::collections::HashMap;
 
 use pevghazo::raw::{self, Answer, Day, GroupAnswer, Record};
 use vectors::{Record as Vector, records};
 
 /// One end, kept as a lone session and in a table.
 struct End {
+    key: Vec<u8>,
     lone: Record,
     table: Vec<Record>,
     group: u32,
@@ -24,9 +27,10 @@ impl End {
             table: (0..32).map(|_| Record::closed()).collect(),
             group: session as u32 % 32,
             day: raw::start_day(1_000_000),
+            key,
         };
-        let answer = raw::start(&mut end.lone, &key);
-        let given = raw::open_group(&mut end.table, end.group, end.day, &key);
+        let answer = raw::start(&mut end.lone, &end.key);
+        let given = raw::open_group(&mut end.table, end.group, end.day, &end.key);
         end.check(vector, answer, given, 0);
         end
     }
@@ -39,10 +43,23 @@ impl End {
         let day = Day { spent: self.day.spent + count, ..self.day };
         assert_eq!(given, GroupAnswer { number, count, day }, "line {line}");
         self.day = day;
-        for (place, record) in [("lone", &self.lone), ("table", &self.table[self.group as usize])] {
+        for (place, record) in self.records() {
+            assert_eq!(usize::from(record.toggle), vector.number("e"), "{place}: e, line {line}");
+        }
+        self.check_history(vector);
+    }
+
+    /// The two records, with their places.
+    fn records(&self) -> [(&str, &Record); 2] {
+        [("lone", &self.lone), ("table", &self.table[self.group as usize])]
+    }
+
+    /// What the history has left behind is the vector's, and the other groups are closed.
+    fn check_history(&self, vector: &Vector) {
+        let line = vector.line;
+        for (place, record) in self.records() {
             assert!(record.opened, "{place}, line {line}");
             assert_eq!(record.index as usize, vector.number("index"), "{place}: index, line {line}");
-            assert_eq!(usize::from(record.toggle), vector.number("e"), "{place}: e, line {line}");
             assert_eq!(record.acc, vector.state("acc"), "{place}: acc, line {line}");
             assert_eq!(record.mask, vector.state("mask"), "{place}: mask, line {line}");
         }
@@ -90,31 +107,67 @@ impl End {
     }
 }
 
-#[test]
-fn sessions() {
-    let mut ends = None;
-    let (mut wraps, mut accepted, mut refused) = (0, 0, 0);
+/// What was played of the sessions: end a of each after its last record, and the wraps, the accepted unwraps and the refused
+/// ones.
+#[derive(Default)]
+struct Played {
+    ends: HashMap<usize, End>,
+    wraps: u32,
+    accepted: u32,
+    refused: u32,
+}
+
+/// Plays the sessions at both ends, with every field of every record checked.
+fn play() -> Played {
+    let mut played = Played::default();
+    let mut end_b = None;
     for vector in &records("sanse.txt") {
+        let session = vector.number("session");
         if vector.text("op") == "start" {
-            let session = vector.number("session");
-            ends = Some([End::start(session, vector), End::start(session, vector)]);
+            played.ends.insert(session, End::start(session, vector));
+            end_b = Some(End::start(session, vector));
             continue;
         }
-        let [a, b] = ends.as_mut().expect("a session that was started");
         let end = match vector.text("end") {
-            "a" => a,
-            "b" => b,
+            "a" => played.ends.get_mut(&session),
+            "b" => end_b.as_mut(),
             end => panic!("line {}: which end is {end}?", vector.line),
         };
+        let end = end.expect("a session that was started");
         match vector.text("op") {
             "wrap" => {
                 end.wrap(vector);
-                wraps += 1;
+                played.wraps += 1;
             }
-            "unwrap" if end.unwrap(vector) => accepted += 1,
-            "unwrap" => refused += 1,
+            "unwrap" if end.unwrap(vector) => played.accepted += 1,
+            "unwrap" => played.refused += 1,
             op => panic!("line {}: what is {op}?", vector.line),
         }
     }
-    assert!(wraps > 0 && accepted > 0 && refused > 0);
+    played
+}
+
+#[test]
+fn sessions() {
+    let played = play();
+    assert!(played.wraps > 0 && played.accepted > 0 && played.refused > 0);
+}
+
+#[test]
+fn codes() {
+    let ends = play().ends;
+    for vector in &records("codes.txt") {
+        let line = vector.line;
+        let end = &ends[&vector.number("session")];
+        assert_eq!(end.key, vector.bytes("key"), "key, line {line}");
+        end.check_history(vector);
+        let (packet, count) = (vector.number("p") as u32, vector.number("count") as u32);
+        for (place, record) in end.records() {
+            let mut out = [0xA5; 11];
+            assert_eq!(raw::code(record, packet, &mut out), Answer { number: 0, count }, "{place}, line {line}");
+            assert_eq!(out[..8], vector.bytes("code"), "{place}: code, line {line}");
+            assert_eq!(out[8..], [0xA5; 3], "{place}, line {line}");
+        }
+        end.check_history(vector);
+    }
 }

@@ -4,6 +4,7 @@
 //! deck function out from the first string on at each call. Nothing is carried along but the key, the history and the toggle,
 //! and the steps are written as in the cookbook's algorithm 3, so it says what a record's answers should have been.
 
+use crate::codes::{self, CODE};
 use crate::deck::{Deck, Text};
 use crate::limits::{INDEX_MAX, KEY_MAX, KEY_MIN, LENGTH_MAX, TAG};
 use crate::refusal::{Number, Refusal};
@@ -22,7 +23,7 @@ pub struct Ledger {
     pub history: Vec<Text>,
     /// The toggle e.
     pub toggle: bool,
-    /// What the steps ask for tags and keystream.
+    /// What the steps ask for tags, keystream and codes.
     deck: DeckFunction,
 }
 
@@ -160,5 +161,13 @@ impl Ledger {
         self.history = steps.history;
         self.toggle = !self.toggle;
         Ok(count)
+    }
+
+    /// A packet's code; the arguments and answers are those of [`Session::code`], but that a ledger's session is always open.
+    pub fn code(&self, packet: u32, buffer: &mut [u8]) -> Result<u32, Refusal> {
+        codes::check(!self.history.is_empty(), packet, buffer.len())?;
+        let code = (self.deck)(&self.key, &self.history, codes::place(packet), CODE);
+        buffer[..CODE].copy_from_slice(&code);
+        Ok(codes::COUNT)
     }
 }

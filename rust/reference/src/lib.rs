@@ -5,7 +5,8 @@
 //!
 //! * the Xoodoo cookbook: the permutation (section 2), Xoofff (section 3) and Xoofff-SANSE (section 5);
 //! * the Farfalle paper, section 3: the construction that makes a deck function from a permutation;
-//! * the scope document, number 01: limits, counts, what a refusal leaves behind, the envelope and the office's table.
+//! * the scope document, number 01: limits, counts, what a refusal leaves behind, the envelope and the office's table;
+//! * document 02: the codes for packets.
 //!
 //! # The layers
 //!
@@ -18,6 +19,7 @@
 //! | [`limits`] | the limits of keys, texts, tags and indexes |
 //! | [`session`] | the record that is carried along from call to call, and its start |
 //! | [`sanse`] | wrap and unwrap of a session by Xoofff-SANSE, their counts and checks |
+//! | [`codes`] | the codes for packets that a session gives |
 //! | [`ledger`] | the same session kept as key and full history, with the deck function worked out afresh at each call |
 //! | [`envelope`] | the bytes in which a sealed message travels |
 //! | [`table`] | the office's table of 32 sessions with one allowance of permutations for the day |
@@ -44,6 +46,7 @@
 #![forbid(unsafe_code)]
 
 pub mod bits;
+pub mod codes;
 pub mod deck;
 pub mod envelope;
 pub mod ledger;

@@ -1,8 +1,9 @@
-//! The numbers under which a call is refused (document 01, "What stops a call, in checking order").
+//! The numbers under which a call is refused (document 01, "What stops a call, in checking order"; from 12 on document 02).
 
 use std::fmt;
 
-/// Why a call was refused. A call's checks are made in the order of these numbers, and the first that is met is given.
+/// Why a call was refused. A call's checks are made in the order of these numbers, but for a code's, which are 5, 12 and 8;
+/// the first that is met is given.
 #[derive(Clone, Copy, Debug, PartialEq, Eq, PartialOrd, Ord, Hash)]
 #[repr(u8)]
 pub enum Number {
@@ -28,6 +29,8 @@ pub enum Number {
     Allowance = 10,
     /// 11: the tag is not the one that this session finds.
     Tag = 11,
+    /// 12: the session has accepted no message yet, or the packet is above 2,047.
+    NoCode = 12,
 }
 
 impl Number {
@@ -50,6 +53,7 @@ impl Number {
             Number::Full => "The session is full: start a new one with a new key.",
             Number::Allowance => "The day's allowance does not cover this call.",
             Number::Tag => "The tag is wrong: the arrival is damaged, repeated, out of order or not for this session.",
+            Number::NoCode => "There is no code: no message was accepted yet, or the packet is above 2,047.",
         }
     }
 }

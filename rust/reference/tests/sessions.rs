@@ -1,6 +1,7 @@
 //! Sessions: the record against the ledger, on random inputs and at the edges.
 
 use pevghazo_reference::bits;
+use pevghazo_reference::codes::{CODE, PACKET_MAX};
 use pevghazo_reference::deck::xoofff;
 use pevghazo_reference::ledger::{DeckFunction, Ledger};
 use pevghazo_reference::limits::{INDEX_MAX, LENGTH_MAX};
@@ -56,10 +57,31 @@ impl End {
         }
         answer
     }
+
+    fn code(&self, packet: u32, out: &mut [u8]) -> Result<u32, Refusal> {
+        let (before, mut again) = (out.to_vec(), out.to_vec());
+        let answer = self.session.code(packet, out);
+        assert_eq!(self.ledger.code(packet, &mut again), answer);
+        assert_eq!(&*out, &*again);
+        let written = if answer.is_ok() { CODE } else { 0 };
+        assert_eq!(out[written..], before[written..]);
+        answer
+    }
 }
 
-/// Plays one random session between two ends, with damaged and repeated arrivals in between.
-fn play(random: &mut Random, messages: usize, longest: usize, deck: DeckFunction) {
+/// A packet's code at both ends, which must be the same.
+fn code_at_both(random: &mut Random, ends: &[End; 2], highest: u32) {
+    let packet = random.below(highest as usize + 1) as u32;
+    let codes = ends.each_ref().map(|end| {
+        let mut out = [0xA5; CODE + 3];
+        assert_eq!(end.code(packet, &mut out), Ok(2));
+        out
+    });
+    assert_eq!(codes[0], codes[1]);
+}
+
+/// Plays one random session between two ends, with damaged and repeated arrivals in between, and codes of packets.
+fn play(random: &mut Random, messages: usize, longest: usize, highest: u32, deck: DeckFunction) {
     let length = 16 + random.below(32);
     let key = random.bytes(length);
     let mut ends = [End::start(&key, deck), End::start(&key, deck)];
@@ -100,6 +122,7 @@ fn play(random: &mut Random, messages: usize, longest: usize, deck: DeckFunction
         assert_eq!(ends[0].session, ends[1].session);
         // Handed over a second time.
         assert_eq!(ends[1 - from].unwrap(&a, c, &tag, &mut out), wrong);
+        code_at_both(random, &ends, highest);
     }
 }
 
@@ -107,10 +130,10 @@ fn play(random: &mut Random, messages: usize, longest: usize, deck: DeckFunction
 fn random_sessions_against_the_ledger() {
     let mut random = Random::new(5);
     for _ in 0..150 {
-        play(&mut random, 6, 400, xoofff);
+        play(&mut random, 6, 400, PACKET_MAX, xoofff);
     }
     for _ in 0..8 {
-        play(&mut random, 4, LENGTH_MAX, xoofff);
+        play(&mut random, 4, LENGTH_MAX, PACKET_MAX, xoofff);
     }
 }
 
@@ -118,7 +141,7 @@ fn random_sessions_against_the_ledger() {
 fn random_sessions_against_the_ledger_on_bits() {
     let mut random = Random::new(6);
     for _ in 0..4 {
-        play(&mut random, 3, 120, bits::xoofff);
+        play(&mut random, 3, 120, 20, bits::xoofff);
     }
 }
 
@@ -153,6 +176,37 @@ fn refusals_come_in_their_order() {
     assert_eq!(number(closed.wrap(&long, &[0; 11], &mut out, &mut [0; 31])), Number::Closed);
     assert_eq!(number(closed.unwrap(&long, &[0; 11], &[0; 31], &mut out)), Number::Closed);
     assert_eq!(closed, before);
+}
+
+#[test]
+fn refusals_of_codes_come_in_their_order() {
+    let mut end = End::start(&[9; 16], xoofff);
+    let refused = |number: Number| Err(Refusal { number, count: 0 });
+    assert_eq!(end.code(0, &mut [0; 7]), refused(Number::NoCode));
+    end.wrap(&[], &[], &mut [], &mut [0; 32]).unwrap();
+    assert_eq!(end.code(PACKET_MAX + 1, &mut [0; 7]), refused(Number::NoCode));
+    assert_eq!(end.code(u32::MAX, &mut [0; 8]), refused(Number::NoCode));
+    assert_eq!(end.code(PACKET_MAX, &mut [0; 7]), refused(Number::Buffer));
+    assert_eq!(end.code(PACKET_MAX, &mut [0; 8]), Ok(2));
+    let closed = Session { open: false, ..end.session };
+    assert_eq!(closed.code(5_000, &mut [0; 7]), refused(Number::Closed));
+}
+
+/// The output of a history is the newest message's tag and then all codes.
+#[test]
+fn codes_follow_the_tag() {
+    let mut end = End::start(&[9; 16], xoofff);
+    for message in [&b""[..], b"12001-12100"] {
+        let (mut cryptogram, mut tag) = (vec![0; message.len()], [0; 32]);
+        end.wrap(b"size C", message, &mut cryptogram, &mut tag).unwrap();
+        let mut stream = tag.to_vec();
+        for packet in 0..=PACKET_MAX {
+            let mut code = [0; CODE];
+            assert_eq!(end.code(packet, &mut code), Ok(2));
+            stream.extend(code);
+        }
+        assert_eq!(stream, xoofff(&end.ledger.key, &end.ledger.history, 0, 32 + 8 * 2_048));
+    }
 }
 
 #[test]

@@ -6,6 +6,7 @@ use std::collections::HashMap;
 
 use common::{Record, records};
 use pevghazo_reference::bits;
+use pevghazo_reference::codes::CODE;
 use pevghazo_reference::deck::{Deck, Text, xoofff};
 use pevghazo_reference::ledger::Ledger;
 use pevghazo_reference::refusal::{Number, Refusal};
@@ -72,74 +73,139 @@ struct End {
     ledger: Ledger,
 }
 
-/// Checks the record against the fields after a call.
-fn check_record(end: &End, record: &Record) {
-    let session = &end.session;
-    let line = record.line;
-    assert!(session.open, "line {line}");
-    assert_eq!(session.index as usize, record.number("index"), "index, line {line}");
-    assert_eq!(usize::from(session.toggle), record.number("e"), "e, line {line}");
-    assert_eq!(session.accumulator, record.state("acc"), "acc, line {line}");
-    assert_eq!(session.mask, record.state("mask"), "mask, line {line}");
-    assert_eq!(end.ledger.record(), *session, "the ledger's record, line {line}");
+impl End {
+    fn start(record: &Record) -> End {
+        let key = record.bytes("key");
+        let session = Session::start(&key).expect("a good key");
+        let ledger = Ledger::start(&key, xoofff).expect("a good key");
+        assert_eq!(record.number("count") as u32, Session::START_COUNT, "line {}", record.line);
+        let end = End { session, ledger };
+        end.check(record);
+        end
+    }
+
+    /// Checks the record against the fields after a call.
+    fn check(&self, record: &Record) {
+        assert_eq!(usize::from(self.session.toggle), record.number("e"), "e, line {}", record.line);
+        self.check_history(record);
+    }
+
+    /// Checks what the history has left behind.
+    fn check_history(&self, record: &Record) {
+        let (session, line) = (&self.session, record.line);
+        assert!(session.open, "line {line}");
+        assert_eq!(session.index as usize, record.number("index"), "index, line {line}");
+        assert_eq!(session.accumulator, record.state("acc"), "acc, line {line}");
+        assert_eq!(session.mask, record.state("mask"), "mask, line {line}");
+        assert_eq!(self.ledger.record(), *session, "the ledger's record, line {line}");
+    }
+
+    fn wrap(&mut self, record: &Record) {
+        let line = record.line;
+        let (metadata, message) = (record.bytes("A"), record.bytes("M"));
+        let mut out = [buffer(message.len()), buffer(message.len())];
+        let mut tag = [[0; 32]; 2];
+        let answer = self.session.wrap(&metadata, &message, &mut out[0], &mut tag[0]);
+        assert_eq!(answer, Ok(record.number("count") as u32), "line {line}");
+        assert_eq!(self.ledger.wrap(&metadata, &message, &mut out[1], &mut tag[1]), answer, "line {line}");
+        for (out, tag) in out.iter().zip(tag) {
+            assert_eq!(*out, [&record.bytes("C")[..], &REST].concat(), "C, line {line}");
+            assert_eq!(tag.as_slice(), record.bytes("T"), "T, line {line}");
+        }
+        self.check(record);
+    }
+
+    /// Unwraps, and gives whether it was accepted.
+    fn unwrap(&mut self, record: &Record) -> bool {
+        let (line, count) = (record.line, record.number("count") as u32);
+        let (metadata, cryptogram, tag) = (record.bytes("A"), record.bytes("C"), record.bytes("T"));
+        let accepted = record.text("result") == "ok";
+        assert!(accepted || (record.text("result") == "tag" && !record.has("M")), "line {line}");
+        let message = if accepted { record.bytes("M") } else { vec![0; cryptogram.len()] };
+        let expected = if accepted { Ok(count) } else { Err(Refusal { number: Number::Tag, count }) };
+        let mut out = [buffer(message.len()), buffer(message.len())];
+        let answer = self.session.unwrap(&metadata, &cryptogram, &tag, &mut out[0]);
+        assert_eq!(answer, expected, "line {line}");
+        assert_eq!(self.ledger.unwrap(&metadata, &cryptogram, &tag, &mut out[1]), expected, "line {line}");
+        for out in out {
+            assert_eq!(out, [&message[..], &REST].concat(), "M, line {line}");
+        }
+        self.check(record);
+        accepted
+    }
+}
+
+/// What stands in an output buffer behind the text, and must stay.
+const REST: [u8; 3] = [0xA5; 3];
+
+/// An output buffer for a text of this length, with some bytes more.
+fn buffer(length: usize) -> Vec<u8> {
+    vec![0xA5; length + REST.len()]
+}
+
+/// What was played of the sessions: end a of each after its last record, and the accepted wraps, the accepted unwraps and the
+/// refused ones.
+#[derive(Default)]
+struct Played {
+    ends: HashMap<usize, End>,
+    wraps: u32,
+    accepted: u32,
+    refused: u32,
+}
+
+/// Plays the sessions at both ends, with every field of every record checked.
+fn play() -> Played {
+    let mut played = Played::default();
+    let mut end_b = None;
+    for record in &records("sanse.txt") {
+        let session = record.number("session");
+        if record.text("op") == "start" {
+            let end = End::start(record);
+            end_b = Some(end.clone());
+            played.ends.insert(session, end);
+            continue;
+        }
+        let end = match record.text("end") {
+            "a" => played.ends.get_mut(&session),
+            "b" => end_b.as_mut(),
+            end => panic!("line {}: which end is {end}?", record.line),
+        };
+        let end = end.expect("an end that was started");
+        match record.text("op") {
+            "wrap" => {
+                end.wrap(record);
+                played.wraps += 1;
+            }
+            "unwrap" if end.unwrap(record) => played.accepted += 1,
+            "unwrap" => played.refused += 1,
+            op => panic!("line {}: what is {op}?", record.line),
+        }
+    }
+    played
 }
 
 #[test]
 fn sessions() {
-    let mut ends: HashMap<String, End> = HashMap::new();
-    let (mut wraps, mut accepted, mut refused) = (0, 0, 0);
-    for record in &records("sanse.txt") {
+    let played = play();
+    assert!(played.wraps > 0 && played.accepted > 0 && played.refused > 0);
+}
+
+#[test]
+fn codes() {
+    let ends = play().ends;
+    for record in &records("codes.txt") {
         let line = record.line;
-        let count = record.number("count") as u32;
-        if record.text("op") == "start" {
-            let key = record.bytes("key");
-            let session = Session::start(&key).expect("a good key");
-            let ledger = Ledger::start(&key, xoofff).expect("a good key");
-            assert_eq!(count, Session::START_COUNT, "line {line}");
-            let end = End { session, ledger };
-            check_record(&end, record);
-            ends.insert("a".to_string(), end.clone());
-            ends.insert("b".to_string(), end);
-            continue;
-        }
-        let end = ends.get_mut(record.text("end")).expect("an end that was started");
-        let (metadata, tag) = (record.bytes("A"), record.bytes("T"));
-        let cryptogram = record.bytes("C");
-        // The output buffer has some bytes more, which must stay.
-        let mut out = vec![0xA5; cryptogram.len() + 3];
-        let mut again = out.clone();
-        match record.text("op") {
-            "wrap" => {
-                let message = record.bytes("M");
-                let (mut t, mut t_again) = ([0; 32], [0; 32]);
-                let answer = end.session.wrap(&metadata, &message, &mut out, &mut t);
-                assert_eq!(answer, Ok(count), "line {line}");
-                assert_eq!(end.ledger.wrap(&metadata, &message, &mut again, &mut t_again), answer, "line {line}");
-                assert_eq!(out[..message.len()], cryptogram, "C, line {line}");
-                assert_eq!(t.as_slice(), tag, "T, line {line}");
-                assert_eq!(t, t_again, "the ledger's T, line {line}");
-                wraps += 1;
-            }
-            "unwrap" => {
-                let answer = end.session.unwrap(&metadata, &cryptogram, &tag, &mut out);
-                assert_eq!(end.ledger.unwrap(&metadata, &cryptogram, &tag, &mut again), answer, "line {line}");
-                if record.text("result") == "ok" {
-                    assert_eq!(answer, Ok(count), "line {line}");
-                    assert_eq!(out[..cryptogram.len()], record.bytes("M"), "M, line {line}");
-                    accepted += 1;
-                } else {
-                    assert_eq!(record.text("result"), "tag");
-                    assert_eq!(answer, Err(Refusal { number: Number::Tag, count }), "line {line}");
-                    assert!(out[..cryptogram.len()].iter().all(|byte| *byte == 0), "line {line}");
-                    assert!(!record.has("M"));
-                    refused += 1;
-                }
-            }
-            op => panic!("line {line}: what is {op}?"),
-        }
-        assert_eq!(out[cryptogram.len()..], [0xA5; 3], "line {line}");
-        assert_eq!(out, again, "the ledger's output, line {line}");
-        check_record(end, record);
+        let end = &ends[&record.number("session")];
+        assert_eq!(end.ledger.key, record.bytes("key"), "key, line {line}");
+        end.check_history(record);
+        let (packet, count) = (record.number("p") as u32, record.number("count") as u32);
+        let mut by_bits = Ledger::start(&end.ledger.key, bits::xoofff).unwrap();
+        by_bits.history = end.ledger.history.clone();
+        let expected = [&record.bytes("code")[..], &REST].concat();
+        let mut out = [buffer(CODE), buffer(CODE), buffer(CODE)];
+        assert_eq!(end.session.code(packet, &mut out[0]), Ok(count), "line {line}");
+        assert_eq!(end.ledger.code(packet, &mut out[1]), Ok(count), "by the history, line {line}");
+        assert_eq!(by_bits.code(packet, &mut out[2]), Ok(count), "by bits, line {line}");
+        assert!(out.iter().all(|out| *out == expected), "code, line {line}");
     }
-    assert!(wraps > 0 && accepted > 0 && refused > 0);
 }

@@ -40,6 +40,7 @@ pub fn run(out: &mut dyn Write, run: Run) -> Result<(), Failure> {
             &format!("  group {group:2}: an envelope of {envelope} bytes goes out and is opened as {opened}\n"),
         )?;
     }
+    label(&folder, out)?;
     print(out, "\nThe groups return the numbers that they did not use:\n")?;
     for (group, _, unused) in BLOCKS {
         let envelope = folder.group_seals(group, unused)?;
@@ -54,14 +55,7 @@ pub fn run(out: &mut dyn Write, run: Run) -> Result<(), Failure> {
             &format!("  group {group:2}: an envelope of {envelope} bytes comes in and is opened as {opened}\n"),
         )?;
     }
-    print(out, "\nOther arrivals that are refused:\n")?;
-    print(out, "  repeated: the office gets the envelope of group 11 a second time:\n")?;
-    folder.refused(out, &["office", "open", "--in", "from-11", "--out", "none"], "office.state")?;
-    print(out, "  misdirected: group 27 gets the envelope for group 4:\n")?;
-    folder.refused(out, &["group", "open", "--in", "to-4", "--out", "none"], "group-27.state")?;
-    print(out, "  misdirected, and readdressed to 27:\n")?;
-    folder.readdress("to-4", "S,4,", "S,27,", "readdressed")?;
-    folder.refused(out, &["group", "open", "--in", "readdressed", "--out", "none"], "group-27.state")?;
+    misdirect(&folder, out)?;
     print(out, "\nWhat the office holds:\n")?;
     print(out, &indented(&folder.play(&["office", "show"], "office.state")?))?;
     print(out, "\nWhat the groups hold:\n")?;
@@ -82,6 +76,32 @@ fn open_all(folder: &Folder) -> Result<(), Failure> {
         folder.play(&["group", "start", "--group", &number, "--key", "key"], &format!("group-{group}.state"))?;
     }
     Ok(())
+}
+
+/// A group prints codes on its packets, and the office checks one of them.
+fn label(folder: &Folder, out: &mut dyn Write) -> Result<(), Failure> {
+    print(out, "\nGroup 4 prints a code on each of its packets, here on packets 0 to 2:\n")?;
+    let codes = folder.play(&["group", "codes", "--packets", "0-2"], "group-4.state")?;
+    print(out, &indented(&codes))?;
+    let first = codes.trim_start().strip_prefix("0 ").and_then(|rest| rest.lines().next());
+    let code = first.ok_or(Failure::Demo("a code is not there as it should be"))?;
+    let check = |packet| ["office", "check-code", "--group", "4", "--code", code, "--packet", packet];
+    let verdict = folder.play(&check("0"), "office.state")?;
+    print(out, &format!("  the office checks the code of packet 0: {verdict}"))?;
+    print(out, "  the same code on packet 1:\n")?;
+    folder.refused(out, &check("1"), "office.state")
+}
+
+/// Arrivals in the wrong place are refused.
+fn misdirect(folder: &Folder, out: &mut dyn Write) -> Result<(), Failure> {
+    print(out, "\nOther arrivals that are refused:\n")?;
+    print(out, "  repeated: the office gets the envelope of group 11 a second time:\n")?;
+    folder.refused(out, &["office", "open", "--in", "from-11", "--out", "none"], "office.state")?;
+    print(out, "  misdirected: group 27 gets the envelope for group 4:\n")?;
+    folder.refused(out, &["group", "open", "--in", "to-4", "--out", "none"], "group-27.state")?;
+    print(out, "  misdirected, and readdressed to 27:\n")?;
+    folder.readdress("to-4", "S,4,", "S,27,", "readdressed")?;
+    folder.refused(out, &["group", "open", "--in", "readdressed", "--out", "none"], "group-27.state")
 }
 
 fn indented(text: &str) -> String {
@@ -159,14 +179,14 @@ impl Folder {
         Ok(format!("\"{}\"", String::from_utf8_lossy(&text)))
     }
 
-    /// Runs a command that is to be refused, and prints why.
+    /// Runs a command that is to be refused, or to find a mismatch, and prints why.
     fn refused(&self, out: &mut dyn Write, words: &[&str], state: &str) -> Result<(), Failure> {
         match self.play(words, state) {
-            Err(failure @ (Failure::Refused(_) | Failure::OtherGroup { .. })) => {
+            Err(failure @ (Failure::Refused(_) | Failure::OtherGroup { .. } | Failure::Mismatch { .. })) => {
                 print(out, &format!("      {failure}\n"))
             }
             Err(failure) => Err(failure),
-            Ok(_) => Err(Failure::Demo("an arrival was accepted that had to be refused")),
+            Ok(_) => Err(Failure::Demo("something was accepted that had to be refused")),
         }
     }
 

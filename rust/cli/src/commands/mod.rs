@@ -1,5 +1,6 @@
 //! What each command of the table does.
 
+mod codes;
 mod demo;
 mod forget;
 mod group;
@@ -29,6 +30,8 @@ pub fn run(command: &Command, arguments: &Arguments, out: &mut dyn Write) -> Res
         Id::OfficeReread => messages::reread::<Office>(arguments, out),
         Id::OfficeForget => forget::forget::<Office>(arguments),
         Id::OfficeNearlyFull => office::nearly_full(arguments, out),
+        Id::OfficeCodes => codes::codes::<Office>(arguments, out),
+        Id::OfficeCheckCode => codes::check::<Office>(arguments, out),
         Id::OfficeShow => show::office(arguments, out),
         Id::GroupStart => group::start(arguments),
         Id::GroupSeal => messages::seal::<Group>(arguments, out),
@@ -36,6 +39,8 @@ pub fn run(command: &Command, arguments: &Arguments, out: &mut dyn Write) -> Res
         Id::GroupResend => messages::resend::<Group>(arguments, out),
         Id::GroupReread => messages::reread::<Group>(arguments, out),
         Id::GroupForget => forget::forget::<Group>(arguments),
+        Id::GroupCodes => codes::codes::<Group>(arguments, out),
+        Id::GroupCheckCode => codes::check::<Group>(arguments, out),
         Id::GroupShow => show::group(arguments, out),
         Id::Keygen => keygen::keygen(arguments, out),
         Id::Demo => demo::run(out, run),

@@ -9,7 +9,9 @@ use std::path::{Path, PathBuf};
 use std::process::{Command, Stdio};
 use std::sync::atomic::{AtomicU32, Ordering};
 
+use pevghazo_reference::session::Session;
 pub use pevghazo_store::fault::VARIABLE;
+use pevghazo_store::{Presence, Store, Wait};
 
 /// The program.
 pub const PROGRAM: &str = env!("CARGO_BIN_EXE_pevghazo");
@@ -56,6 +58,14 @@ impl Folder {
         let _ = fs::remove_file(&path);
         let mut file = fs::OpenOptions::new().write(true).create_new(true).mode(0o600).open(path).unwrap();
         file.write_all(bytes).unwrap();
+    }
+
+    /// Puts bytes in the place of those at an offset of a state file's state.
+    pub fn forge(&self, name: &str, offset: usize, bytes: &[u8]) {
+        let mut store = Store::open(self.0.join(name), Presence::MustExist, Wait::Never).unwrap();
+        let mut state = store.bytes().unwrap().to_vec();
+        state[offset..offset + bytes.len()].copy_from_slice(bytes);
+        store.commit(&state).unwrap();
     }
 
     /// The program with these arguments, separated by spaces, to be run in the folder.
@@ -164,4 +174,17 @@ impl Run {
             said: String::from_utf8(output.stderr).unwrap(),
         }
     }
+}
+
+/// A packet's code by the independent implementation, as it is shown: digits in groups of four.
+pub fn code(session: &Session, packet: u32) -> String {
+    let mut bytes = [0; 8];
+    session.code(packet, &mut bytes).unwrap();
+    grouped(&bytes.map(|byte| format!("{byte:02x}")).concat())
+}
+
+/// Digits in groups of four.
+pub fn grouped(digits: &str) -> String {
+    let groups: Vec<&str> = (0..digits.len()).step_by(4).map(|place| &digits[place..place + 4]).collect();
+    groups.join(" ")
 }

@@ -20,11 +20,13 @@
 
 use std::sync::atomic::{Ordering, compiler_fence};
 
+mod codes;
 mod envelope;
 mod session;
 mod stack;
 mod table;
 
+pub use codes::code;
 pub use envelope::{Parts, Written, read_envelope, write_envelope};
 pub use session::{Answer, Record, start, unwrap, wrap};
 pub(crate) use stack::clear_stack;

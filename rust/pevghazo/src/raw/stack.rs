@@ -49,8 +49,8 @@ fn clear_registers() {}
 #[cfg(test)]
 mod tests {
     use super::*;
-    use crate::raw::{Record, session, table};
-    use crate::{GROUPS, KEY_MAX, TAG_LENGTH, TEXT_MAX};
+    use crate::raw::{Record, codes, session, table};
+    use crate::{CODE_LENGTH, GROUPS, KEY_MAX, PACKET_MAX, TAG_LENGTH, TEXT_MAX};
     use std::fs::File;
     use std::os::unix::fs::FileExt;
 
@@ -95,7 +95,7 @@ mod tests {
         let day = table::start_day(u32::MAX);
         let mut deepest = 0;
         // The first turn may look up functions of the C library.
-        for call in (0..6).chain(0..6) {
+        for call in (0..7).chain(0..7) {
             let depth = depth(&mut || {
                 let (k, t, n) = (key.as_ptr(), text.as_ptr(), TEXT_MAX);
                 let (out, tag) = (out.as_mut_ptr(), tag.as_mut_ptr());
@@ -110,10 +110,11 @@ mod tests {
                         4 => {
                             table::pevghazo_wrap_group(all, GROUPS, 7, day, t, n, t, n, out, n, tag, TAG_LENGTH).number
                         }
-                        _ => {
+                        5 => {
                             table::pevghazo_unwrap_group(all, GROUPS, 7, day, t, n, t, n, tag, TAG_LENGTH, out, n)
                                 .number
                         }
+                        _ => codes::pevghazo_code(&lone, PACKET_MAX, out, CODE_LENGTH).number,
                     }
                 };
                 assert_eq!(number, if call % 3 == 2 { 11 } else { 0 });

@@ -12,6 +12,10 @@ use pevghazo_reference::session::Session;
 /// The lengths at which something changes.
 pub const EDGES: [usize; 10] = [0, 1, 47, 48, 49, 95, 96, 97, 16_383, 16_384];
 
+/// The packets at which something changes, with some beside them: the codes of 0 and 1 stand in the first output block, those of 2
+/// to 7 in the second.
+pub const PACKETS: [u32; 10] = [0, 1, 2, 5, 6, 7, 8, 2_047, 2_048, u32::MAX];
+
 /// Names the seed of a case that fails.
 struct Case {
     name: &'static str,
@@ -70,6 +74,15 @@ pub fn text(random: &mut Random) -> Vec<u8> {
 pub fn key(random: &mut Random) -> Vec<u8> {
     let length = 16 + random.below(32);
     random.bytes(length)
+}
+
+/// A packet's number: one within the limit, an edge, or any.
+pub fn packet(random: &mut Random) -> u32 {
+    match random.below(8) {
+        0 => random.bits() as u32,
+        1 | 2 => random.pick(&PACKETS),
+        _ => random.below(2_048) as u32,
+    }
 }
 
 /// One time in `n`, something else than `usual`: a length below, or above.
@@ -210,6 +223,23 @@ impl Both {
         assert!(out == out_too, "unwrap: the output buffers differ");
         self.check();
         given
+    }
+
+    /// Asks for a packet's code, into this buffer.
+    pub fn code(&self, packet: u32, out: &mut [u8]) -> Answer {
+        let mut out_too = out.to_vec();
+        let given = raw::code(&self.library, packet, out);
+        let answer = self.reference.code(packet, &mut out_too);
+        assert_eq!(given, answer_of(answer), "code");
+        assert!(out == out_too, "code: the buffers differ");
+        self.check();
+        given
+    }
+
+    /// Asks for the code of some packet, now and then into a buffer that is too short.
+    pub fn any_code(&self, random: &mut Random) -> Answer {
+        let (packet, room) = (packet(random), other_length(random, 8, 4));
+        self.code(packet, &mut random.bytes(room))
     }
 }
 

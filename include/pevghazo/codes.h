@@ -1,0 +1,33 @@
+/* Pevghazo: codes for packets of rings, which a session gives. What all functions share is said in pevghazo.h.
+ *
+ * Both ends have the same codes between two messages. They belong to the session as it stands, and the next accepted message gives every
+ * packet another one: who wants to check a code later keeps it.
+ *
+ * A code that was read off a packet is compared without stopping at the first difference, as memcmp may do: the time would tell how many
+ * of its bytes were right. */
+#ifndef PEVGHAZO_CODES_H
+#define PEVGHAZO_CODES_H
+
+#include "numbers.h"
+#include "session.h"
+
+#ifdef __cplusplus
+extern "C" {
+#endif
+
+/* Limits: the bytes of a code, and the highest number of a packet. */
+enum {
+    PEVGHAZO_CODE_LENGTH = 8,
+    PEVGHAZO_PACKET_MAX = 2047
+};
+
+/* Checks 5, 12, 8, in this order. The packet's code goes to the start of `out`: 8 bytes of the deck function of the session's history, from
+ * byte 32 + 8 * packet on. The session is not altered. A group's codes are those of its record in the table; they go past the table, so the
+ * day's allowance is not looked at and its count stays. */
+PEVGHAZO_MUST_USE pevghazo_answer pevghazo_code(const pevghazo_session *session, uint32_t packet, uint8_t *out, size_t out_len);
+
+#ifdef __cplusplus
+}
+#endif
+
+#endif
