@@ -1,5 +1,5 @@
-/* What a C program sees of the installed library: the table and the day of zeros, what a refused start leaves, and a message from the office to
- * a group and back. */
+/* What a C program sees of the installed library: the table and the day of zeros, what a refused start leaves, codes of packets, and a message
+ * from the office to a group and back. */
 #include <pevghazo.h>
 #include <stdio.h>
 #include <stdlib.h>
@@ -58,6 +58,44 @@ static void refused_start(void) {
           || session->index != 0 || session->toggle || session->opened, false);
 }
 
+/* The first codes of vectors/codes.txt, after a message without bytes; and their refusals, which leave the buffer as it was. */
+static void codes(void) {
+    static const uint8_t shared[] = {0x05, 0xad, 0x4e, 0xf9, 0x92, 0x08, 0x2b, 0x80, 0xd5, 0xbf, 0x1d, 0x19, 0x5f, 0x8c, 0x06, 0x05};
+    static const uint8_t expected[2][PEVGHAZO_CODE_LENGTH] = {{0x12, 0x92, 0xc7, 0xf4, 0xdb, 0x53, 0xd2, 0x86},
+                                                              {0x37, 0xf2, 0xa7, 0xdd, 0x3c, 0xab, 0x75, 0xbe}};
+    static pevghazo_session session, before;
+    uint8_t out[PEVGHAZO_CODE_LENGTH + 1], kept[sizeof out], tag[PEVGHAZO_TAG_LENGTH];
+    memset(out, 0xA5, sizeof out);
+    memcpy(kept, out, sizeof out);
+    check("a code of a closed session", pevghazo_code(&session, 5000, out, PEVGHAZO_CODE_LENGTH - 1).number, PEVGHAZO_NOT_OPEN);
+    check("starting", pevghazo_start(&session, shared, sizeof shared).number, PEVGHAZO_ACCEPTED);
+    check("a code before the first message", pevghazo_code(&session, 0, out, PEVGHAZO_CODE_LENGTH - 1).number, PEVGHAZO_NO_CODE);
+    check("wrapping nothing", pevghazo_wrap(&session, message, 0, message, 0, out, 0, tag, sizeof tag).number, PEVGHAZO_ACCEPTED);
+    memcpy(&before, &session, sizeof before);
+    check("a code of a packet too high", pevghazo_code(&session, PEVGHAZO_PACKET_MAX + 1, out, sizeof out).number, PEVGHAZO_NO_CODE);
+    pevghazo_answer refused = pevghazo_code(&session, PEVGHAZO_PACKET_MAX, out, PEVGHAZO_CODE_LENGTH - 1);
+    check("a code without room", refused.number, PEVGHAZO_NO_ROOM);
+    check("its count", refused.count, 0);
+    check("the buffer after refused codes", (uint32_t)memcmp(out, kept, sizeof out), 0);
+    for (uint32_t packet = 0; packet < 2; packet++) {
+        pevghazo_answer answer = pevghazo_code(&session, packet, out, sizeof out);
+        check("a code", answer.number, PEVGHAZO_ACCEPTED);
+        check("the count of a code", answer.count, 2);
+        check("a code's bytes", (uint32_t)memcmp(out, expected[packet], PEVGHAZO_CODE_LENGTH), 0);
+        check("the byte after a code", out[PEVGHAZO_CODE_LENGTH], 0xA5);
+    }
+    check("the last code", pevghazo_code(&session, PEVGHAZO_PACKET_MAX, out, PEVGHAZO_CODE_LENGTH).number, PEVGHAZO_ACCEPTED);
+    check("the session after its codes", (uint32_t)memcmp(&session, &before, sizeof before), 0);
+}
+
+/* Both ends give a packet one code; the office's is that of the group's record. */
+static void same_code(const pevghazo_session *office, const pevghazo_session *group, uint32_t packet) {
+    uint8_t here[PEVGHAZO_CODE_LENGTH] = {0}, there[PEVGHAZO_CODE_LENGTH] = {1};
+    check("a code of the office", pevghazo_code(office, packet, here, sizeof here).number, PEVGHAZO_ACCEPTED);
+    check("a code of the group", pevghazo_code(group, packet, there, sizeof there).number, PEVGHAZO_ACCEPTED);
+    check("the two codes", (uint32_t)memcmp(here, there, sizeof here), 0);
+}
+
 /* A message from the office to a group, in an envelope, and an answer. */
 static void both_ways(void) {
     static pevghazo_session office[PEVGHAZO_GROUPS], group; /* all zero: closed sessions */
@@ -94,6 +132,7 @@ static void both_ways(void) {
         check("the count of unwrapping", answer.count, 7);
         if (i == 0) check("the message", (uint32_t)memcmp(out, message, message_len), 0);
     }
+    same_code(&office[7], &group, 12);
 
     /* The group answers, and the office asks which group is nearly full. */
     pevghazo_answer back = pevghazo_wrap(&group, metadata, metadata_len, message, 0, out, sizeof out, tag, sizeof tag);
@@ -110,7 +149,8 @@ static void both_ways(void) {
 int main(void) {
     zeros();
     refused_start();
+    codes();
     both_ways();
-    puts("interface: zeros are an unopened table before its first day, and a message went both ways");
+    puts("interface: zeros are an unopened table before its first day, codes are those of the vectors, and a message went both ways");
     return 0;
 }

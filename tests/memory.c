@@ -37,8 +37,8 @@ __attribute__((noinline)) static unsigned lanes_below(const pevghazo_session *se
 }
 
 /* The calls that leave something behind. */
-enum { START, WRAP, UNWRAP, OPEN_GROUP, WRAP_GROUP, UNWRAP_GROUP, CALLS };
-static const char *const names[CALLS] = {"start", "wrap", "unwrap", "open a group", "wrap for a group", "unwrap for a group"};
+enum { START, WRAP, UNWRAP, CODE, OPEN_GROUP, WRAP_GROUP, UNWRAP_GROUP, CALLS };
+static const char *const names[CALLS] = {"start", "wrap", "unwrap", "code", "open a group", "wrap for a group", "unwrap for a group"};
 
 static uint32_t call(int which, size_t n) {
     pevghazo_day day = pevghazo_start_day(UINT32_MAX);
@@ -46,6 +46,7 @@ static uint32_t call(int which, size_t n) {
     case START: return pevghazo_start(&lone, key, sizeof key).number;
     case WRAP: return pevghazo_wrap(&lone, metadata, sizeof metadata, message, n, out, n, tag, sizeof tag).number;
     case UNWRAP: return pevghazo_unwrap(&lone, metadata, sizeof metadata, out, n, tag, sizeof tag, message, n).number;
+    case CODE: return pevghazo_code(&lone, (uint32_t)n, out, sizeof out).number;
     case OPEN_GROUP: return pevghazo_open_group(office, PEVGHAZO_GROUPS, 7, day, key, sizeof key).number;
     case WRAP_GROUP:
         return pevghazo_wrap_group(office, PEVGHAZO_GROUPS, 7, day, metadata, sizeof metadata, message, n, out, n, tag, sizeof tag).number;

@@ -1,10 +1,10 @@
 /* Pevghazo: codes for packets of rings, which a session gives. What all functions share is said in pevghazo.h.
  *
- * Both ends have the same codes between two messages. They belong to the session as it stands, and the next accepted message gives every
- * packet another one: who wants to check a code later keeps it.
+ * Both ends have the same codes between two messages. They belong to the session as it stands: with the next accepted message every packet has
+ * another code, and the old ones cannot be had again.
  *
- * A code that was read off a packet is compared without stopping at the first difference, as memcmp may do: the time would tell how many
- * of its bytes were right. */
+ * A code that was read off a packet is not compared by memcmp, which may stop at the first difference: its time would tell how many bytes of a
+ * guess were right. All bytes are looked at, wherever they differ. */
 #ifndef PEVGHAZO_CODES_H
 #define PEVGHAZO_CODES_H
 

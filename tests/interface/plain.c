@@ -1,5 +1,5 @@
 /* The functions in plain C beside the proved ones, in old C: texts, version, and sessions as bytes. `print` as an argument prints what the Rust
- * crate must print, too: the sentences, and a session's bytes. */
+ * crate must print, too: the sentences, and a session's bytes and codes. */
 #include <pevghazo.h>
 #include <stdio.h>
 #include <stdlib.h>
@@ -16,7 +16,7 @@ static pevghazo_session session, zero;
 static uint8_t stored[PEVGHAZO_SESSION_BYTES];
 
 static void texts(void) {
-    const char *none = pevghazo_number_text(12);
+    const char *none = pevghazo_number_text(100);
     char version[32];
     uint32_t i, j;
     sprintf(version, "%d.%d.%d", PEVGHAZO_VERSION_MAJOR, PEVGHAZO_VERSION_MINOR, PEVGHAZO_VERSION_PATCH);
@@ -24,7 +24,7 @@ static void texts(void) {
     check("the library's version is another than the headers'", strcmp(version, pevghazo_version()) == 0);
     for (i = 0; i <= 300; i++) {
         const char *text = pevghazo_number_text(i);
-        const int is_number = i <= PEVGHAZO_WRONG_TAG || (i >= PEVGHAZO_STORED_LENGTH && i <= PEVGHAZO_STORED_CLOSED);
+        const int is_number = i <= PEVGHAZO_NO_CODE || (i >= PEVGHAZO_STORED_LENGTH && i <= PEVGHAZO_STORED_CLOSED);
         check("a text is no sentence", strlen(text) > 5 && text[strlen(text) - 1] == '.');
         check("a number has no text, or a text no number", (strcmp(text, none) != 0) == is_number);
         for (j = 0; is_number && j < i; j++) check("two numbers have one text", strcmp(text, pevghazo_number_text(j)) != 0);
@@ -102,13 +102,24 @@ static void wiped(void) {
     pevghazo_wipe_stack();
 }
 
+/* A packet's code, in groups of four digits. */
+static void print_code(uint32_t packet) {
+    uint8_t code[PEVGHAZO_CODE_LENGTH];
+    size_t i;
+    check("a code is refused", pevghazo_code(&session, packet, code, sizeof code).number == PEVGHAZO_ACCEPTED);
+    for (i = 0; i < sizeof code; i++) printf("%s%02x", i > 0 && i % 2 == 0 ? " " : "", code[i]);
+    putchar('\n');
+}
+
 static void print(void) {
     uint32_t number;
     size_t i;
-    for (number = PEVGHAZO_BAD_HEADER; number <= PEVGHAZO_WRONG_TAG; number++) puts(pevghazo_number_text(number));
+    for (number = PEVGHAZO_BAD_HEADER; number <= PEVGHAZO_NO_CODE; number++) puts(pevghazo_number_text(number));
     for (number = PEVGHAZO_STORED_FLAG; number <= PEVGHAZO_STORED_CLOSED; number++) puts(pevghazo_number_text(number));
     for (i = 0; i < sizeof stored; i++) printf("%02x", stored[i]);
     putchar('\n');
+    print_code(0);
+    print_code(PEVGHAZO_PACKET_MAX);
 }
 
 int main(int argc, char **argv) {

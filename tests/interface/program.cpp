@@ -1,4 +1,4 @@
-// A message from an office to a group and back, in C++ with the installed library.
+// A message from an office to a group and back, and a packet's code at both ends, in C++ with the installed library.
 #include <cstring>
 #include <iostream>
 #include <pevghazo.h>
@@ -42,6 +42,14 @@ class session {
         return out;
     }
 
+    bytes code(std::uint32_t packet) const {
+        bytes out(PEVGHAZO_CODE_LENGTH);
+        const auto answer = pevghazo_code(&record, packet, out.data(), out.size());
+        pevghazo_wipe_stack();
+        if (answer.number != PEVGHAZO_ACCEPTED) throw answer.number;
+        return out;
+    }
+
   private:
     pevghazo_session record{};
 };
@@ -54,6 +62,7 @@ int main() {
     bytes tag;
     const bytes cryptogram = office.wrap(metadata, message, tag);
     if (group.unwrap(metadata, cryptogram, tag) != message) return 1;
+    if (group.code(12) != office.code(12) || group.code(12) == group.code(13)) return 1;
     try {
         (void)group.unwrap(metadata, cryptogram, tag);
         return 1;

@@ -1,7 +1,7 @@
-//! A program outside the repository, over the installed library: prints the sentences of the numbers and a session's stored bytes,
-//! which must be those that the C functions give.
+//! A program outside the repository, over the installed library: prints the sentences of the numbers, and a session's stored bytes and
+//! codes, which must be those that the C functions give.
 
-use pevghazo::{BadBytes, Number, Plain, Refusal, Session, Table};
+use pevghazo::{BadBytes, Number, PACKET_MAX, Plain, Refusal, Session, Table};
 
 fn main() -> Result<(), Refusal> {
     let key = b"a key for the stored bytes";
@@ -19,5 +19,10 @@ fn main() -> Result<(), Refusal> {
         println!("{bad}");
     }
     println!("{}", session.to_bytes().iter().map(|byte| format!("{byte:02x}")).collect::<String>());
+    for packet in [0, PACKET_MAX] {
+        let (code, count) = session.code(packet)?;
+        assert_eq!((office.code(7, packet)?, code.to_string().parse()), ((code, count), Ok(code)));
+        println!("{code}");
+    }
     Ok(())
 }
