@@ -8,6 +8,9 @@ use std::fs;
 use std::io::Read;
 use std::os::unix::ffi::OsStrExt;
 use std::os::unix::fs::{MetadataExt, PermissionsExt};
+use std::process::{Child, Command, Stdio};
+use std::thread::sleep;
+use std::time::Duration;
 
 use common::{Folder, Run, code, grouped};
 use pevghazo_reference::{envelope, session::Session};
@@ -368,4 +371,67 @@ fn a_slow_reader_of_codes_keeps_nobody_waiting() {
     output.read_to_end(&mut rest).unwrap();
     assert!(rest.len() > 1 << 17 && rest.ends_with(b"</html>\n"));
     assert!(child.wait().unwrap().success());
+}
+
+/// Waits until a program cannot go on.
+fn until_blocked(child: &Child) {
+    let state = || {
+        let stat = fs::read_to_string(format!("/proc/{}/stat", child.id())).unwrap();
+        stat[stat.rfind(')').unwrap()..].chars().nth(2)
+    };
+    while state() != Some('S') {
+        assert_ne!(state(), Some('Z'), "it has gone on");
+        sleep(Duration::from_millis(1));
+    }
+}
+
+/// So it is where nobody takes the verdict: the pipe is full of zeros.
+#[test]
+fn a_verdict_that_nobody_takes_keeps_nobody_waiting() {
+    let (folder, session) = delivered();
+    let (reader, writer) = std::io::pipe().unwrap();
+    let zeros = Command::new("cat").arg("/dev/zero").stdout(writer.try_clone().unwrap()).stderr(Stdio::null()).spawn();
+    let mut children = vec![zeros.unwrap()];
+    until_blocked(&children[0]);
+    for packet in [7, 8] {
+        let line = format!("{GROUP_CHECKS} --packet {packet} --code {}", code(&session, 7).replace(' ', "-"));
+        children.push(folder.command(&line).stdout(writer.try_clone().unwrap()).spawn().unwrap());
+        until_blocked(children.last().unwrap());
+        folder.done("group --state group show --wait 0");
+    }
+    drop(reader);
+    let statuses: Vec<_> = children.iter_mut().map(|child| child.wait().unwrap().code()).collect();
+    assert_eq!(statuses[1..], [Some(4); 2]);
+}
+
+/// Each of the office's groups has codes of its own, at its own index.
+#[test]
+fn the_codes_of_several_groups() {
+    let folder = Folder::pair(5);
+    folder.write("text", b"20001");
+    for (group, messages) in [(9, 1), (2, 2), (5, 3)] {
+        let key = format!("the secret key of group {group}");
+        let mut session = Session::start(key.as_bytes()).unwrap();
+        if group != 5 {
+            folder.write("key", key.as_bytes());
+            folder.done(&format!("office --state office open-group --group {group} --key key"));
+        }
+        for _ in 0..messages {
+            folder.done_anew(&format!("office --state office seal --group {group} --message text --out to"));
+            take(&folder, &mut session);
+        }
+        let right = code(&session, 7);
+        let line = format!("office --state office codes --group {group} --packets 7");
+        assert_eq!(folder.done(&line), format!("   7 {right}\n"));
+        assert_eq!(folder.done(&format!("{line} --format csv")), format!("group,packet,code\n{group},7,{right}\n"));
+        let title = format!("<title>Codes of packet 7 of group {group} at index {}</title>\n", session.index);
+        assert!(folder.done(&format!("{line} --format html")).contains(&title), "{title}");
+        for (packet, status) in [(7, 0), (8, 9)] {
+            let line = format!("office --state office check-code --group {group}");
+            let run = checked(&folder, &line, packet, OsStr::new(&right));
+            assert_eq!(run.status, status, "{run:?}");
+            let place = format!("packet {packet} of group {group} at index {}. ", session.index);
+            assert_eq!(run.said.contains(&place), status == 9, "{run:?}");
+        }
+    }
 }
