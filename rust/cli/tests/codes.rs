@@ -189,8 +189,8 @@ fn a_code_is_checked_as_it_is_read() {
 fn a_text_that_is_no_code_is_a_bad_command_line() {
     let (folder, session) = delivered();
     let code = code(&session, 7);
-    let sentence = "pevghazo: The value of --code is no code. A code has 16 hexadecimal digits, in groups of four with spaces or \
-                    hyphens between them or without.\n";
+    let sentence = "pevghazo: The value of --code is no code. A code has 16 hexadecimal digits, and between its groups of four \
+                    there may be spaces and hyphens.\n";
     let texts = [
         "",
         " ",
