@@ -83,6 +83,15 @@ mod tests {
         }
     }
 
+    /// How the page looks is seen in a browser only; but the sizes are those of the manual, and only the hint is not printed.
+    #[test]
+    fn the_style_has_the_sizes_of_the_manual() {
+        let sheet = "width: 210mm; height: 296mm; break-after: page;";
+        for part in ["size: A4;", sheet, "width: 70mm; height: 37mm;", "display: none"] {
+            assert_eq!(count(STYLE, part), 1, "{part}");
+        }
+    }
+
     /// Nothing is loaded, run or linked to, and every letter is plain ASCII.
     #[test]
     fn a_page_stands_alone() {
