@@ -101,15 +101,17 @@ fn the_formats() {
     for (range, packets) in
         [("0-2047", 0..=2047), ("9-11", 9..=11), ("2047", 2047..=2047), ("0", 0..=0), ("5-5", 5..=5)]
     {
-        let lines = |line: fn(u32, &str) -> String| -> String {
+        let index = session.index;
+        let lines = |line: &dyn Fn(u32, &str) -> String| -> String {
             packets.clone().map(|packet| line(packet, &code(&session, packet))).collect()
         };
-        let text = lines(|packet, code| format!("{packet:4} {code}\n"));
-        let table = String::from("group,packet,code\n") + &lines(|packet, code| format!("5,{packet},{code}\n"));
-        let labels = lines(|packet, code| {
+        let text = lines(&|packet, code| format!("{packet:4} {code}\n"));
+        let rows = lines(&|packet, code| format!("5,{index},{packet},{code}\n"));
+        let table = String::from("group,index,packet,code\n") + &rows;
+        let labels = lines(&|packet, code| {
             format!(
                 "<div class=\"label\"><p>Group <b>5</b></p> <p class=\"packet\">Packet <b>{packet}</b></p> \
-                 <p class=\"code\">{code}</p></div>\n"
+                 <p class=\"code\">{code}</p> <p class=\"index\">at index {index}</p></div>\n"
             )
         });
         for line in [OFFICE, GROUP] {
@@ -126,7 +128,7 @@ fn the_formats() {
             } else {
                 format!("packets {} to {last}", packets.start())
             };
-            assert!(page.contains(&format!("<title>Codes of {what} of group 5 at index {}</title>\n", session.index)));
+            assert!(page.contains(&format!("<title>Codes of {what} of group 5 at index {index}</title>\n")));
             assert_eq!(page.matches("<div class=\"sheet\">").count(), packets.clone().count().div_ceil(24));
         }
     }
@@ -247,7 +249,7 @@ fn ranges_and_formats_that_are_none() {
 #[test]
 fn codes_go_to_a_new_file_or_nowhere() {
     let (folder, session) = delivered();
-    let expected = format!("group,packet,code\n5,7,{}\n", code(&session, 7));
+    let expected = format!("group,index,packet,code\n5,{},7,{}\n", session.index, code(&session, 7));
     let line = format!("{OFFICE} --packets 7 --format csv");
     assert_eq!(folder.done(&format!("{line} --out codes.csv")), "");
     assert_eq!(folder.read("codes.csv").unwrap(), expected.as_bytes());
@@ -423,14 +425,16 @@ fn the_codes_of_several_groups() {
         let right = code(&session, 7);
         let line = format!("office --state office codes --group {group} --packets 7");
         assert_eq!(folder.done(&line), format!("   7 {right}\n"));
-        assert_eq!(folder.done(&format!("{line} --format csv")), format!("group,packet,code\n{group},7,{right}\n"));
-        let title = format!("<title>Codes of packet 7 of group {group} at index {}</title>\n", session.index);
+        let index = session.index;
+        let table = format!("group,index,packet,code\n{group},{index},7,{right}\n");
+        assert_eq!(folder.done(&format!("{line} --format csv")), table);
+        let title = format!("<title>Codes of packet 7 of group {group} at index {index}</title>\n");
         assert!(folder.done(&format!("{line} --format html")).contains(&title), "{title}");
         for (packet, status) in [(7, 0), (8, 9)] {
             let line = format!("office --state office check-code --group {group}");
             let run = checked(&folder, &line, packet, OsStr::new(&right));
             assert_eq!(run.status, status, "{run:?}");
-            let place = format!("packet {packet} of group {group} at index {}. ", session.index);
+            let place = format!("packet {packet} of group {group} at index {index}. ");
             assert_eq!(run.said.contains(&place), status == 9, "{run:?}");
         }
     }
