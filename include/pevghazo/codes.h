@@ -1,10 +1,14 @@
 /* Pevghazo: codes for packets of rings, which a session gives. What all functions share is said in pevghazo.h.
  *
  * Both ends have the same codes between two messages. They belong to the session as it stands: with the next accepted message every packet has
- * another code, and the old ones cannot be had again.
+ * another code, and the session does not give the old ones again.
  *
- * A code that was read off a packet is not compared by memcmp, which may stop at the first difference: its time would tell how many bytes of a
- * guess were right. All bytes are looked at, wherever they differ. */
+ * The library does not compare codes. Do not compare one that was read off a packet by memcmp, which may stop at the first difference: its time
+ * would tell how many bytes of a guess were right. Look at all bytes, wherever they differ:
+ *
+ *     unsigned differ = 0;
+ *     for (i = 0; i < PEVGHAZO_CODE_LENGTH; i++) differ |= (unsigned)code[i] ^ read[i];
+ *     is_right = differ == 0; */
 #ifndef PEVGHAZO_CODES_H
 #define PEVGHAZO_CODES_H
 
@@ -22,8 +26,8 @@ enum {
 };
 
 /* Checks 5, 12, 8, in this order. The packet's code goes to the start of `out`: 8 bytes of the deck function of the session's history, from
- * byte 32 + 8 * packet on. The session is not altered. A group's codes are those of its record in the table; they go past the table, so the
- * day's allowance is not looked at and its count stays. */
+ * byte 32 + 8 * packet on. The count is 2. The session is not altered. A group's codes are those of its record in the table; they go past the
+ * table, so the day's allowance is not looked at and its count stays. */
 PEVGHAZO_MUST_USE pevghazo_answer pevghazo_code(const pevghazo_session *session, uint32_t packet, uint8_t *out, size_t out_len);
 
 #ifdef __cplusplus

@@ -45,11 +45,19 @@ impl Arguments {
 
     /// The number that an option has as its value, if it was given.
     pub fn number(&self, name: &str) -> Result<Option<u32>, Failure> {
-        let Some((option, value)) = self.0.iter().find(|(known, _)| known.name == name) else { return Ok(None) };
+        let Some(value) = self.value(name) else { return Ok(None) };
         value.to_str().and_then(digits).map(Some).ok_or_else(|| {
-            let highest = if let Value::Number(_, highest) = option.value { highest } else { u32::MAX };
+            let highest = self.highest(name);
             Failure::Usage(format!("The option --{name} needs a number from 0 to {highest}, in digits."))
         })
+    }
+
+    /// The highest number with a meaning that an option takes.
+    fn highest(&self, name: &str) -> u32 {
+        match self.0.iter().find(|(known, _)| known.name == name).map(|(option, _)| option.value) {
+            Some(Value::Number(_, highest) | Value::Range(_, highest)) => highest,
+            _ => u32::MAX,
+        }
     }
 
     /// The number that an option has as its value.
@@ -68,7 +76,8 @@ impl Arguments {
             Some((first, last)) if first <= last => Ok(first..=last),
             Some(_) => Err(Failure::Usage(format!("The range of the option --{name} ends before it begins."))),
             None => Err(Failure::Usage(format!(
-                "The option --{name} needs a number in digits, as 7, or a first and a last one, as 0-23."
+                "The option --{name} needs a number from 0 to {} in digits, as 7, or a first and a last one, as 0-23.",
+                self.highest(name)
             ))),
         }
     }
@@ -98,7 +107,7 @@ pub fn parse(tokens: impl IntoIterator<Item = OsString>) -> Result<Request, Fail
         ["help", ref topic @ ..] if !topic.is_empty() && given.is_empty() => return help_on(topic),
         _ => {}
     }
-    let (end, command) = command_of(&words)?;
+    let (end, command) = command_of(&words).map_err(|word| unknown_word(word, &given))?;
     match command {
         _ if has("help") => Ok(Request::Print(command.map_or_else(|| help::list(end), help::command))),
         None if has("version") => Ok(Request::Print(help::version())),
@@ -112,30 +121,29 @@ pub fn parse(tokens: impl IntoIterator<Item = OsString>) -> Result<Request, Fail
 
 /// The help text on a command, or on an end's commands.
 fn help_on(topic: &[&str]) -> Result<Request, Failure> {
-    let (end, command) = command_of(topic)?;
+    let (end, command) = command_of(topic).map_err(|word| unknown_word(word, &[]))?;
     Ok(Request::Print(command.map_or_else(|| help::list(end), help::command)))
 }
 
-/// The end, or nothing, and the command of some words. The first word that fits nowhere is named.
-fn command_of<'a>(words: &[&'a str]) -> Result<(&'a str, Option<&'static Command>), Failure> {
+/// The end, or nothing, and the command of some words; or the first word that fits nowhere.
+fn command_of<'a>(words: &[&'a str]) -> Result<(&'a str, Option<&'static Command>), &'a str> {
     let (end, rest) = match words {
         [end, rest @ ..] if ENDS.contains(end) => (*end, rest),
         words => ("", words),
     };
     let [name, extra @ ..] = rest else { return Ok((end, None)) };
-    let command = table::find(end, name).ok_or_else(|| unknown_word(name))?;
-    extra.first().map_or(Ok((end, Some(command))), |word| Err(extra_word(command, word)))
+    let command = table::find(end, name).ok_or(*name)?;
+    extra.first().map_or(Ok((end, Some(command))), |word| Err(word))
 }
 
-fn unknown_word(word: &str) -> Failure {
-    Failure::Usage(format!("There is no command {word:?} here: `pevghazo --help` lists them."))
-}
-
-/// A word after those of a command, which may be a part of a text.
-fn extra_word(command: &Command, word: &str) -> Failure {
-    let text = command.options.iter().find(|option| matches!(option.value, Value::Text(_)));
-    let quotes = text.map(|option| format!(" Spaces in the value of --{} need quotes around it.", option.name));
-    Failure::Usage(format!("{}{}", unknown_word(word), quotes.unwrap_or_default()))
+/// A word that fits nowhere. It may be a part of a text, where one was given.
+fn unknown_word(word: &str, given: &[(&Opt, OsString)]) -> Failure {
+    let text = given.iter().find(|(option, _)| matches!(option.value, Value::Text(_)));
+    let quotes = text.map(|(option, _)| format!(" Spaces in the value of --{} need quotes around it.", option.name));
+    Failure::Usage(format!(
+        "There is no command {word:?} here: `pevghazo --help` lists them.{}",
+        quotes.unwrap_or_default()
+    ))
 }
 
 /// Splits a command line into its words and its options.
@@ -149,7 +157,7 @@ fn split(tokens: impl IntoIterator<Item = OsString>) -> Result<(Vec<String>, Giv
         } else if let Some(option) = letter(&token) {
             (option, OsString::new())
         } else {
-            words.push(token.into_string().map_err(|word| unknown_word(&word.to_string_lossy()))?);
+            words.push(token.into_string().map_err(|word| unknown_word(&word.to_string_lossy(), &given))?);
             continue;
         };
         if given.iter().any(|(known, _)| known.name == option.name) {
@@ -206,7 +214,7 @@ fn check(command: &'static Command, given: Given) -> Result<Arguments, Failure> 
         }
         match option.value {
             Value::Number(..) => arguments.number(option.name).map(drop)?,
-            Value::Range(_) => arguments.required_range(option.name).map(drop)?,
+            Value::Range(..) => arguments.required_range(option.name).map(drop)?,
             Value::Word(words) => arguments.word(option.name, words).map(drop)?,
             Value::None | Value::File | Value::Text(_) => {}
         }
@@ -267,7 +275,7 @@ mod tests {
             let said = parse(["group", "codes", "--state", "f", &format!("--packets={text}")].map(OsString::from));
             let said = said.unwrap_err().to_string();
             assert!(
-                said.ends_with(" needs a number in digits, as 7, or a first and a last one, as 0-23."),
+                said.ends_with(" needs a number from 0 to 2047 in digits, as 7, or a first and a last one, as 0-23."),
                 "{text}: {said}"
             );
         }
@@ -295,8 +303,12 @@ mod tests {
         let said = parsed("group check-code --state f --packet 7 --code 0123 4567 89ab cdef").unwrap_err().to_string();
         assert!(said.starts_with("There is no command \"4567\" here"), "{said}");
         assert!(said.ends_with(" Spaces in the value of --code need quotes around it."), "{said}");
-        let said = parsed("office show more --state f").unwrap_err().to_string();
-        assert!(!said.contains("quotes"), "{said}");
+        // Not where no text was given.
+        for line in ["office show more --state f", "office seal more --state f --group 4", "help group check-code more"]
+        {
+            let said = parsed(line).unwrap_err().to_string();
+            assert!(said.starts_with("There is no command \"more\" here") && !said.contains("quotes"), "{said}");
+        }
     }
 
     #[test]

@@ -104,8 +104,8 @@ pub enum Value {
     Text(&'static str),
     /// A number, of which those up to this one have a meaning.
     Number(&'static str, u32),
-    /// A number, or a first and a last one with a hyphen between them.
-    Range(&'static str),
+    /// A number, or a first and a last one with a hyphen between them, of which those up to this one have a meaning.
+    Range(&'static str, u32),
     /// One of these words.
     Word(&'static [&'static str]),
 }
@@ -115,7 +115,7 @@ impl fmt::Display for Value {
         match self {
             Value::None => Ok(()),
             Value::File => f.write_str("FILE"),
-            Value::Text(name) | Value::Number(name, _) | Value::Range(name) => f.write_str(name),
+            Value::Text(name) | Value::Number(name, _) | Value::Range(name, _) => f.write_str(name),
             Value::Word(words) => f.write_str(&words.join("|")),
         }
     }
@@ -175,7 +175,11 @@ const METADATA_OUT: Opt = optional("metadata-out", Value::File, "where the metad
 const ENVELOPE: Opt = flag("envelope", "forget the kept envelope too");
 const ALLOWANCE: Opt = required("allowance", Value::Number("N", u32::MAX), "the most permutations of the day");
 const MARK: Opt = required("mark", Value::Number("N", u32::MAX), "the index above which a group counts as nearly full");
-const PACKETS: Opt = required("packets", Value::Range("RANGE"), "a packet, as 7, or a first and a last one, as 0-23");
+const PACKETS: Opt = required(
+    "packets",
+    Value::Range("RANGE", PACKET_MAX),
+    "a packet, 0 to 2047, as 7, or a first and a last one, as 0-23",
+);
 const FORMAT: Opt = optional("format", Value::Word(&FORMATS), "lines, a table, or a page of labels to print; text");
 const CODES_OUT: Opt = optional("out", Value::File, "where the codes go; the standard output");
 const PACKET: Opt = required("packet", Value::Number("P", PACKET_MAX), "the packet, 0 to 2047");

@@ -8,6 +8,9 @@ use std::fs;
 use std::io::Read;
 use std::os::unix::ffi::OsStrExt;
 use std::os::unix::fs::{MetadataExt, PermissionsExt};
+use std::process::{Child, Command, Stdio};
+use std::thread::sleep;
+use std::time::Duration;
 
 use common::{Folder, Run, code, grouped};
 use pevghazo_reference::{envelope, session::Session};
@@ -98,15 +101,17 @@ fn the_formats() {
     for (range, packets) in
         [("0-2047", 0..=2047), ("9-11", 9..=11), ("2047", 2047..=2047), ("0", 0..=0), ("5-5", 5..=5)]
     {
-        let lines = |line: fn(u32, &str) -> String| -> String {
+        let index = session.index;
+        let lines = |line: &dyn Fn(u32, &str) -> String| -> String {
             packets.clone().map(|packet| line(packet, &code(&session, packet))).collect()
         };
-        let text = lines(|packet, code| format!("{packet:4} {code}\n"));
-        let table = String::from("group,packet,code\n") + &lines(|packet, code| format!("5,{packet},{code}\n"));
-        let labels = lines(|packet, code| {
+        let text = lines(&|packet, code| format!("{packet:4} {code}\n"));
+        let rows = lines(&|packet, code| format!("5,{index},{packet},{code}\n"));
+        let table = String::from("group,index,packet,code\n") + &rows;
+        let labels = lines(&|packet, code| {
             format!(
                 "<div class=\"label\"><p>Group <b>5</b></p> <p class=\"packet\">Packet <b>{packet}</b></p> \
-                 <p class=\"code\">{code}</p></div>\n"
+                 <p class=\"code\">{code}</p> <p class=\"index\">at index {index}</p></div>\n"
             )
         });
         for line in [OFFICE, GROUP] {
@@ -123,7 +128,7 @@ fn the_formats() {
             } else {
                 format!("packets {} to {last}", packets.start())
             };
-            assert!(page.contains(&format!("<title>Codes of {what} of group 5 at index {}</title>\n", session.index)));
+            assert!(page.contains(&format!("<title>Codes of {what} of group 5 at index {index}</title>\n")));
             assert_eq!(page.matches("<div class=\"sheet\">").count(), packets.clone().count().div_ceil(24));
         }
     }
@@ -186,8 +191,8 @@ fn a_code_is_checked_as_it_is_read() {
 fn a_text_that_is_no_code_is_a_bad_command_line() {
     let (folder, session) = delivered();
     let code = code(&session, 7);
-    let sentence = "pevghazo: The value of --code is no code. A code has 16 hexadecimal digits, in groups of four with spaces or \
-                    hyphens between them or without.\n";
+    let sentence = "pevghazo: The value of --code is no code. A code has 16 hexadecimal digits, and between its groups of four \
+                    there may be spaces and hyphens.\n";
     let texts = [
         "",
         " ",
@@ -244,7 +249,7 @@ fn ranges_and_formats_that_are_none() {
 #[test]
 fn codes_go_to_a_new_file_or_nowhere() {
     let (folder, session) = delivered();
-    let expected = format!("group,packet,code\n5,7,{}\n", code(&session, 7));
+    let expected = format!("group,index,packet,code\n5,{},7,{}\n", session.index, code(&session, 7));
     let line = format!("{OFFICE} --packets 7 --format csv");
     assert_eq!(folder.done(&format!("{line} --out codes.csv")), "");
     assert_eq!(folder.read("codes.csv").unwrap(), expected.as_bytes());
@@ -368,4 +373,69 @@ fn a_slow_reader_of_codes_keeps_nobody_waiting() {
     output.read_to_end(&mut rest).unwrap();
     assert!(rest.len() > 1 << 17 && rest.ends_with(b"</html>\n"));
     assert!(child.wait().unwrap().success());
+}
+
+/// Waits until a program cannot go on.
+fn until_blocked(child: &Child) {
+    let state = || {
+        let stat = fs::read_to_string(format!("/proc/{}/stat", child.id())).unwrap();
+        stat[stat.rfind(')').unwrap()..].chars().nth(2)
+    };
+    while state() != Some('S') {
+        assert_ne!(state(), Some('Z'), "it has gone on");
+        sleep(Duration::from_millis(1));
+    }
+}
+
+/// So it is where nobody takes the verdict: the pipe is full of zeros.
+#[test]
+fn a_verdict_that_nobody_takes_keeps_nobody_waiting() {
+    let (folder, session) = delivered();
+    let (reader, writer) = std::io::pipe().unwrap();
+    let zeros = Command::new("cat").arg("/dev/zero").stdout(writer.try_clone().unwrap()).stderr(Stdio::null()).spawn();
+    let mut children = vec![zeros.unwrap()];
+    until_blocked(&children[0]);
+    for packet in [7, 8] {
+        let line = format!("{GROUP_CHECKS} --packet {packet} --code {}", code(&session, 7).replace(' ', "-"));
+        children.push(folder.command(&line).stdout(writer.try_clone().unwrap()).spawn().unwrap());
+        until_blocked(children.last().unwrap());
+        folder.done("group --state group show --wait 0");
+    }
+    drop(reader);
+    let statuses: Vec<_> = children.iter_mut().map(|child| child.wait().unwrap().code()).collect();
+    assert_eq!(statuses[1..], [Some(4); 2]);
+}
+
+/// Each of the office's groups has codes of its own, at its own index.
+#[test]
+fn the_codes_of_several_groups() {
+    let folder = Folder::pair(5);
+    folder.write("text", b"20001");
+    for (group, messages) in [(9, 1), (2, 2), (5, 3)] {
+        let key = format!("the secret key of group {group}");
+        let mut session = Session::start(key.as_bytes()).unwrap();
+        if group != 5 {
+            folder.write("key", key.as_bytes());
+            folder.done(&format!("office --state office open-group --group {group} --key key"));
+        }
+        for _ in 0..messages {
+            folder.done_anew(&format!("office --state office seal --group {group} --message text --out to"));
+            take(&folder, &mut session);
+        }
+        let right = code(&session, 7);
+        let line = format!("office --state office codes --group {group} --packets 7");
+        assert_eq!(folder.done(&line), format!("   7 {right}\n"));
+        let index = session.index;
+        let table = format!("group,index,packet,code\n{group},{index},7,{right}\n");
+        assert_eq!(folder.done(&format!("{line} --format csv")), table);
+        let title = format!("<title>Codes of packet 7 of group {group} at index {index}</title>\n");
+        assert!(folder.done(&format!("{line} --format html")).contains(&title), "{title}");
+        for (packet, status) in [(7, 0), (8, 9)] {
+            let line = format!("office --state office check-code --group {group}");
+            let run = checked(&folder, &line, packet, OsStr::new(&right));
+            assert_eq!(run.status, status, "{run:?}");
+            let place = format!("packet {packet} of group {group} at index {index}. ");
+            assert_eq!(run.said.contains(&place), status == 9, "{run:?}");
+        }
+    }
 }

@@ -92,13 +92,23 @@ fn results_are_for_scripts_and_progress_is_for_terminals() {
     let run = folder.run(&format!("office --state office open --in both --from {next} --out -"));
     assert_eq!((run.status, &run.printed[..], run.said.as_str()), (0, &b"20001"[..], "group 5\n"));
     // At a terminal, people are told what was done.
-    let line = format!("{PROGRAM} office --state office seal --group 5 --message text --out envelope");
-    let mut command = Command::new("script");
-    command.args(["-qec", &line, "/dev/null"]).current_dir(&folder.0).stdin(std::process::Stdio::null());
-    let Ok(output) = command.output() else {
-        eprintln!("not tried: this system has no program that makes a terminal");
-        return;
-    };
-    let told = String::from_utf8(output.stdout).unwrap();
-    assert!(told.starts_with("Sealed 5 bytes for group 5: envelope of "), "{told}");
+    for (line, start) in [
+        (
+            "office --state office seal --group 5 --message text --out envelope",
+            "Sealed 5 bytes for group 5: envelope of ",
+        ),
+        (
+            "group --state group codes --packets 0-2 --out codes",
+            "Listed the codes of packets 0 to 2 of group 5 at index ",
+        ),
+    ] {
+        let mut command = Command::new("script");
+        command.args(["-qec", &format!("{PROGRAM} {line}"), "/dev/null"]).current_dir(&folder.0);
+        let Ok(output) = command.stdin(std::process::Stdio::null()).output() else {
+            eprintln!("not tried: this system has no program that makes a terminal");
+            return;
+        };
+        let told = String::from_utf8(output.stdout).unwrap();
+        assert!(told.starts_with(start), "{told}");
+    }
 }

@@ -11,8 +11,8 @@ use crate::refusal::{Refusal, answer};
 /// The code that is printed on a packet of rings.
 ///
 /// [`Session::code`](crate::Session::code) and [`Table::code`](crate::Table::code) give it. It is shown as 16 hexadecimal
-/// digits in groups of four, and read from what a person reads off a packet: 16 digits in either case, with spaces and hyphens
-/// between the groups or without.
+/// digits in groups of four, and read from what a person reads off a packet: 16 digits in either case, between whose groups of
+/// four there may be spaces and hyphens.
 ///
 /// ```
 /// use pevghazo::Code;
@@ -23,7 +23,7 @@ use crate::refusal::{Refusal, answer};
 /// assert_eq!("5f0c91a4002be738".parse(), Ok(code));
 /// assert_eq!(
 ///     "5f0c 91a4 002b".parse::<Code>().unwrap_err().to_string(),
-///     "A code has 16 hexadecimal digits, in groups of four with spaces or hyphens between them or without."
+///     "A code has 16 hexadecimal digits, and between its groups of four there may be spaces and hyphens."
 /// );
 /// ```
 ///
@@ -123,9 +123,7 @@ pub struct BadCode;
 
 impl fmt::Display for BadCode {
     fn fmt(&self, f: &mut fmt::Formatter<'_>) -> fmt::Result {
-        f.write_str(
-            "A code has 16 hexadecimal digits, in groups of four with spaces or hyphens between them or without.",
-        )
+        f.write_str("A code has 16 hexadecimal digits, and between its groups of four there may be spaces and hyphens.")
     }
 }
 

@@ -38,11 +38,14 @@ pub fn check<E: End>(arguments: &Arguments, out: &mut dyn Write) -> Result<(), F
     let used = Used::<E>::open(arguments)?;
     let group = used.state.group(arguments)?;
     // Compared in constant time.
-    if used.state.code(group, packet)? == read {
+    let matches = used.state.code(group, packet)? == read;
+    let index = used.state.index(group);
+    drop(used);
+    if matches {
         return print(out, "match\n");
     }
     print(out, "mismatch\n")?;
-    Err(Failure::Mismatch { group, packet, index: used.state.index(group) })
+    Err(Failure::Mismatch { group, packet, index })
 }
 
 /// The code in a text that was typed.

@@ -34,9 +34,9 @@ impl Labels {
     /// A table with commas. No field needs quotes, and lines end with a line feed alone, so that no script finds a carriage return
     /// behind the last field; spreadsheets take either.
     fn csv(&self) -> String {
-        let group = self.group;
-        let rows = self.codes.iter().map(|(packet, code)| format!("{group},{packet},{code}\n"));
-        String::from("group,packet,code\n") + &rows.collect::<String>()
+        let (group, index) = (self.group, self.index);
+        let rows = self.codes.iter().map(|(packet, code)| format!("{group},{index},{packet},{code}\n"));
+        String::from("group,index,packet,code\n") + &rows.collect::<String>()
     }
 }
 
@@ -70,8 +70,11 @@ mod tests {
 
     #[test]
     fn tables_have_a_head() {
-        assert_eq!(labels(9, 2).text("csv"), "group,packet,code\n7,9,001a 2b3c 4d5e 6f09\n7,10,001a 2b3c 4d5e 6f0a\n");
-        assert_eq!(labels(2047, 1).text("csv"), "group,packet,code\n7,2047,001a 2b3c 4d5e 6fff\n");
+        assert_eq!(
+            labels(9, 2).text("csv"),
+            "group,index,packet,code\n7,12,9,001a 2b3c 4d5e 6f09\n7,12,10,001a 2b3c 4d5e 6f0a\n"
+        );
+        assert_eq!(labels(2047, 1).text("csv"), "group,index,packet,code\n7,12,2047,001a 2b3c 4d5e 6fff\n");
     }
 
     #[test]

@@ -13,7 +13,7 @@ const STYLE: &str = include_str!("page.css");
 
 /// The page.
 pub fn html(labels: &Labels) -> String {
-    let sheets: String = labels.codes.chunks(SHEET).map(|codes| sheet(labels.group, codes)).collect();
+    let sheets: String = labels.codes.chunks(SHEET).map(|codes| sheet(labels, codes)).collect();
     format!(
         "<!DOCTYPE html>\n<html lang=\"en\">\n<head>\n<meta charset=\"utf-8\">\n\
          <meta http-equiv=\"Content-Security-Policy\" content=\"default-src 'none'; style-src 'unsafe-inline'\">\n\
@@ -26,17 +26,17 @@ pub fn html(labels: &Labels) -> String {
 /// What is said in a window, and not printed.
 const HINT: &str = "To print: A4, at 100 %, without headers and footers. The labels are 70 by 37 mm, 24 to a sheet.";
 
-/// A sheet of at most 24 labels.
-fn sheet(group: u32, codes: &[(u32, Code)]) -> String {
-    let labels: String = codes.iter().map(|(packet, code)| label(group, *packet, code)).collect();
+/// A sheet of at most 24 of the labels.
+fn sheet(all: &Labels, codes: &[(u32, Code)]) -> String {
+    let labels: String = codes.iter().map(|(packet, code)| label(all, *packet, code)).collect();
     format!("<div class=\"sheet\">\n{labels}</div>\n")
 }
 
-/// The label of a packet.
-fn label(group: u32, packet: u32, code: &Code) -> String {
+/// The label of a packet. Its code is that of the index: whoever checks it has to know.
+fn label(Labels { group, index, .. }: &Labels, packet: u32, code: &Code) -> String {
     format!(
         "<div class=\"label\"><p>Group <b>{group}</b></p> <p class=\"packet\">Packet <b>{packet}</b></p> \
-         <p class=\"code\">{code}</p></div>\n"
+         <p class=\"code\">{code}</p> <p class=\"index\">at index {index}</p></div>\n"
     )
 }
 
@@ -67,7 +67,7 @@ mod tests {
              <p>To print: A4, at 100 %, without headers and footers. The labels are 70 by 37 mm, 24 to a sheet.</p>\n\
              </header>\n<main>\n<div class=\"sheet\">\n\
              <div class=\"label\"><p>Group <b>7</b></p> <p class=\"packet\">Packet <b>9</b></p> \
-             <p class=\"code\">001a 2b3c 4d5e 6f09</p></div>\n\
+             <p class=\"code\">001a 2b3c 4d5e 6f09</p> <p class=\"index\">at index 12</p></div>\n\
              </div>\n</main>\n</body>\n</html>\n"
         );
     }
@@ -80,6 +80,15 @@ mod tests {
             assert_eq!(count(&page, "<div class=\"label\">"), packets as usize);
             let first = page.split("<div class=\"sheet\">").nth(1).unwrap();
             assert_eq!(count(first, "<div class=\"label\">"), 24.min(packets as usize));
+        }
+    }
+
+    /// How the page looks is seen in a browser only; but the sizes are those of the manual, and only the hint is not printed.
+    #[test]
+    fn the_style_has_the_sizes_of_the_manual() {
+        let sheet = "width: 210mm; height: 296mm; break-after: page;";
+        for part in ["size: A4;", sheet, "width: 70mm; height: 37mm;", "display: none"] {
+            assert_eq!(count(STYLE, part), 1, "{part}");
         }
     }
 
