@@ -9,20 +9,22 @@ use native.Mathlib.Omega.{arith}
 use lib.ListN.{length}
 use Rattle.deck.specs.declared.DeckState.{DeckState}
 use Rattle.deck.specs.Strings.{Str}
-use Rattle.deck.specs.Deck.{indexOf}
+use Rattle.deck.specs.Deck.{deck, indexOf}
 use Rattle.modes.specs.Call.{CallInput, Side, office, group, Call, wrap, unwrap, sideOf}
 use Rattle.modes.specs.Mode.{Mode, incremental, sanse}
-use Rattle.modes.specs.Rules.{SessionState, Outcome, growth}
+use Rattle.modes.specs.Rules.{SessionState, Outcome, Opening, growth}
 use Rattle.modes.specs.Paper.{PaperResult, sanseOpens}
 use Rattle.modes.specs.Ledger.{PaperMode, sansePaper, Ledger, Entry, equalTags, wrapFinds, unwrapFinds, checkBefore11, onCheck, accepts, refuses11, ledgerWrap, ledgerUnwrap}
-use Rattle.modes.specs.TwoEnds.{Ledgers, ledgerAt, setLedger, ledgerStep, nextLedgers, entries, finishLedgers, freshLedgers}
+use Rattle.modes.specs.TwoEnds.{Ends, at, Ledgers, ledgerAt, setLedger, ledgerStep, nextLedgers, entries, finishLedgers, freshLedgers}
 use Rattle.modes.specs.Demand3.{outcomeOf, ByLedgers}
 use Rattle.modes.specs.Promises.{Kind, Promises, Starts, Records, recordAt, sessionsHeld, leftBy, Run}
-use Rattle.modes.specs.Codes.{CodeOutcome, codeAt, AnyCode, CodeClaim}
-use Rattle.modes.specs.CodeLists.{Request, call, code, callsOf, NoneAccepted, CodeThere, EachCode, Codes, codesByRules, CodeRun, AnyCodeOf, CodeOf, WithCodesOf, SameRuns}
+use Rattle.modes.specs.Demands.{RunsExist}
+use Rattle.modes.specs.Codes.{CodeOutcome, noCode, codeOf, codeAt, AnyCode, CodeClaim}
+use Rattle.modes.specs.CodeLists.{Request, call, code, callsOf, NoneAccepted, CodeThere, EachCode, WithCodes, Codes, codesByRules, CodeRun, AnyCodeOf, CodeOf, WithCodesOf, SameRuns, CodeRunsExist, AskedAnywhere}
 use Rattle.modes.proofs.Modes.{Follows, sanse-follows}
 use Rattle.modes.proofs.Ledgers.{wrap-key, unwrap-key}
 use Rattle.modes.proofs.Entries.{PaperLaws, paper-laws}
+use Rattle.modes.proofs.Demand3.{demand-3-decides}
 use Rattle.modes.proofs.Demands.{ByRules, StartByRules, at-records, demand-3-of}
 use Rattle.modes.proofs.Codes.{any-code, index-none, code-claim, claim-decides, claim-twelve}
 
@@ -209,6 +211,31 @@ module _ (k : Kind) (codes : Codes k) (g : CodesByRules k codes) where
       let o = codeAt incremental (k .stateOf s) packet out in
       (o ∷ z .0, CodeRun.asked (g s packet out o .1 refl) (z .1))
 
+  -- from any records every list of calls and codes has a run
+  pub code-runs-exist : {p : Promises k} → RunsExist k p → CodeRunsExist k p codes
+  code-runs-exist e rs from =
+      let z = e (callsOf rs) from in
+      let w = within rs (z .2) in
+      (z .0, w .0, z .1, w .1)
+
+  -- a list of calls alone
+  only-calls : {p : Promises k} (cs : List Call) {from to : Records k} {os : List (Outcome DeckState)} → Run k p cs from os to
+      → CodeRun k p codes (map call cs) from os [] to
+  only-calls [] Run.none = CodeRun.none
+  only-calls (c ∷ cs) (Run.wrapped w q) = CodeRun.called (Run.wrapped w Run.none) (only-calls cs q)
+  only-calls (c ∷ cs) (Run.unwrapped w q) = CodeRun.called (Run.unwrapped w Run.none) (only-calls cs q)
+
+  -- a code can be asked at every point of it, at either end
+  pub asked-anywhere : (p : Promises k) → AskedAnywhere k p codes
+  asked-anywhere p [] ds x packet out from os to r =
+      let s = recordAt k x from in
+      let o = codeAt incremental (k .stateOf s) packet out in
+      (o, CodeRun.asked (g s packet out o .1 refl) (only-calls ds r))
+  asked-anywhere p (c ∷ cs) ds x packet out from os to (Run.wrapped w q) =
+      let z = asked-anywhere p cs ds x packet out _ _ to q in (z .0, CodeRun.called (Run.wrapped w Run.none) (z .1))
+  asked-anywhere p (c ∷ cs) ds x packet out from os to (Run.unwrapped w q) =
+      let z = asked-anywhere p cs ds x packet out _ _ to q in (z .0, CodeRun.called (Run.unwrapped w Run.none) (z .1))
+
   -- lists with and without codes have the same runs
   pub same-runs : (p : Promises k) → SameRuns k p codes
   same-runs p rs from os to = (λ w. without (w .1), λ r. within rs r)
@@ -271,3 +298,26 @@ codes-decide EachCode.none EachCode.none = refl
 codes-decide (EachCode.called q) (EachCode.called q′) = codes-decide q q′
 codes-decide {key} (EachCode.asked {packet = packet} {out = out} {g = o} w q) (EachCode.asked {g = o′} w′ q′) =
     ap₂ {C = List CodeOutcome} (λ o os. o ∷ os) (claim-decides key packet out _ o o′ (w .ledger) (w′ .ledger)) (codes-decide q q′)
+
+-- nor does the whole claim: of one list under one key it is true of one list of outcomes, one list of codes, and one session at each end
+pub with-codes-decides : {key : List ℕ} {rs : List Request} {one two one′ two′ : Opening} {os os′ : List (Outcome DeckState)} {gs gs′ : List CodeOutcome} {q q′ : Ends DeckState}
+    → WithCodes key rs one two os gs q → WithCodes key rs one′ two′ os′ gs′ q′ → (os ≡ os′) × (gs ≡ gs′) × ((x : Side) → at x q ≡ at x q′)
+with-codes-decides {key} {rs} {gs = gs} a b =
+    let z = demand-3-decides (a .calls) (b .calls) in
+    (z .0, codes-decide (subst (λ (os : List (Outcome DeckState)). EachCode key [] [] rs os gs) (z .0) (a .codes)) (b .codes), z .1)
+
+-- what the claim says of one code: before the first message that was accepted there it gets 12, and nothing is written; after it, it is that of
+-- the ledger's history
+module _ {key : List ℕ} {cs : List Call} {os : List (Outcome DeckState)} {x : Side} {packet : ℕ} {out : List ℕ} {o : CodeOutcome} (c : CodeThere key cs os x packet out o) where
+  abbrev history : List Str
+  history = ledgerAt x (finishLedgers sansePaper cs (freshLedgers key sanseOpens)) .history
+
+  pub before-first : NoneAccepted x cs os → o ≡ noCode 12 out
+  before-first n = c .ledger .twelve (claim-twelve key packet out history o (c .ledger) .0 (c .first .1 (inl n)))
+
+  pub after-first : (NoneAccepted x cs os → ⊥) → packet ≤ 2047 → 8 ≤ length out → o ≡ codeOf (deck key history) packet out
+  after-first n p room = c .ledger .code (λ e. none (c .first .0 (ap (λ (o : CodeOutcome). o .number) (c .ledger .twelve (inl e))))) p room
+    where
+      none : NoneAccepted x cs os ⊎ (2047 < packet) → ⊥
+      none (inl z) = n z
+      none (inr z) = omega arith

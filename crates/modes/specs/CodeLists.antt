@@ -2,7 +2,7 @@
 -- of the history that the ledger there then has, and the calls give what they give without it. For any functions over any kind of record, of
 -- which only promises are known. Assumes nothing.
 use mathlib.Core.Bool.{Bool}
-use mathlib.Core.List.{List, [], _∷_, _++_}
+use mathlib.Core.List.{List, [], _∷_, _++_, map}
 use mathlib.Core.Logic.{_↔_, _≢_, _⊎_}
 use mathlib.Core.Path.{_≡_}
 use Prim.Native.Nat.{ℕ, _<_, _≤_}
@@ -108,3 +108,18 @@ module _ (k : Kind) where
   SameRuns p codes =
       (rs : List Request) (from : Records k) (os : List (Outcome DeckState)) (to : Records k)
       → ((gs : List CodeOutcome) × CodeRun p codes rs from os gs to) ↔ Run k p (callsOf rs) from os to
+
+  -- ---- what these speak of is there
+
+  -- from any records every list of calls and codes has a run
+  abbrev pub CodeRunsExist : Promises k → Codes → Type 0
+  CodeRunsExist p codes =
+      (rs : List Request) (from : Records k)
+      → (os : List (Outcome DeckState)) × (gs : List CodeOutcome) × (to : Records k) × CodeRun p codes rs from os gs to
+
+  -- at every point of every list of calls that has a run, between cs and ds, and at either end, a code can be asked: it is answered, and the
+  -- calls give what they gave
+  abbrev pub AskedAnywhere : Promises k → Codes → Type 0
+  AskedAnywhere p codes =
+      (cs ds : List Call) (x : Side) (packet : ℕ) (out : List ℕ) (from : Records k) (os : List (Outcome DeckState)) (to : Records k)
+      → Run k p (cs ++ ds) from os to → (g : CodeOutcome) × CodeRun p codes (map call cs ++ code x packet out ∷ map call ds) from os (g ∷ []) to
