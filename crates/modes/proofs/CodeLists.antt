@@ -1,21 +1,20 @@
 -- Codes of packets in the lists of demand 3, of all promises that are their equations with the rules: each code is that of the ledger's history,
 -- and lists with and without codes have the same runs. Assumes nothing.
-use mathlib.Core.Bool.{Bool, true, false, cond}
 use mathlib.Core.List.{List, [], _∷_, _++_, map}
-use mathlib.Core.Logic.{_↔_, _≢_, _⊎_, inl, inr}
+use mathlib.Core.Logic.{_↔_, _⊎_, inl, inr}
 use mathlib.Core.Path.{_≡_, refl, sym, ap, ap₂, _∙_, subst}
-use Prim.Native.Nat.{ℕ, zero, suc, _+_, _<_, _≤_}
+use Prim.Native.Nat.{ℕ, _<_, _≤_}
 use native.Mathlib.Omega.{arith}
 use lib.ListN.{length}
 use Rattle.deck.specs.declared.DeckState.{DeckState}
 use Rattle.deck.specs.Strings.{Str}
-use Rattle.deck.specs.Deck.{deck, indexOf}
-use Rattle.modes.specs.Call.{CallInput, Side, office, group, Call, wrap, unwrap, sideOf}
+use Rattle.deck.specs.Deck.{deck}
+use Rattle.modes.specs.Call.{Side, office, group, Call, wrap, unwrap}
 use Rattle.modes.specs.Mode.{Mode, incremental, sanse}
-use Rattle.modes.specs.Rules.{SessionState, Outcome, Opening, growth}
-use Rattle.modes.specs.Paper.{PaperResult, sanseOpens}
-use Rattle.modes.specs.Ledger.{PaperMode, sansePaper, Ledger, Entry, equalTags, wrapFinds, unwrapFinds, checkBefore11, onCheck, accepts, refuses11, ledgerWrap, ledgerUnwrap}
-use Rattle.modes.specs.TwoEnds.{Ends, at, Ledgers, ledgerAt, setLedger, ledgerStep, nextLedgers, entries, finishLedgers, freshLedgers}
+use Rattle.modes.specs.Rules.{SessionState, Outcome, Opening}
+use Rattle.modes.specs.Paper.{sanseOpens}
+use Rattle.modes.specs.Ledger.{PaperMode, sansePaper, Ledger, ledgerWrap, ledgerUnwrap}
+use Rattle.modes.specs.TwoEnds.{Ends, at, Ledgers, ledgerAt, setLedger, nextLedgers, entries, finishLedgers, freshLedgers}
 use Rattle.modes.specs.Demand3.{outcomeOf, ByLedgers}
 use Rattle.modes.specs.Promises.{Kind, Promises, Starts, Records, recordAt, sessionsHeld, leftBy, Run}
 use Rattle.modes.specs.Demands.{RunsExist}
@@ -23,110 +22,11 @@ use Rattle.modes.specs.Codes.{CodeOutcome, noCode, codeOf, codeAt, AnyCo
 use Rattle.modes.specs.CodeLists.{Request, call, code, callsOf, NoneAccepted, CodeThere, EachCode, WithCodes, Codes, codesByRules, CodeRun, AnyCodeOf, CodeOf, WithCodesOf, SameRuns, CodeRunsExist, AskedAnywhere}
 use Rattle.modes.proofs.Modes.{Follows, sanse-follows}
 use Rattle.modes.proofs.Ledgers.{wrap-key, unwrap-key}
-use Rattle.modes.proofs.Entries.{PaperLaws, paper-laws}
+use Rattle.modes.proofs.Entries.{paper-laws}
+use Rattle.modes.proofs.NoneAccepted.{none-accepted}
 use Rattle.modes.proofs.Demand3.{demand-3-decides}
 use Rattle.modes.proofs.Demands.{ByRules, StartByRules, at-records, demand-3-of}
-use Rattle.modes.proofs.Codes.{any-code, index-none, code-claim, claim-decides, claim-twelve}
-
--- ---- a ledger's history has no string exactly where nothing was accepted at its end
-
--- a call that is accepted moves the index
-growth-some : (a n : ℕ) → 1 ≤ growth a n
-unfolding growth
-growth-some a zero = omega arith
-growth-some zero (suc n) = omega arith
-growth-some (suc a) (suc n) = omega arith
-
-longer : (g h : List Str) (a n : ℕ) → indexOf g ≡ indexOf h + growth a n → g ≢ []
-longer g h a n e z = omega (arith, e, growth-some a n, index-none g .1 z)
-
-module _ {m : PaperMode} (laws : PaperLaws m) (l : Ledger) (i : CallInput) where
-  wrap-empty : (ledgerWrap m l i .ledger .history ≡ []) ↔ ((l .history ≡ []) × (ledgerWrap m l i .answer .number ≢ 0))
-  unfolding ledgerWrap
-  wrap-empty = go (checkBefore11 m (wrapFinds m l i) i)
-    where
-      r : PaperResult
-      r = wrapFinds m l i
-
-      go : (n : ℕ) → (onCheck m n l i (accepts m l i r (r .tag)) .ledger .history ≡ [])
-          ↔ ((l .history ≡ []) × (onCheck m n l i (accepts m l i r (r .tag)) .answer .number ≢ 0))
-      go zero = (
-        λ e. absurd (longer (r .history) (l .history) (length (i .metadata)) (length (i .text)) (laws .wraps-index (l .key) (l .history) (l .toggle) (i .metadata) (i .text)) e),
-        λ w. absurd (w .1 refl),
-      )
-      go (suc n) = (λ e. (e, λ z. omega arith), λ w. w .0)
-
-  unwrap-empty : (ledgerUnwrap m l i .ledger .history ≡ []) ↔ ((l .history ≡ []) × (ledgerUnwrap m l i .answer .number ≢ 0))
-  unfolding ledgerUnwrap
-  unwrap-empty = go (checkBefore11 m (unwrapFinds m l i) i) (equalTags (i .tag) (unwrapFinds m l i .tag))
-    where
-      r : PaperResult
-      r = unwrapFinds m l i
-
-      go : (n : ℕ) (q : Bool) → (onCheck m n l i (cond q (accepts m l i r (i .tag)) (refuses11 m l i)) .ledger .history ≡ [])
-          ↔ ((l .history ≡ []) × (onCheck m n l i (cond q (accepts m l i r (i .tag)) (refuses11 m l i)) .answer .number ≢ 0))
-      go zero true = (
-        λ e.
-            absurd
-            (longer (r .history) (l .history) (length (i .metadata)) (length (i .text)) (laws .unwraps-index (l .key) (l .history) (l .toggle) (i .metadata) (i .text) (i .tag)) e),
-        λ w. absurd (w .1 refl),
-      )
-      go zero false = (λ e. (e, λ z. omega arith), λ w. w .0)
-      go (suc n) q = (λ e. (e, λ z. omega arith), λ w. w .0)
-
--- the two ends are apart
-abbrev IsOffice : Side → Type 0
-IsOffice office = Unit {0}
-IsOffice group = ⊥
-
-apart : office ≢ group
-apart e = subst IsOffice e tt
-
-module _ {m : PaperMode} (laws : PaperLaws m) where
-  -- one call: the ledger of the end x has no string after it exactly where it had none, and the call was made elsewhere or refused
-  set-empty : (x y : Side) (e : Entry) (p : Ledgers) → (e .ledger .history ≡ []) ↔ ((ledgerAt y p .history ≡ []) × (e .answer .number ≢ 0))
-      → (ledgerAt x (setLedger y (e .ledger) p) .history ≡ []) ↔ ((ledgerAt x p .history ≡ []) × ((y ≢ x) ⊎ (e .answer .number ≢ 0)))
-  set-empty office office e p (to, from) = (λ z. (to z .0, inr (to z .1)), λ w. back w)
-    where
-      back : (p .office .history ≡ []) × ((office ≢ office) ⊎ (e .answer .number ≢ 0)) → e .ledger .history ≡ []
-      back (h, inl z) = absurd (z refl)
-      back (h, inr z) = from (h, z)
-  set-empty group group e p (to, from) = (λ z. (to z .0, inr (to z .1)), λ w. back w)
-    where
-      back : (p .group .history ≡ []) × ((group ≢ group) ⊎ (e .answer .number ≢ 0)) → e .ledger .history ≡ []
-      back (h, inl z) = absurd (z refl)
-      back (h, inr z) = from (h, z)
-  set-empty office group e p f = (λ z. (z, inl (λ g. apart (sym g))), λ w. w .0)
-  set-empty group office e p f = (λ z. (z, inl apart), λ w. w .0)
-
-  step-empty : (x : Side) (c : Call) (p : Ledgers) → (ledgerAt x (nextLedgers m c p) .history ≡ [])
-      ↔ ((ledgerAt x p .history ≡ []) × ((sideOf c ≢ x) ⊎ (ledgerStep m c p .answer .number ≢ 0)))
-  step-empty x (wrap y i) p = set-empty x y (ledgerWrap m (ledgerAt y p) i) p (wrap-empty laws (ledgerAt y p) i)
-  step-empty x (unwrap y i) p = set-empty x y (ledgerUnwrap m (ledgerAt y p) i) p (unwrap-empty laws (ledgerAt y p) i)
-
-  -- every list
-  pub none-accepted : (x : Side) (cs : List Call) (p : Ledgers) → (ledgerAt x (finishLedgers m cs p) .history ≡ [])
-      ↔ ((ledgerAt x p .history ≡ []) × NoneAccepted x cs (map outcomeOf (entries m cs p)))
-  unfolding entries finishLedgers
-  none-accepted x [] p = (λ e. (e, NoneAccepted.none), λ w. w .0)
-  none-accepted x (c ∷ cs) p = let ih = none-accepted x cs (nextLedgers m c p) in (λ e. to (ih .0 e), λ w. from (ih .1) (w .0) (w .1))
-    where
-      later : List (Outcome DeckState)
-      later = map outcomeOf (entries m cs (nextLedgers m c p))
-
-      more : (sideOf c ≢ x) ⊎ (ledgerStep m c p .answer .number ≢ 0) → NoneAccepted x cs later → NoneAccepted x (c ∷ cs) (outcomeOf (ledgerStep m c p) ∷ later)
-      more (inl z) n = NoneAccepted.elsewhere z n
-      more (inr z) n = NoneAccepted.refused z n
-
-      to : (ledgerAt x (nextLedgers m c p) .history ≡ []) × NoneAccepted x cs later
-          → (ledgerAt x p .history ≡ []) × NoneAccepted x (c ∷ cs) (outcomeOf (ledgerStep m c p) ∷ later)
-      to (e, n) = let w = step-empty x c p .0 e in (w .0, more (w .1) n)
-
-      from : ((ledgerAt x (nextLedgers m c p) .history ≡ []) × NoneAccepted x cs later → ledgerAt x (finishLedgers m cs (nextLedgers m c p)) .history ≡ [])
-          → ledgerAt x p .history ≡ [] → NoneAccepted x (c ∷ cs) (outcomeOf (ledgerStep m c p) ∷ later)
-          → ledgerAt x (finishLedgers m cs (nextLedgers m c p)) .history ≡ []
-      from ih e (NoneAccepted.refused z n) = ih (step-empty x c p .1 (e, inr z), n)
-      from ih e (NoneAccepted.elsewhere z n) = ih (step-empty x c p .1 (e, inl z), n)
+use Rattle.modes.proofs.Codes.{any-code, code-claim, claim-decides, claim-twelve}
 
 -- ---- a ledger keeps its key
 
