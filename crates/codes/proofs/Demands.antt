@@ -13,13 +13,14 @@ use Rattle.modes.specs.Rules.{Outcome}
 use Rattle.modes.specs.OneCall.{sessionOf}
 use Rattle.modes.specs.Promises.{Promises, Records, Run, sessionsHeld}
 use Rattle.modes.specs.Codes.{CodeOutcome, AnyCode, CodeClaim}
-use Rattle.modes.specs.CodeLists.{Codes, Request, callsOf, CodeRun, WithCodes, AnyCodeOf, CodeOf, WithCodesOf, SameRuns}
+use Rattle.modes.specs.CodeLists.{Codes, Request, callsOf, CodeRun, WithCodes, AnyCodeOf, OneCodeOf, WithCodesOf, SameCodesOf, SameRuns, CodeRunsExist, AskedAnywhere}
 use Rattle.modes.proofs.Demands.{ByRules}
-use Rattle.modes.proofs.CodeLists.{any-code-of, code-of, with-codes-of, same-runs}
+use Rattle.modes.proofs.CodeLists.{any-code-of, one-code-of, with-codes-of, same-codes-of, same-runs, code-runs-exist, asked-anywhere}
 use Rattle.sanse.specs.declared.Session.{Session}
 use Rattle.sanse.specs.declared.CallResult.{CallResult}
 use Rattle.sanse.specs.Session.{stateOf, startResult, sanseKind}
 use Rattle.sanse.proofs.Contracts.{StartPromise, promises, start-is, wrap-is, unwrap-is}
+use Rattle.sanse.proofs.Demands.{run-exists}
 use Rattle.codes.proofs.Contracts.{codes, code-is}
 
 -- ---- what the claims say of these records, written out
@@ -30,7 +31,7 @@ pub any-code-says : (c : Codes sanseKind)
 any-code-says c = refl
 
 pub code-says : (c : Codes sanseKind)
-    → CodeOf sanseKind c
+    → OneCodeOf sanseKind c
     ≡ ((key : List ℕ) (h : List Str) (e : Bool) (s : Session) (packet : ℕ) (out : List ℕ) (g : CodeOutcome)
     → stateOf s ≡ sessionOf key h e → c s packet out g → CodeClaim key h packet out g)
 code-says c = refl
@@ -59,13 +60,24 @@ pub any-code : AnyCodeOf sanseKind codes
 any-code = any-code-of sanseKind codes code-is
 
 -- asked of the record of a history
-pub one-code : CodeOf sanseKind codes
-one-code = code-of sanseKind codes code-is
+pub one-code : OneCodeOf sanseKind codes
+one-code = one-code-of sanseKind codes code-is
 
 -- in every list of demand 3
 pub demand-3-with-codes : WithCodesOf sanseKind StartPromise promises codes
 demand-3-with-codes = with-codes-of start-is program code-is
 
+-- both ends have the same codes where each message was delivered
+pub same-codes : SameCodesOf sanseKind StartPromise promises codes
+same-codes = same-codes-of start-is program code-is
+
 -- a code changes nothing
 pub codes-change-nothing : SameRuns sanseKind promises codes
 codes-change-nothing = same-runs sanseKind codes code-is promises
+
+-- every list of calls and codes has a run, and a code can be asked at every point of every list of calls
+pub code-run-exists : CodeRunsExist sanseKind promises codes
+code-run-exists = code-runs-exist sanseKind codes code-is run-exists
+
+pub code-anywhere : AskedAnywhere sanseKind promises codes
+code-anywhere = asked-anywhere sanseKind codes code-is promises

@@ -15,7 +15,7 @@ use Rattle.deck.specs.Deck.{run}
 use Rattle.deck.specs.Incremental.{output}
 use Rattle.modes.specs.Mode.{incremental}
 use Rattle.modes.specs.Rules.{written}
-use Rattle.modes.specs.Codes.{CodeOutcome, codeCheck, codeOf, unlessCheck, codeAt}
+use Rattle.modes.specs.Codes.{CodeOutcome, codeCheck, codeGiven, unlessCheck, codeAt}
 use Rattle.modes.proofs.Codes.{code-counts}
 use Rattle.steps.specs.Steps.{outputCount}
 use Rattle.sanse.specs.declared.Session.{Session}
@@ -54,7 +54,7 @@ module _ (s : Session) (packet : ℕ) (out : List ℕ) where
   check = codeCheck (s .opened) (s .index) packet (length out)
 
   abbrev done : CodeOutcome
-  done = codeOf (output (stateOf s .history)) packet out
+  done = codeGiven (output (stateOf s .history)) packet out
 
   pub refused : (n : ℕ) → n ≡ check → n ≢ 0 → codeResult (record { number = n; count = 0 }) out ≡ codeAt incremental (stateOf s) packet out
   unfolding codeAt

@@ -1,130 +1,32 @@
 -- Codes of packets in the lists of demand 3, of all promises that are their equations with the rules: each code is that of the ledger's history,
 -- and lists with and without codes have the same runs. Assumes nothing.
-use mathlib.Core.Bool.{Bool, true, false, cond}
 use mathlib.Core.List.{List, [], _∷_, _++_, map}
-use mathlib.Core.Logic.{_↔_, _≢_, _⊎_, inl, inr}
+use mathlib.Core.Logic.{_↔_, _⊎_, inl, inr}
 use mathlib.Core.Path.{_≡_, refl, sym, ap, ap₂, _∙_, subst}
-use Prim.Native.Nat.{ℕ, zero, suc, _+_, _<_, _≤_}
+use Prim.Native.Nat.{ℕ, _<_, _≤_}
 use native.Mathlib.Omega.{arith}
 use lib.ListN.{length}
 use Rattle.deck.specs.declared.DeckState.{DeckState}
 use Rattle.deck.specs.Strings.{Str}
-use Rattle.deck.specs.Deck.{indexOf}
-use Rattle.modes.specs.Call.{CallInput, Side, office, group, Call, wrap, unwrap, sideOf}
+use Rattle.deck.specs.Deck.{deck}
+use Rattle.modes.specs.Call.{Side, office, group, Call, wrap, unwrap}
 use Rattle.modes.specs.Mode.{Mode, incremental, sanse}
-use Rattle.modes.specs.Rules.{SessionState, Outcome, growth}
-use Rattle.modes.specs.Paper.{PaperResult, sanseOpens}
-use Rattle.modes.specs.Ledger.{PaperMode, sansePaper, Ledger, Entry, equalTags, wrapFinds, unwrapFinds, checkBefore11, onCheck, accepts, refuses11, ledgerWrap, ledgerUnwrap}
-use Rattle.modes.specs.TwoEnds.{Ledgers, ledgerAt, setLedger, ledgerStep, nextLedgers, entries, finishLedgers, freshLedgers}
+use Rattle.modes.specs.Rules.{SessionState, Outcome, Opening}
+use Rattle.modes.specs.Paper.{sanseOpens}
+use Rattle.modes.specs.Ledger.{PaperMode, sansePaper, Ledger, ledgerWrap, ledgerUnwrap}
+use Rattle.modes.specs.TwoEnds.{Ends, at, Ledgers, ledgerAt, setLedger, nextLedgers, entries, finishLedgers, freshLedgers}
 use Rattle.modes.specs.Demand3.{outcomeOf, ByLedgers}
 use Rattle.modes.specs.Promises.{Kind, Promises, Starts, Records, recordAt, sessionsHeld, leftBy, Run}
-use Rattle.modes.specs.Codes.{CodeOutcome, codeAt, AnyCode, CodeClaim}
-use Rattle.modes.specs.CodeLists.{Request, call, code, callsOf, NoneAccepted, CodeThere, EachCode, Codes, codesByRules, CodeRun, AnyCodeOf, CodeOf, WithCodesOf, SameRuns}
+use Rattle.modes.specs.Demands.{RunsExist}
+use Rattle.modes.specs.Codes.{CodeOutcome, noCode, codeGiven, codeAt, AnyCode, CodeClaim}
+use Rattle.modes.specs.CodeLists.{Request, call, code, callsOf, NoneAccepted, CodeThere, EachCode, WithCodes, Codes, codesByRules, CodeRun, AnyCodeOf, OneCodeOf, WithCodesOf, SameCodesOf, SameRuns, CodeRunsExist, AskedAnywhere}
 use Rattle.modes.proofs.Modes.{Follows, sanse-follows}
 use Rattle.modes.proofs.Ledgers.{wrap-key, unwrap-key}
-use Rattle.modes.proofs.Entries.{PaperLaws, paper-laws}
+use Rattle.modes.proofs.Entries.{paper-laws}
+use Rattle.modes.proofs.NoneAccepted.{none-accepted}
+use Rattle.modes.proofs.Demand3.{demand-3-decides}
 use Rattle.modes.proofs.Demands.{ByRules, StartByRules, at-records, demand-3-of}
-use Rattle.modes.proofs.Codes.{any-code, index-none, code-claim, claim-decides, claim-twelve}
-
--- ---- a ledger's history has no string exactly where nothing was accepted at its end
-
--- a call that is accepted moves the index
-growth-some : (a n : ℕ) → 1 ≤ growth a n
-unfolding growth
-growth-some a zero = omega arith
-growth-some zero (suc n) = omega arith
-growth-some (suc a) (suc n) = omega arith
-
-longer : (g h : List Str) (a n : ℕ) → indexOf g ≡ indexOf h + growth a n → g ≢ []
-longer g h a n e z = omega (arith, e, growth-some a n, index-none g .1 z)
-
-module _ {m : PaperMode} (laws : PaperLaws m) (l : Ledger) (i : CallInput) where
-  wrap-empty : (ledgerWrap m l i .ledger .history ≡ []) ↔ ((l .history ≡ []) × (ledgerWrap m l i .answer .number ≢ 0))
-  unfolding ledgerWrap
-  wrap-empty = go (checkBefore11 m (wrapFinds m l i) i)
-    where
-      r : PaperResult
-      r = wrapFinds m l i
-
-      go : (n : ℕ) → (onCheck m n l i (accepts m l i r (r .tag)) .ledger .history ≡ [])
-          ↔ ((l .history ≡ []) × (onCheck m n l i (accepts m l i r (r .tag)) .answer .number ≢ 0))
-      go zero = (
-        λ e. absurd (longer (r .history) (l .history) (length (i .metadata)) (length (i .text)) (laws .wraps-index (l .key) (l .history) (l .toggle) (i .metadata) (i .text)) e),
-        λ w. absurd (w .1 refl),
-      )
-      go (suc n) = (λ e. (e, λ z. omega arith), λ w. w .0)
-
-  unwrap-empty : (ledgerUnwrap m l i .ledger .history ≡ []) ↔ ((l .history ≡ []) × (ledgerUnwrap m l i .answer .number ≢ 0))
-  unfolding ledgerUnwrap
-  unwrap-empty = go (checkBefore11 m (unwrapFinds m l i) i) (equalTags (i .tag) (unwrapFinds m l i .tag))
-    where
-      r : PaperResult
-      r = unwrapFinds m l i
-
-      go : (n : ℕ) (q : Bool) → (onCheck m n l i (cond q (accepts m l i r (i .tag)) (refuses11 m l i)) .ledger .history ≡ [])
-          ↔ ((l .history ≡ []) × (onCheck m n l i (cond q (accepts m l i r (i .tag)) (refuses11 m l i)) .answer .number ≢ 0))
-      go zero true = (
-        λ e.
-            absurd
-            (longer (r .history) (l .history) (length (i .metadata)) (length (i .text)) (laws .unwraps-index (l .key) (l .history) (l .toggle) (i .metadata) (i .text) (i .tag)) e),
-        λ w. absurd (w .1 refl),
-      )
-      go zero false = (λ e. (e, λ z. omega arith), λ w. w .0)
-      go (suc n) q = (λ e. (e, λ z. omega arith), λ w. w .0)
-
--- the two ends are apart
-abbrev IsOffice : Side → Type 0
-IsOffice office = Unit {0}
-IsOffice group = ⊥
-
-apart : office ≢ group
-apart e = subst IsOffice e tt
-
-module _ {m : PaperMode} (laws : PaperLaws m) where
-  -- one call: the ledger of the end x has no string after it exactly where it had none, and the call was made elsewhere or refused
-  set-empty : (x y : Side) (e : Entry) (p : Ledgers) → (e .ledger .history ≡ []) ↔ ((ledgerAt y p .history ≡ []) × (e .answer .number ≢ 0))
-      → (ledgerAt x (setLedger y (e .ledger) p) .history ≡ []) ↔ ((ledgerAt x p .history ≡ []) × ((y ≢ x) ⊎ (e .answer .number ≢ 0)))
-  set-empty office office e p (to, from) = (λ z. (to z .0, inr (to z .1)), λ w. back w)
-    where
-      back : (p .office .history ≡ []) × ((office ≢ office) ⊎ (e .answer .number ≢ 0)) → e .ledger .history ≡ []
-      back (h, inl z) = absurd (z refl)
-      back (h, inr z) = from (h, z)
-  set-empty group group e p (to, from) = (λ z. (to z .0, inr (to z .1)), λ w. back w)
-    where
-      back : (p .group .history ≡ []) × ((group ≢ group) ⊎ (e .answer .number ≢ 0)) → e .ledger .history ≡ []
-      back (h, inl z) = absurd (z refl)
-      back (h, inr z) = from (h, z)
-  set-empty office group e p f = (λ z. (z, inl (λ g. apart (sym g))), λ w. w .0)
-  set-empty group office e p f = (λ z. (z, inl apart), λ w. w .0)
-
-  step-empty : (x : Side) (c : Call) (p : Ledgers) → (ledgerAt x (nextLedgers m c p) .history ≡ [])
-      ↔ ((ledgerAt x p .history ≡ []) × ((sideOf c ≢ x) ⊎ (ledgerStep m c p .answer .number ≢ 0)))
-  step-empty x (wrap y i) p = set-empty x y (ledgerWrap m (ledgerAt y p) i) p (wrap-empty laws (ledgerAt y p) i)
-  step-empty x (unwrap y i) p = set-empty x y (ledgerUnwrap m (ledgerAt y p) i) p (unwrap-empty laws (ledgerAt y p) i)
-
-  -- every list
-  pub none-accepted : (x : Side) (cs : List Call) (p : Ledgers) → (ledgerAt x (finishLedgers m cs p) .history ≡ [])
-      ↔ ((ledgerAt x p .history ≡ []) × NoneAccepted x cs (map outcomeOf (entries m cs p)))
-  unfolding entries finishLedgers
-  none-accepted x [] p = (λ e. (e, NoneAccepted.none), λ w. w .0)
-  none-accepted x (c ∷ cs) p = let ih = none-accepted x cs (nextLedgers m c p) in (λ e. to (ih .0 e), λ w. from (ih .1) (w .0) (w .1))
-    where
-      later : List (Outcome DeckState)
-      later = map outcomeOf (entries m cs (nextLedgers m c p))
-
-      more : (sideOf c ≢ x) ⊎ (ledgerStep m c p .answer .number ≢ 0) → NoneAccepted x cs later → NoneAccepted x (c ∷ cs) (outcomeOf (ledgerStep m c p) ∷ later)
-      more (inl z) n = NoneAccepted.elsewhere z n
-      more (inr z) n = NoneAccepted.refused z n
-
-      to : (ledgerAt x (nextLedgers m c p) .history ≡ []) × NoneAccepted x cs later
-          → (ledgerAt x p .history ≡ []) × NoneAccepted x (c ∷ cs) (outcomeOf (ledgerStep m c p) ∷ later)
-      to (e, n) = let w = step-empty x c p .0 e in (w .0, more (w .1) n)
-
-      from : ((ledgerAt x (nextLedgers m c p) .history ≡ []) × NoneAccepted x cs later → ledgerAt x (finishLedgers m cs (nextLedgers m c p)) .history ≡ [])
-          → ledgerAt x p .history ≡ [] → NoneAccepted x (c ∷ cs) (outcomeOf (ledgerStep m c p) ∷ later)
-          → ledgerAt x (finishLedgers m cs (nextLedgers m c p)) .history ≡ []
-      from ih e (NoneAccepted.refused z n) = ih (step-empty x c p .1 (e, inr z), n)
-      from ih e (NoneAccepted.elsewhere z n) = ih (step-empty x c p .1 (e, inl z), n)
+use Rattle.modes.proofs.Codes.{any-code, code-claim, claim-decides, claim-twelve}
 
 -- ---- a ledger keeps its key
 
@@ -192,8 +94,8 @@ module _ (k : Kind) (codes : Codes k) (g : CodesByRules k codes) where
   any-code-of s packet out o w =
       subst (AnyCode incremental (k .stateOf s) packet out) (sym (g s packet out o .0 w)) (any-code incremental (k .stateOf s) packet out)
 
-  pub code-of : CodeOf k codes
-  code-of key h e s packet out o q w =
+  pub one-code-of : OneCodeOf k codes
+  one-code-of key h e s packet out o q w =
       subst (CodeClaim key h packet out) (sym (g s packet out o .0 w ∙ ap (λ (z : SessionState DeckState). codeAt incremental z packet out) q))
       (code-claim key h e packet out)
 
@@ -208,6 +110,31 @@ module _ (k : Kind) (codes : Codes k) (g : CodesByRules k codes) where
       let s = recordAt k x from in
       let o = codeAt incremental (k .stateOf s) packet out in
       (o ∷ z .0, CodeRun.asked (g s packet out o .1 refl) (z .1))
+
+  -- from any records every list of calls and codes has a run
+  pub code-runs-exist : {p : Promises k} → RunsExist k p → CodeRunsExist k p codes
+  code-runs-exist e rs from =
+      let z = e (callsOf rs) from in
+      let w = within rs (z .2) in
+      (z .0, w .0, z .1, w .1)
+
+  -- a list of calls alone
+  only-calls : {p : Promises k} (cs : List Call) {from to : Records k} {os : List (Outcome DeckState)} → Run k p cs from os to
+      → CodeRun k p codes (map call cs) from os [] to
+  only-calls [] Run.none = CodeRun.none
+  only-calls (c ∷ cs) (Run.wrapped w q) = CodeRun.called (Run.wrapped w Run.none) (only-calls cs q)
+  only-calls (c ∷ cs) (Run.unwrapped w q) = CodeRun.called (Run.unwrapped w Run.none) (only-calls cs q)
+
+  -- a code can be asked at every point of it, at either end
+  pub asked-anywhere : (p : Promises k) → AskedAnywhere k p codes
+  asked-anywhere p [] ds x packet out from os to r =
+      let s = recordAt k x from in
+      let o = codeAt incremental (k .stateOf s) packet out in
+      (o, CodeRun.asked (g s packet out o .1 refl) (only-calls ds r))
+  asked-anywhere p (c ∷ cs) ds x packet out from os to (Run.wrapped w q) =
+      let z = asked-anywhere p cs ds x packet out _ _ to q in (z .0, CodeRun.called (Run.wrapped w Run.none) (z .1))
+  asked-anywhere p (c ∷ cs) ds x packet out from os to (Run.unwrapped w q) =
+      let z = asked-anywhere p cs ds x packet out _ _ to q in (z .0, CodeRun.called (Run.unwrapped w Run.none) (z .1))
 
   -- lists with and without codes have the same runs
   pub same-runs : (p : Promises k) → SameRuns k p codes
@@ -236,7 +163,7 @@ module _ {k : Kind} {starts : Starts k} {p : Promises k} {codes : Codes k} (s : 
       claim =
           subst (λ (key : List ℕ). CodeClaim key (then .history) packet out o)
           (finish-key sanse-follows x cs (freshLedgers key sanseOpens) ∙ fresh-key x key sanseOpens)
-          (code-of k codes g (then .key) (then .history) (then .toggle) (recordAt k x from) packet out o (at-records k x from ∙ by .finish x) w)
+          (one-code-of k codes g (then .key) (then .history) (then .toggle) (recordAt k x from) packet out o (at-records k x from ∙ by .finish x) w)
 
       empty : (then .history ≡ [])
           ↔ ((ledgerAt x (freshLedgers key sanseOpens) .history ≡ []) × NoneAccepted x cs (map outcomeOf (entries sansePaper cs (freshLedgers key sanseOpens))))
@@ -264,6 +191,14 @@ with-codes-of s l g key long short one two a b rs os gs to r =
       codes = each s l g key long short one two a b Run.none r;
     }
 
+-- where each message was delivered, both ends have the same codes
+pub same-codes-of : {k : Kind} {starts : Starts k} {p : Promises k} {codes : Codes k} → StartByRules k starts → ByRules sanse p → CodesByRules k codes
+    → SameCodesOf k starts p codes
+same-codes-of s l g key long short one two a b cs os to r d packet out o o′ w w′ =
+    g (to .office) packet out o .0 w
+    ∙ ap (λ (z : SessionState DeckState). codeAt incremental z packet out) (demand-3-of s l key long short one two a b cs os to r .calls .level d)
+    ∙ sym (g (to .group) packet out o′ .0 w′)
+
 -- what is claimed of the codes of a list leaves none of them open
 pub codes-decide : {key : List ℕ} {cs : List Call} {os ps : List (Outcome DeckState)} {rs : List Request} {gs gs′ : List CodeOutcome}
     → EachCode key cs os rs ps gs → EachCode key cs os rs ps gs′ → gs ≡ gs′
@@ -271,3 +206,26 @@ codes-decide EachCode.none EachCode.none = refl
 codes-decide (EachCode.called q) (EachCode.called q′) = codes-decide q q′
 codes-decide {key} (EachCode.asked {packet = packet} {out = out} {g = o} w q) (EachCode.asked {g = o′} w′ q′) =
     ap₂ {C = List CodeOutcome} (λ o os. o ∷ os) (claim-decides key packet out _ o o′ (w .ledger) (w′ .ledger)) (codes-decide q q′)
+
+-- nor does the whole claim: of one list under one key it is true of one list of outcomes, one list of codes, and one session at each end
+pub with-codes-decides : {key : List ℕ} {rs : List Request} {one two one′ two′ : Opening} {os os′ : List (Outcome DeckState)} {gs gs′ : List CodeOutcome} {q q′ : Ends DeckState}
+    → WithCodes key rs one two os gs q → WithCodes key rs one′ two′ os′ gs′ q′ → (os ≡ os′) × (gs ≡ gs′) × ((x : Side) → at x q ≡ at x q′)
+with-codes-decides {key} {rs} {gs = gs} a b =
+    let z = demand-3-decides (a .calls) (b .calls) in
+    (z .0, codes-decide (subst (λ (os : List (Outcome DeckState)). EachCode key [] [] rs os gs) (z .0) (a .codes)) (b .codes), z .1)
+
+-- what the claim says of one code: before the first message that was accepted there it gets 12, and nothing is written; after it, it is that of
+-- the ledger's history
+module _ {key : List ℕ} {cs : List Call} {os : List (Outcome DeckState)} {x : Side} {packet : ℕ} {out : List ℕ} {o : CodeOutcome} (c : CodeThere key cs os x packet out o) where
+  abbrev history : List Str
+  history = ledgerAt x (finishLedgers sansePaper cs (freshLedgers key sanseOpens)) .history
+
+  pub before-first : NoneAccepted x cs os → o ≡ noCode 12 out
+  before-first n = c .ledger .twelve (claim-twelve key packet out history o (c .ledger) .0 (c .first .1 (inl n)))
+
+  pub after-first : (NoneAccepted x cs os → ⊥) → packet ≤ 2047 → 8 ≤ length out → o ≡ codeGiven (deck key history) packet out
+  after-first n p room = c .ledger .code (λ e. none (c .first .0 (ap (λ (o : CodeOutcome). o .number) (c .ledger .twelve (inl e))))) p room
+    where
+      none : NoneAccepted x cs os ⊎ (2047 < packet) → ⊥
+      none (inl z) = n z
+      none (inr z) = omega arith

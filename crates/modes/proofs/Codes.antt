@@ -18,18 +18,18 @@ use Rattle.xoofff.specs.Leaves.{outputBlocks}
 use Rattle.modes.specs.Mode.{HistoryRep, incremental}
 use Rattle.modes.specs.Rules.{SessionState}
 use Rattle.modes.specs.OneCall.{sessionOf}
-use Rattle.modes.specs.Codes.{CodeOutcome, codeCheck, noCode, codeOf, unlessCheck, codeAt, Code5, Code12, AnyCode, CodeClaim}
+use Rattle.modes.specs.Codes.{CodeOutcome, codeCheck, noCode, codeGiven, unlessCheck, codeAt, Code5, Code12, AnyCode, CodeClaim}
 use Rattle.modes.proofs.Exactly.{is, isnt}
 
 -- ---- the count
 
 -- 8 bytes from a multiple of 8 on lie in one block of 48
-one-block : (packet : ℕ) → outputBlocks (32 + 8 * packet) 8 ≡ 1
+pub one-block : (packet : ℕ) → outputBlocks (32 + 8 * packet) 8 ≡ 1
 unfolding outputBlocks
 one-block packet = omega arith
 
 -- so that a code takes one permutation of the accumulator and one for its block, by the leaf's count of blocks
-pub code-counts : (f : ℕ → ℕ) (packet : ℕ) (out : List ℕ) → codeOf f packet out .count ≡ 1 + outputBlocks (32 + 8 * packet) 8
+pub code-counts : (f : ℕ → ℕ) (packet : ℕ) (out : List ℕ) → codeGiven f packet out .count ≡ 1 + outputBlocks (32 + 8 * packet) 8
 code-counts f packet out = omega (arith, one-block packet)
 
 -- ---- each number exactly, of any session
@@ -57,7 +57,7 @@ module _ {S : Type 0} (d : HistoryRep S) (s : SessionState S) (packet : ℕ) (ou
       go true o false x false y false z = is0 o (omega (arith, eqb-false index 0 x)) (ltb-false 2047 packet y) (ltb-false (length out) 8 z)
 
   abbrev done : CodeOutcome
-  done = codeOf (d .keystream (s .history)) packet out
+  done = codeGiven (d .keystream (s .history)) packet out
 
   -- the session is open: 5 is not met; and where the index is not 0 and the packet within its limit 12 is not met
   no5 : s .opened ≡ true → Code5 d s packet out → ⊥
@@ -141,9 +141,9 @@ module _ (key : List ℕ) (h : List Str) (e : Bool) (packet : ℕ) (out : List �
   session = sessionOf key h e
 
   -- the code of what a session keeps of the history is that of the deck function, from the first string on
-  pub code-from-scratch : codeOf (output (session .history)) packet out ≡ codeOf (deck key h) packet out
+  pub code-from-scratch : codeGiven (output (session .history)) packet out ≡ codeGiven (deck key h) packet out
   unfolding fromScratch outputMask
-  code-from-scratch = ap (λ (f : ℕ → ℕ). codeOf f packet out) (output-fromScratch key h)
+  code-from-scratch = ap (λ (f : ℕ → ℕ). codeGiven f packet out) (output-fromScratch key h)
 
   pub code-claim : CodeClaim key h packet out (codeAt incremental session packet out)
   code-claim =

@@ -17,4 +17,5 @@ pub mod Fresh
 pub mod Edges
 pub mod Leaves
 pub mod Codes
+pub mod NoneAccepted
 pub mod CodeLists

@@ -2,7 +2,7 @@
 -- of the history that the ledger there then has, and the calls give what they give without it. For any functions over any kind of record, of
 -- which only promises are known. Assumes nothing.
 use mathlib.Core.Bool.{Bool}
-use mathlib.Core.List.{List, [], _∷_, _++_}
+use mathlib.Core.List.{List, [], _∷_, _++_, map}
 use mathlib.Core.Logic.{_↔_, _≢_, _⊎_}
 use mathlib.Core.Path.{_≡_}
 use Prim.Native.Nat.{ℕ, _<_, _≤_}
@@ -16,6 +16,7 @@ use Rattle.modes.specs.Paper.{sanseOpens}
 use Rattle.modes.specs.Ledger.{sansePaper}
 use Rattle.modes.specs.OneCall.{sessionOf}
 use Rattle.modes.specs.TwoEnds.{Ends, ledgerAt, finishLedgers, freshLedgers}
+use Rattle.modes.specs.Delivery.{nothing, Delivers}
 use Rattle.modes.specs.Demand3.{Demand3}
 use Rattle.modes.specs.Promises.{Kind, startResult, Promises, Starts, Records, recordAt, sessionsHeld, leftBy, Run}
 use Rattle.modes.specs.Codes.{CodeOutcome, codeAt, AnyCode, CodeClaim}
@@ -91,8 +92,8 @@ module _ (k : Kind) where
       (s : k .Record) (packet : ℕ) (out : List ℕ) (g : CodeOutcome) → codes s packet out g → AnyCode incremental (k .stateOf s) packet out g
 
   -- asked of the record of a history
-  abbrev pub CodeOf : Codes → Type 0
-  CodeOf codes =
+  abbrev pub OneCodeOf : Codes → Type 0
+  OneCodeOf codes =
       (key : List ℕ) (h : List Str) (e : Bool) (s : k .Record) (packet : ℕ) (out : List ℕ) (g : CodeOutcome)
       → k .stateOf s ≡ sessionOf key h e → codes s packet out g → CodeClaim key h packet out g
 
@@ -108,3 +109,26 @@ module _ (k : Kind) where
   SameRuns p codes =
       (rs : List Request) (from : Records k) (os : List (Outcome DeckState)) (to : Records k)
       → ((gs : List CodeOutcome) × CodeRun p codes rs from os gs to) ↔ Run k p (callsOf rs) from os to
+
+  -- both ends have the same codes: where each message of the list was delivered, what either end then gives for a packet the other gives too
+  abbrev pub SameCodesOf : Starts k → Promises k → Codes → Type 0
+  SameCodesOf starts p codes =
+      (key : List ℕ) → 16 ≤ length key → length key ≤ 47 → (first second : k .Result) → starts key first → starts key second
+      → (cs : List Call) (os : List (Outcome DeckState)) (to : Records k) → Run k p cs (leftBy k first second) os to
+      → Delivers sansePaper nothing cs (freshLedgers key sanseOpens)
+      → (packet : ℕ) (out : List ℕ) (g g′ : CodeOutcome) → codes (to .office) packet out g → codes (to .group) packet out g′ → g ≡ g′
+
+  -- ---- what these speak of is there
+
+  -- from any records every list of calls and codes has a run
+  abbrev pub CodeRunsExist : Promises k → Codes → Type 0
+  CodeRunsExist p codes =
+      (rs : List Request) (from : Records k)
+      → (os : List (Outcome DeckState)) × (gs : List CodeOutcome) × (to : Records k) × CodeRun p codes rs from os gs to
+
+  -- at every point of every list of calls that has a run, between cs and ds, and at either end, a code can be asked: it is answered, and the
+  -- calls give what they gave
+  abbrev pub AskedAnywhere : Promises k → Codes → Type 0
+  AskedAnywhere p codes =
+      (cs ds : List Call) (x : Side) (packet : ℕ) (out : List ℕ) (from : Records k) (os : List (Outcome DeckState)) (to : Records k)
+      → Run k p (cs ++ ds) from os to → (g : CodeOutcome) × CodeRun p codes (map call cs ++ code x packet out ∷ map call ds) from os (g ∷ []) to

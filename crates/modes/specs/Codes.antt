@@ -34,8 +34,8 @@ abbrev pub noCode : (n : ℕ) (out : List ℕ) → CodeOutcome
 noCode n out = record { number = n; count = 0; out = out }
 
 -- the code of a packet, of the output f of a history: 8 bytes from byte 32 + 8 p on at the buffer's start, the rest kept, and 2 permutations
-abbrev pub codeOf : (f : ℕ → ℕ) (packet : ℕ) (out : List ℕ) → CodeOutcome
-codeOf f packet out = record { number = 0; count = 2; out = run f (32 + 8 * packet) 8 ++ drop 8 out }
+abbrev pub codeGiven : (f : ℕ → ℕ) (packet : ℕ) (out : List ℕ) → CodeOutcome
+codeGiven f packet out = record { number = 0; count = 2; out = run f (32 + 8 * packet) 8 ++ drop 8 out }
 
 -- by the first check that is met: refused, or the code
 abbrev pub unlessCheck : ℕ → (out : List ℕ) → CodeOutcome → CodeOutcome
@@ -45,7 +45,7 @@ unlessCheck (suc n) out o = noCode (suc n) out
 -- the code of a packet, asked of any session
 unfoldable pub codeAt : {S : Type 0} → HistoryRep S → SessionState S → (packet : ℕ) (out : List ℕ) → CodeOutcome
 codeAt d s packet out =
-    unlessCheck (codeCheck (s .opened) (d .index (s .history)) packet (length out)) out (codeOf (d .keystream (s .history)) packet out)
+    unlessCheck (codeCheck (s .opened) (d .index (s .history)) packet (length out)) out (codeGiven (d .keystream (s .history)) packet out)
 
 -- ---- each number exactly, of any session, also one that no history gives
 
@@ -68,7 +68,7 @@ module _ {S : Type 0} (d : HistoryRep S) (s : SessionState S) (packet : ℕ) (ou
     pub twelve : (o .number ≡ 12) ↔ ((Code5 → ⊥) × Code12)
     pub eight : (o .number ≡ 8) ↔ ((Code5 → ⊥) × (Code12 → ⊥) × Code8)
     pub given : (o .number ≡ 0) ↔ ((s .opened ≡ true) × (0 < d .index (s .history)) × (packet ≤ 2047) × (8 ≤ length out))
-    pub code : o .number ≡ 0 → o ≡ codeOf (d .keystream (s .history)) packet out
+    pub code : o .number ≡ 0 → o ≡ codeGiven (d .keystream (s .history)) packet out
     pub refused : o .number ≢ 0 → o ≡ noCode (o .number) out
 
 -- ---- of the session that a history gives
@@ -78,4 +78,4 @@ module _ {S : Type 0} (d : HistoryRep S) (s : SessionState S) (packet : ℕ) (ou
 pub record CodeClaim (key : List ℕ) (h : List Str) (packet : ℕ) (out : List ℕ) (o : CodeOutcome) : Type 0 where
   pub twelve : (h ≡ []) ⊎ (2047 < packet) → o ≡ noCode 12 out
   pub eight : h ≢ [] → packet ≤ 2047 → length out < 8 → o ≡ noCode 8 out
-  pub code : h ≢ [] → packet ≤ 2047 → 8 ≤ length out → o ≡ codeOf (deck key h) packet out
+  pub code : h ≢ [] → packet ≤ 2047 → 8 ≤ length out → o ≡ codeGiven (deck key h) packet out
