@@ -1,7 +1,7 @@
 /* Pevghazo: codes for packets of rings, which a session gives. What all functions share is said in pevghazo.h.
  *
- * Both ends have the same codes between two messages. They belong to the session as it stands: with the next accepted message every packet has
- * another code, and the session does not give the old ones again.
+ * Codes belong to the session as it stands: with the next accepted message they are others, and the session does not give the old ones again.
+ * Both ends have the same ones while each message that was wrapped has been unwrapped at the other end.
  *
  * The library does not compare codes. Do not compare one that was read off a packet by memcmp, which may stop at the first difference: its time
  * would tell how many bytes of a guess were right. Look at all bytes, wherever they differ:

@@ -1,19 +1,24 @@
 -- What is claimed of codes holds of `code_of`, known by its `ensures` alone, beside start, wrap and unwrap by value; and what the claims say, written
 -- out. Assumes nothing.
 use mathlib.Core.Bool.{Bool}
-use mathlib.Core.List.{List}
+use mathlib.Core.List.{List, [], _∷_, _++_, map}
 use mathlib.Core.Logic.{_↔_}
 use mathlib.Core.Path.{_≡_, refl}
 use Prim.Native.Nat.{ℕ, _≤_}
 use lib.ListN.{length}
 use Rattle.deck.specs.declared.DeckState.{DeckState}
 use Rattle.deck.specs.Strings.{Str}
+use Rattle.modes.specs.Call.{Side, Call}
 use Rattle.modes.specs.Mode.{incremental, sanse}
+use Rattle.modes.specs.Paper.{sanseOpens}
+use Rattle.modes.specs.Ledger.{sansePaper}
+use Rattle.modes.specs.TwoEnds.{freshLedgers}
+use Rattle.modes.specs.Delivery.{nothing, Delivers}
 use Rattle.modes.specs.Rules.{Outcome}
 use Rattle.modes.specs.OneCall.{sessionOf}
 use Rattle.modes.specs.Promises.{Promises, Records, Run, sessionsHeld}
 use Rattle.modes.specs.Codes.{CodeOutcome, AnyCode, CodeClaim}
-use Rattle.modes.specs.CodeLists.{Codes, Request, callsOf, CodeRun, WithCodes, AnyCodeOf, OneCodeOf, WithCodesOf, SameCodesOf, SameRuns, CodeRunsExist, AskedAnywhere}
+use Rattle.modes.specs.CodeLists.{Codes, Request, call, code, callsOf, CodeRun, WithCodes, AnyCodeOf, OneCodeOf, WithCodesOf, SameCodesOf, SameRuns, CodeRunsExist, AskedAnywhere}
 use Rattle.modes.proofs.Demands.{ByRules}
 use Rattle.modes.proofs.CodeLists.{any-code-of, one-code-of, with-codes-of, same-codes-of, same-runs, code-runs-exist, asked-anywhere}
 use Rattle.sanse.specs.declared.Session.{Session}
@@ -49,6 +54,28 @@ pub same-runs-says : (p : Promises sanseKind) (c : Codes sanseKind)
     ≡ ((rs : List Request) (from : Records sanseKind) (os : List (Outcome DeckState)) (to : Records sanseKind)
     → ((gs : List CodeOutcome) × CodeRun sanseKind p c rs from os gs to) ↔ Run sanseKind p (callsOf rs) from os to)
 same-runs-says p c = refl
+
+pub same-codes-says : (starts : (key : List ℕ) → CallResult → Type 0) (p : Promises sanseKind) (c : Codes sanseKind)
+    → SameCodesOf sanseKind starts p c
+    ≡ ((key : List ℕ) → 16 ≤ length key → length key ≤ 47 → (first second : CallResult) → starts key first → starts key second
+    → (cs : List Call) (os : List (Outcome DeckState)) (to : Records sanseKind)
+    → Run sanseKind p cs (record { office = first .session; group = second .session }) os to
+    → Delivers sansePaper nothing cs (freshLedgers key sanseOpens)
+    → (packet : ℕ) (out : List ℕ) (g g′ : CodeOutcome) → c (to .office) packet out g → c (to .group) packet out g′ → g ≡ g′)
+same-codes-says starts p c = refl
+
+pub code-runs-exist-says : (p : Promises sanseKind) (c : Codes sanseKind)
+    → CodeRunsExist sanseKind p c
+    ≡ ((rs : List Request) (from : Records sanseKind)
+    → (os : List (Outcome DeckState)) × (gs : List CodeOutcome) × (to : Records sanseKind) × CodeRun sanseKind p c rs from os gs to)
+code-runs-exist-says p c = refl
+
+pub asked-anywhere-says : (p : Promises sanseKind) (c : Codes sanseKind)
+    → AskedAnywhere sanseKind p c
+    ≡ ((cs ds : List Call) (x : Side) (packet : ℕ) (out : List ℕ) (from : Records sanseKind) (os : List (Outcome DeckState)) (to : Records sanseKind)
+    → Run sanseKind p (cs ++ ds) from os to
+    → (g : CodeOutcome) × CodeRun sanseKind p c (map call cs ++ code x packet out ∷ map call ds) from os (g ∷ []) to)
+asked-anywhere-says p c = refl
 
 -- ---- the claims
 
