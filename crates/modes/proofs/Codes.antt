@@ -170,36 +170,41 @@ module _ (key : List ℕ) (h : List Str) (e : Bool) (packet : ℕ) (out : List �
       no12′ n p (inl z) = n (index-none h .0 z)
       no12′ n p (inr z) = omega arith
 
--- the claim leaves nothing open
+-- ---- what the claim says
+
 module _ (key : List ℕ) (packet : ℕ) (out : List ℕ) where
-  pub claim-decides : (h : List Str) (o o′ : CodeOutcome) → CodeClaim key h packet out o → CodeClaim key h packet out o′ → o ≡ o′
-  claim-decides [] o o′ c c′ = c .twelve (inl refl) ∙ sym (c′ .twelve (inl refl))
-  claim-decides (s ∷ h) o o′ c c′ = go (ltb 2047 packet) refl (ltb (length out) 8) refl
+  -- one of the claim's three cases is there
+  data Case (h : List Str) : Type 0 where
+    no-code : (h ≡ []) ⊎ (2047 < packet) → Case h
+    no-room : h ≢ [] → packet ≤ 2047 → length out < 8 → Case h
+    room : h ≢ [] → packet ≤ 2047 → 8 ≤ length out → Case h
+
+  case : (h : List Str) → Case h
+  case [] = no-code (inl refl)
+  case (s ∷ h) = go (ltb 2047 packet) refl (ltb (length out) 8) refl
     where
       some : s ∷ h ≢ []
       some e = omega (arith, ap length e)
 
-      go : (a : Bool) → ltb 2047 packet ≡ a → (b : Bool) → ltb (length out) 8 ≡ b → o ≡ o′
-      go true x b y = let z = ltb-true 2047 packet x in c .twelve (inr z) ∙ sym (c′ .twelve (inr z))
-      go false x true y =
-          let p = ltb-false 2047 packet x in let z = ltb-true (length out) 8 y in c .eight some p z ∙ sym (c′ .eight some p z)
-      go false x false y =
-          let p = ltb-false 2047 packet x in let z = ltb-false (length out) 8 y in c .code some p z ∙ sym (c′ .code some p z)
+      go : (a : Bool) → ltb 2047 packet ≡ a → (b : Bool) → ltb (length out) 8 ≡ b → Case (s ∷ h)
+      go true x b y = no-code (inr (ltb-true 2047 packet x))
+      go false x true y = no-room some (ltb-false 2047 packet x) (ltb-true (length out) 8 y)
+      go false x false y = room some (ltb-false 2047 packet x) (ltb-false (length out) 8 y)
+
+  -- it leaves nothing open
+  pub claim-decides : (h : List Str) (o o′ : CodeOutcome) → CodeClaim key h packet out o → CodeClaim key h packet out o′ → o ≡ o′
+  claim-decides h o o′ c c′ = go (case h)
+    where
+      go : Case h → o ≡ o′
+      go (no-code z) = c .twelve z ∙ sym (c′ .twelve z)
+      go (no-room n p z) = c .eight n p z ∙ sym (c′ .eight n p z)
+      go (room n p z) = c .code n p z ∙ sym (c′ .code n p z)
 
   -- 12 is given just where the history has no string, or the packet is above 2,047
   pub claim-twelve : (h : List Str) (o : CodeOutcome) → CodeClaim key h packet out o → (o .number ≡ 12) ↔ ((h ≡ []) ⊎ (2047 < packet))
-  claim-twelve h o c = (to h c, λ z. ap (λ (o : CodeOutcome). o .number) (c .twelve z))
+  claim-twelve h o c = (λ e. go e (case h), λ z. ap (λ (o : CodeOutcome). o .number) (c .twelve z))
     where
-      to : (h : List Str) → CodeClaim key h packet out o → o .number ≡ 12 → (h ≡ []) ⊎ (2047 < packet)
-      to [] c e = inl refl
-      to (s ∷ h) c e = go (ltb 2047 packet) refl (ltb (length out) 8) refl
-        where
-          some : s ∷ h ≢ []
-          some e = omega (arith, ap length e)
-
-          go : (a : Bool) → ltb 2047 packet ≡ a → (b : Bool) → ltb (length out) 8 ≡ b → (s ∷ h ≡ []) ⊎ (2047 < packet)
-          go true x b y = inr (ltb-true 2047 packet x)
-          go false x true y =
-              absurd (omega (arith, e, ap (λ (o : CodeOutcome). o .number) (c .eight some (ltb-false 2047 packet x) (ltb-true (length out) 8 y))))
-          go false x false y =
-              absurd (omega (arith, e, ap (λ (o : CodeOutcome). o .number) (c .code some (ltb-false 2047 packet x) (ltb-false (length out) 8 y))))
+      go : o .number ≡ 12 → Case h → (h ≡ []) ⊎ (2047 < packet)
+      go e (no-code z) = z
+      go e (no-room n p z) = absurd (omega (arith, e, ap (λ (o : CodeOutcome). o .number) (c .eight n p z)))
+      go e (room n p z) = absurd (omega (arith, e, ap (λ (o : CodeOutcome). o .number) (c .code n p z)))

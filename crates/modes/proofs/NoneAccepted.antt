@@ -71,20 +71,20 @@ IsOffice group = ⊥
 apart : office ≢ group
 apart e = subst IsOffice e tt
 
+-- what is not made elsewhere was refused
+here : {P Q R : Type 0} (x : Side) → P ↔ (Q × R) → P ↔ (Q × ((x ≢ x) ⊎ R))
+here {P} {Q} {R} x (to, from) = (λ z. (to z .0, inr (to z .1)), λ w. back (w .0) (w .1))
+  where
+    back : Q → (x ≢ x) ⊎ R → P
+    back h (inl z) = absurd (z refl)
+    back h (inr z) = from (h, z)
+
 module _ {m : PaperMode} (laws : PaperLaws m) where
   -- one call: the ledger of the end x has no string after it exactly where it had none, and the call was made elsewhere or refused
   set-empty : (x y : Side) (e : Entry) (p : Ledgers) → (e .ledger .history ≡ []) ↔ ((ledgerAt y p .history ≡ []) × (e .answer .number ≢ 0))
       → (ledgerAt x (setLedger y (e .ledger) p) .history ≡ []) ↔ ((ledgerAt x p .history ≡ []) × ((y ≢ x) ⊎ (e .answer .number ≢ 0)))
-  set-empty office office e p (to, from) = (λ z. (to z .0, inr (to z .1)), λ w. back w)
-    where
-      back : (p .office .history ≡ []) × ((office ≢ office) ⊎ (e .answer .number ≢ 0)) → e .ledger .history ≡ []
-      back (h, inl z) = absurd (z refl)
-      back (h, inr z) = from (h, z)
-  set-empty group group e p (to, from) = (λ z. (to z .0, inr (to z .1)), λ w. back w)
-    where
-      back : (p .group .history ≡ []) × ((group ≢ group) ⊎ (e .answer .number ≢ 0)) → e .ledger .history ≡ []
-      back (h, inl z) = absurd (z refl)
-      back (h, inr z) = from (h, z)
+  set-empty office office e p f = here office f
+  set-empty group group e p f = here group f
   set-empty office group e p f = (λ z. (z, inl (λ g. apart (sym g))), λ w. w .0)
   set-empty group office e p f = (λ z. (z, inl apart), λ w. w .0)
 

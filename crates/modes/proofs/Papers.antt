@@ -9,7 +9,7 @@ use lib.Bits.{bitXor}
 use lib.Dec.{eqb, eqb·suc-zero}
 use lib.ListN.{length, replicate}
 use Rattle.word.specs.Lists.{tabulate, sum}
-use Rattle.word.proofs.Lists.{cons, tabulate-ext, tabulate-length, sum-comm, sum-zero}
+use Rattle.word.proofs.Lists.{cons, tabulate-ext, zeros-sum}
 use Rattle.deck.specs.Strings.{Str}
 use Rattle.deck.specs.Deck.{run, deck}
 use Rattle.modes.specs.Mode.{Mode, StepResult, wholeHistory, withA, sivBody, sivWrap, sivUnwrap, sanse, sanseParameters, sanseCount, ceiling48}
@@ -42,8 +42,7 @@ plusFrom-is i (y ∷ x) f =
 
 first32-is : (f : ℕ → ℕ) → first32 f ≡ run f 0 32
 first32-is f =
-    plusFrom-is 0 (replicate 32 0) f ∙ sum-comm (replicate 32 0) (run f 0 32)
-    ∙ ap (λ (n : ℕ). sum (run f 0 32) (replicate n 0)) (sym (tabulate-length 32 _)) ∙ sum-zero (run f 0 32)
+    plusFrom-is 0 (replicate 32 0) f ∙ zeros-sum 32 _
 
 -- ---- the count
 

@@ -11,7 +11,7 @@ use lib.ListN.{length, getD, take, drop, set, replicate, length-replicate}
 use lib.Seq.{length-take-le, take-length, take-suc, drop-length, drop-cons, append-snoc, set-at, take-at, drop-at}
 use borrow.Author.Tests.{eq-eqb, ne-eqb, eqb-true, eqb-false}
 use Rattle.word.specs.Lists.{sum}
-use Rattle.word.proofs.Lists.{tabulate-length, sum-comm, sum-zero, sum-length, xor-undone}
+use Rattle.word.proofs.Lists.{tabulate-length, zeros-sum, sum-length, xor-undone}
 use Rattle.deck.specs.Deck.{run}
 use Rattle.modes.specs.Rules.{written, sameBytes}
 
@@ -41,7 +41,7 @@ zeros-all d i n e =
 -- to zeros that fill a buffer
 pub tag-filled : (f : ℕ → ℕ) (t t₁ t₂ : List ℕ) → t₁ ≡ written (replicate (length t) 0) t → t₂ ≡ sum t₁ (run f 0 (length t₁)) → t₂ ≡ run f 0 (length t)
 tag-filled f t t₁ t₂ e g =
-    g ∙ ap (λ (l : List ℕ). sum l (run f 0 (length l))) q ∙ ap (λ (n : ℕ). sum (replicate (length t) 0) (run f 0 n)) (length-replicate (length t) 0) ∙ added
+    g ∙ ap (λ (l : List ℕ). sum l (run f 0 (length l))) q ∙ ap (λ (n : ℕ). sum (replicate (length t) 0) (run f 0 n)) (length-replicate (length t) 0) ∙ zeros-sum (length t) _
   where
     q : t₁ ≡ replicate (length t) 0
     q =
@@ -49,12 +49,6 @@ tag-filled f t t₁ t₂ e g =
         ∙ ap (λ (n : ℕ). replicate (length t) 0 ++ drop n t) (length-replicate (length t) 0)
         ∙ ap (λ (l : List ℕ). replicate (length t) 0 ++ l) (drop-length t)
         ∙ append-nil (replicate (length t) 0)
-
-    added : sum (replicate (length t) 0) (run f 0 (length t)) ≡ run f 0 (length t)
-    added =
-        sum-comm (replicate (length t) 0) (run f 0 (length t))
-        ∙ ap (λ (n : ℕ). sum (run f 0 (length t)) (replicate n 0)) (sym (tabulate-length (length t) (λ j. f (0 + j))))
-        ∙ sum-zero (run f 0 (length t))
 
 -- to a text that was copied to the start of a buffer
 pub part-added : (f : ℕ → ℕ) (i : ℕ) (text d d₁ p : List ℕ) → d₁ ≡ written text d → p ≡ sum (take (length text) d₁) (run f i (length (take (length text) d₁)))

@@ -106,6 +106,12 @@ unfolding sum
 sum-zero [] = refl
 sum-zero (a ∷ s) = cons (xor-zero-r a) (sum-zero s)
 
+-- a run that is added to as many zeros
+pub zeros-sum : (n : ℕ) (f : ℕ → ℕ) → sum (replicate n 0) (tabulate n f) ≡ tabulate n f
+zeros-sum n f =
+    sum-comm (replicate n 0) (tabulate n f)
+    ∙ ap (λ (m : ℕ). sum (tabulate n f) (replicate m 0)) (sym (tabulate-length n f)) ∙ sum-zero (tabulate n f)
+
 pub sum-length : (s t : List ℕ) → length s ≤ length t → length (sum s t) ≡ length s
 unfolding sum
 sum-length [] t h = refl

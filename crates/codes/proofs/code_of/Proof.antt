@@ -1,9 +1,8 @@
 -- `codes::code_of` meets its contract. Assumes nothing.
 use mathlib.Core.Path.{sym, _∙_}
-use lib.ListN.{length}
 use denote.Ref.{now}
 use borrow.Author.Needs.{needs}
-use Rattle.codes.proofs.Laws.{check-passed, refused, given}
+use Rattle.codes.proofs.Laws.{passed, refused, given}
 use Rattle.codes.proofs.code_of.Statement.{statement}
 use Rattle.codes.proofs.code_of.Tie as tie
 
@@ -15,7 +14,7 @@ returns c =
 write-code-requires : tie.Need-write-code-requires
 write-code-requires c κs =
     let a = c .before .before .before .before .before .before .args in
-    check-passed (a .s .opened) (a .s .index) (a .packet) (length (now (a .out))) (sym (c .before .before .before .before .first-check .ensures) ∙ c .before .before .before .if1 .left)
+    passed (a .s) (a .packet) (now (a .out)) (sym (c .before .before .before .before .first-check .ensures) ∙ c .before .before .before .if1 .left)
 
 returns-2 : tie.Need-returns-2
 returns-2 c =
