@@ -159,8 +159,8 @@ impl Session {
 
     /// The code of a packet, 0 to 2,047, and the permutations done. Checks 5 and 12.
     ///
-    /// Both ends give the same codes between two messages. They belong to the session as it stands: the next accepted message
-    /// gives every packet another one.
+    /// Codes belong to the session as it stands, and change with the next accepted message. Both ends give the same ones while
+    /// each message that was sealed has been opened at the other end.
     ///
     /// ```
     /// use pevghazo::{Number, Plain, Session};
