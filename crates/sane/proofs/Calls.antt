@@ -1,0 +1,103 @@
+-- What `start`, `wrap` and `unwrap` compute, step by step, is what the rules say; over plain values, so that a function's proof only hands
+-- its facts over. Assumes nothing.
+use mathlib.Core.Path.{_≡_, refl, sym, ap, ap₂, _∙_}
+use mathlib.Core.Logic.{_≢_}
+use mathlib.Core.Bool.{Bool, true, false, not, _||_, _&&_, cond}
+use mathlib.Core.List.{List, [], _∷_}
+use Prim.Native.Nat.{ℕ, zero, suc, _+_, _≤_}
+use native.Mathlib.Omega.{arith}
+use lib.ListN.{length, take}
+use Rattle.word.specs.Lists.{sum}
+use Rattle.deck.specs.declared.DeckState.{DeckState}
+use Rattle.xoofff.specs.declared.Compressed.{Compressed}
+use Rattle.deck.specs.Strings.{blocks, framed}
+use Rattle.deck.specs.Deck.{run}
+use Rattle.deck.specs.Incremental.{output}
+use Rattle.deck.proofs.Strings.{blocks-is}
+use Rattle.modes.specs.Call.{CallInput}
+use Rattle.modes.specs.Mode.{isEmpty, incremental, withA, withText, tagOf, addKeystream, stepResult, streamWrap, streamUnwrap, sane, saneParameters, saneCount}
+use Rattle.modes.specs.Rules.{SessionState, written, metadataString, wrapSteps, unwrapSteps}
+use Rattle.modes.proofs.Steps.{ShortFrames}
+use Rattle.modes.proofs.Leaves.{countStream, sane-leaf-counts}
+use Rattle.steps.specs.Steps.{outputCount}
+use Rattle.steps.proofs.Buffers.{added-length, added-taken}
+use Rattle.steps.proofs.Calls.{Begun, begun-state, begun-count, within, Worked}
+
+pub short : ShortFrames saneParameters
+short = record { ofA = λ e. omega arith; ofM = λ e. omega arith; ofT = λ e. omega arith }
+
+-- ---- counts
+
+-- the count of a string is small
+pub text-most : (x : List ℕ) (e : Bool) → cond (isEmpty x) 0 (blocks (framed x (saneParameters .frameM e))) ≤ length x + 1
+text-most [] e = omega arith
+text-most (y ∷ x) e = omega (arith, blocks-is (framed (y ∷ x) (saneParameters .frameM e)) (short .ofM e))
+
+-- and so is a call's
+count-most : (a x : ℕ) → a ≤ 16384 → x ≤ 16384 → saneCount a x ≤ 1030
+unfolding saneCount
+count-most zero zero h g = omega arith
+count-most (suc a) zero h g = omega arith
+count-most zero (suc x) h g = omega arith
+count-most (suc a) (suc x) h g = omega arith
+
+-- ---- wrap and unwrap
+
+-- what is known once the tag t is found: d is the history and c the closing byte of A, h the history with A, q what the keystream cost, o the
+-- output buffer, y the cryptogram and g the history with it
+pub record Done (s : SessionState DeckState) (i : CallInput) (n : ℕ) (d : DeckState) (c : ℕ) (h : Compressed) (q : ℕ) (o y : List ℕ) (g : Compressed) (t : List ℕ) : Type 0 where
+  pub begun : Begun sane s i n d c h
+  pub streamed : (o ≡ written (sum (i .text) (run (output d) 16 (length (i .text)))) (i .out))
+      × (q ≡ cond (isEmpty (i .text)) 0 (outputCount 16 (length (i .text))))
+  pub sized : length y ≡ length (i .text)
+  pub finished : (g .state ≡ withText saneParameters incremental (h .state) (s .toggle) y)
+      × (t ≡ tagOf saneParameters incremental (g .state))
+      × (g .count ≡ cond (isEmpty y) 0 (blocks (framed y (saneParameters .frameM (s .toggle)))) + outputCount 0 16)
+
+module _ {s : SessionState DeckState} {i : CallInput} {n : ℕ} {d : DeckState} {c : ℕ} {h : Compressed} {q : ℕ} {o y : List ℕ} {g : Compressed} {t : List ℕ}
+    (k : Done s i n d c h q o y g t) where
+  body-is : o ≡ written (addKeystream saneParameters incremental (s .history) (i .text)) (i .out)
+  body-is = k .streamed .0 ∙ ap (λ (u : DeckState). written (addKeystream saneParameters incremental u (i .text)) (i .out)) (k .begun .held)
+
+  counted : q + h .count + g .count ≡ saneCount (length (i .metadata)) (length (i .text))
+  counted =
+      let z : cond (isEmpty (i .text)) 0 (outputCount 16 (length (i .text))) ≡ countStream (i .text) = ap (cond (isEmpty (i .text)) 0) (omega arith) in
+      omega (
+        arith,
+        sane-leaf-counts (i .metadata) (i .text) y (s .toggle) (k .sized),
+        begun-count short (k .begun),
+        k .streamed .1,
+        k .finished .2,
+      )
+
+  pub done-most : q + h .count + g .count ≤ 1030
+  done-most =
+      let w = within sane s i (k .begun .checked) (k .begun .none) in
+      omega (arith, counted, count-most (length (i .metadata)) (length (i .text)) (w .metadata) (w .text))
+
+  -- the history with the cryptogram z
+  abbrev ends : List ℕ → DeckState
+  ends z = withText saneParameters incremental (withA saneParameters incremental (s .history) (s .toggle) (i .metadata) (i .text)) (s .toggle) z
+
+  worked : (z : List ℕ) → y ≡ z
+      → Worked sane s i (stepResult saneParameters incremental (ends z) (addKeystream saneParameters incremental (s .history) (i .text))) (g .state)
+      (q + h .count + g .count) o t
+  worked z e =
+      let a : g .state ≡ ends z =
+      k .finished .0 ∙ ap₂ (λ (u : DeckState) (v : List ℕ). withText saneParameters incremental u (s .toggle) v) (begun-state short (k .begun)) e in
+      record {
+        none = sym (k .begun .checked) ∙ k .begun .none;
+        after = a;
+        count = counted;
+        sized = added-length (output (s .history)) 16 (i .text);
+        body = body-is;
+        tag = k .finished .1 ∙ ap (tagOf saneParameters incremental) a;
+      }
+
+  pub wrap-worked : y ≡ take (length (i .text)) o → Worked sane s i (wrapSteps sane incremental s i) (g .state) (q + h .count + g .count) o t
+  unfolding streamWrap metadataString
+  wrap-worked e = worked _ (e ∙ added-taken (output (s .history)) 16 (i .text) (i .out) o body-is)
+
+  pub unwrap-worked : y ≡ i .text → Worked sane s i (unwrapSteps sane incremental s i) (g .state) (q + h .count + g .count) o t
+  unfolding streamUnwrap metadataString
+  unwrap-worked e = worked _ e
