@@ -5,20 +5,26 @@ use mathlib.Core.Logic.{_≢_}
 use mathlib.Core.Bool.{Bool, true, false, not, _||_, _&&_, cond}
 use mathlib.Core.List.{List, [], _∷_}
 use Prim.Native.Nat.{ℕ, zero, suc, _+_, _≤_}
+use lib.Dec.{leb, ltb, eqb}
+use borrow.Author.Tests.{leb-true, ltb-false, eqb-true}
 use native.Mathlib.Omega.{arith}
 use lib.ListN.{length, take}
 use Rattle.word.specs.Lists.{sum}
 use Rattle.deck.specs.declared.DeckState.{DeckState}
 use Rattle.xoofff.specs.declared.Compressed.{Compressed}
-use Rattle.deck.specs.Strings.{blocks, framed}
-use Rattle.deck.specs.Deck.{run}
-use Rattle.deck.specs.Incremental.{output}
+use Rattle.deck.specs.Strings.{Str, b, blocks, framed}
+use Rattle.deck.specs.Deck.{run, keyMask}
+use Rattle.deck.specs.Incremental.{append, output}
+use Rattle.deck.specs.Closing.{closedBy}
+use Rattle.xoofff.specs.Leaves.{compressed}
+use Rattle.state.specs.State.{zeros}
 use Rattle.deck.proofs.Strings.{blocks-is}
 use Rattle.modes.specs.Call.{CallInput}
 use Rattle.modes.specs.Mode.{isEmpty, incremental, withA, withText, tagOf, addKeystream, stepResult, streamWrap, streamUnwrap, sane, saneParameters, saneCount}
-use Rattle.modes.specs.Rules.{SessionState, written, metadataString, wrapSteps, unwrapSteps}
+use Rattle.modes.specs.Rules.{SessionState, written, metadataString, wrapSteps, unwrapSteps, closed, nonceCheck, nonceSession, nonceOpening, nonceStartAt}
+use Rattle.modes.specs.NonceStart.{NonceFits}
 use Rattle.modes.proofs.Steps.{ShortFrames}
-use Rattle.modes.proofs.Leaves.{countStream, sane-leaf-counts}
+use Rattle.modes.proofs.Leaves.{countStream, sane-leaf-counts, closed-N, nonce-leaf-counts}
 use Rattle.steps.specs.Steps.{outputCount}
 use Rattle.steps.proofs.Buffers.{added-length, added-taken}
 use Rattle.steps.proofs.Calls.{Begun, begun-state, begun-count, within, Worked}
@@ -101,3 +107,65 @@ module _ {s : SessionState DeckState} {i : CallInput} {n : ℕ} {d : DeckState} 
   pub unwrap-worked : y ≡ i .text → Worked sane s i (unwrapSteps sane incremental s i) (g .state) (q + h .count + g .count) o t
   unfolding streamUnwrap metadataString
   unwrap-worked e = worked _ e
+
+-- ---- start
+
+-- the first check that a start meets
+abbrev firstOf : (key nonce tag : List ℕ) → ℕ
+firstOf key nonce tag = nonceCheck 16 key (length nonce) (length tag)
+
+module _ (key nonce tag : List ℕ) (n : ℕ) (h : n ≡ firstOf key nonce tag) where
+  pub fits : n ≡ 0 → NonceFits key nonce tag
+  fits z = go (leb 16 (length key)) (leb (length key) 47) (ltb 16384 (length nonce)) (eqb (length tag) 16) refl refl refl refl (sym h ∙ z)
+    where
+      go : (p q r t : Bool) → leb 16 (length key) ≡ p → leb (length key) 47 ≡ q → ltb 16384 (length nonce) ≡ r → eqb (length tag) 16 ≡ t
+          → _≡_ {A = ℕ} (cond (not (p && q)) 4 (cond r 6 (cond (not t) 7 0))) 0 → NonceFits key nonce tag
+      go true true false true d e f g z =
+          record {
+            key-long = leb-true 16 (length key) d;
+            key-short = leb-true (length key) 47 e;
+            nonce-short = ltb-false 16384 (length nonce) f;
+            tag-fits = eqb-true (length tag) 16 g;
+          }
+      go true true false false d e f g z = absurd (omega arith)
+      go true true true t d e f g z = absurd (omega arith)
+      go true false r t d e f g z = absurd (omega arith)
+      go false q r t d e f g z = absurd (omega arith)
+
+  pub start-refused : n ≢ 0 → record { number = n; count = 0; session = closed; tag = tag } ≡ nonceStartAt saneParameters key nonce tag
+  unfolding nonceStartAt
+  start-refused g = go n g ∙ ap (nonceOpening saneParameters key nonce tag) h
+    where
+      go : (k : ℕ) → k ≢ 0 → record { number = k; count = 0; session = closed; tag = tag } ≡ nonceOpening saneParameters key nonce tag k
+      go zero g = absurd (g refl)
+      go (suc k) g = refl
+
+  -- k is the key's mask, d the history with the nonce, t the tag and c what it cost
+  module _ (z : n ≡ 0) {k : List ℕ} (isKey : k ≡ keyMask key) {d : Compressed}
+      (isNonce : d ≡ compressed (record { acc = zeros; mask = k; index = 0 }) (closedBy nonce 1)) {t : List ℕ} {c : ℕ}
+      (isTag : (t ≡ run (output (d .state)) 0 (length tag)) × (c ≡ outputCount 0 (length tag))) where
+    pub start-counted : 1 + d .count + c ≡ b (length nonce) + 3
+    unfolding compressed
+    start-counted =
+        omega (
+          arith,
+          nonce-leaf-counts nonce,
+          ap (λ (r : Compressed). r .count) isNonce,
+          ap blocks (closed-N nonce),
+          isTag .1 ∙ ap (outputCount 0) (fits z .tag-fits),
+        )
+
+    pub start-accepted : record { number = 0; count = 1 + d .count + c; session = record { history = d .state; toggle = false; opened = true }; tag = t }
+        ≡ nonceStartAt saneParameters key nonce tag
+    unfolding nonceStartAt compressed
+    start-accepted =
+        (λ j. record { number = 0; count = start-counted j; session = record { history = q j; toggle = false; opened = true }; tag = u j })
+        ∙ ap (nonceOpening saneParameters key nonce tag) (sym z ∙ h)
+      where
+        q : d .state ≡ nonceSession key nonce .history
+        q =
+            ap (λ (r : Compressed). r .state) isNonce
+            ∙ ap₂ (λ (m : List ℕ) (x : Str). append (record { acc = zeros; mask = m; index = 0 }) x) isKey (closed-N nonce)
+
+        u : t ≡ tagOf saneParameters incremental (nonceSession key nonce .history)
+        u = isTag .0 ∙ ap₂ (λ (x : DeckState) (l : ℕ). run (output x) 0 l) q (fits z .tag-fits)
