@@ -10,14 +10,14 @@ use lib.ListN.{length, drop, replicate, length-replicate}
 use lib.Seq.{drop-at}
 use Rattle.deck.specs.declared.DeckState.{DeckState}
 use Rattle.xoofff.specs.declared.Compressed.{Compressed}
-use Rattle.deck.specs.Strings.{Str, blocks, framed}
+use Rattle.deck.specs.Strings.{blocks, framed}
 use Rattle.deck.specs.Incremental.{append}
 use Rattle.deck.specs.Closing.{closingByte, closedBy}
 use Rattle.xoofff.specs.Leaves.{compressed}
 use Rattle.deck.proofs.Closing.{closedBy-closing, closing-pos}
 use Rattle.modes.specs.Call.{CallInput}
 use Rattle.modes.specs.Mode.{isEmpty, incremental, withA, withText, Parameters, StepResult, Mode}
-use Rattle.modes.specs.Rules.{SessionState, Outcome, growth, firstCheck, checkNumber, countOf, metadataString, written, sameBytes, accepted, wrongTag, compareTag, ifNoCheck, wrapSteps, unwrapSteps, wrapAt, unwrapAt}
+use Rattle.modes.specs.Rules.{SessionState, Outcome, growth, firstCheck, checkNumber, metadataString, written, sameBytes, accepted, wrongTag, ifNoCheck, wrapSteps, unwrapSteps, wrapAt, unwrapAt}
 use Rattle.modes.proofs.Steps.{ShortFrames}
 use Rattle.modes.proofs.Sessions.{incremental-grows}
 use Rattle.steps.specs.Steps.{compressedIf}

@@ -11,7 +11,7 @@ use Rattle.deck.specs.Strings.{blocks, framed}
 use Rattle.deck.specs.Deck.{run}
 use Rattle.deck.specs.Incremental.{output}
 use Rattle.deck.proofs.Closing.{closing-pos}
-use Rattle.modes.specs.Mode.{isEmpty, incremental, withText, saneParameters}
+use Rattle.modes.specs.Mode.{isEmpty, saneParameters}
 use Rattle.xoofff.proofs.Leaves.{blocks-most}
 use Rattle.steps.specs.Steps.{outputCount}
 use Rattle.steps.proofs.Calls.{text-state, text-count}
