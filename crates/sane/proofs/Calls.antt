@@ -2,7 +2,7 @@
 -- its facts over. Assumes nothing.
 use mathlib.Core.Path.{_≡_, refl, sym, ap, ap₂, _∙_}
 use mathlib.Core.Logic.{_≢_}
-use mathlib.Core.Bool.{Bool, true, false, not, _&&_, cond}
+use mathlib.Core.Bool.{Bool, true, false, not, _||_, _&&_, cond}
 use mathlib.Core.List.{List, [], _∷_}
 use Prim.Native.Nat.{ℕ, zero, suc, _+_, _≤_}
 use lib.Dec.{leb, ltb, eqb}
@@ -35,9 +35,9 @@ short = record { ofA = λ e. omega arith; ofM = λ e. omega arith; ofT = λ e. o
 -- ---- counts
 
 -- the count of a string is small
-pub text-most : (x : List ℕ) (e : Bool) → cond (isEmpty x) 0 (blocks (framed x (saneParameters .frameM e))) ≤ length x + 1
-text-most [] e = omega arith
-text-most (y ∷ x) e = omega (arith, blocks-is (framed (y ∷ x) (saneParameters .frameM e)) (short .ofM e))
+pub text-most : (x : List ℕ) → cond (isEmpty x) 0 (b (length x)) ≤ length x + 1
+text-most [] = omega arith
+text-most (y ∷ x) = omega arith
 
 -- and so is a call's
 count-most : (a x : ℕ) → a ≤ 16384 → x ≤ 16384 → saneCount a x ≤ 1030
@@ -58,7 +58,7 @@ pub record Done (s : SessionState DeckState) (i : CallInput) (n : ℕ) (d : Deck
   pub sized : length y ≡ length (i .text)
   pub finished : (g .state ≡ withText saneParameters incremental (h .state) (s .toggle) y)
       × (t ≡ tagOf saneParameters incremental (g .state))
-      × (g .count ≡ cond (isEmpty y) 0 (blocks (framed y (saneParameters .frameM (s .toggle)))) + outputCount 0 16)
+      × (g .count ≡ cond (isEmpty y) 0 (b (length y)) + outputCount 0 16)
 
 module _ {s : SessionState DeckState} {i : CallInput} {n : ℕ} {d : DeckState} {c : ℕ} {h : Compressed} {q : ℕ} {o y : List ℕ} {g : Compressed} {t : List ℕ}
     (k : Done s i n d c h q o y g t) where
@@ -72,8 +72,10 @@ module _ {s : SessionState DeckState} {i : CallInput} {n : ℕ} {d : DeckState} 
         arith,
         sane-leaf-counts (i .metadata) (i .text) y (s .toggle) (k .sized),
         begun-count short (k .begun),
+        ap (λ (u : ℕ). cond (not (isEmpty (i .metadata)) || isEmpty (i .text)) u 0) (blocks-is (framed (i .metadata) (false ∷ s .toggle ∷ [])) (omega arith)),
         k .streamed .1,
         k .finished .2,
+        ap (cond (isEmpty y) 0) (blocks-is (framed y (true ∷ s .toggle ∷ [])) (omega arith)),
       )
 
   pub done-most : q + h .count + g .count ≤ 1030

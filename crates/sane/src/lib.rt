@@ -7,7 +7,7 @@ ghost use Prim.Native.Nat.{_+_, _≤_};
 ghost use lib.Dec.{ltb, leb, eqb};
 ghost use lib.ListN.{length};
 ghost use Rattle.word.specs.Lists.{sum};
-ghost use Rattle.deck.specs.Strings.{blocks, framed};
+ghost use Rattle.deck.specs.Strings.{b};
 ghost use Rattle.deck.specs.Deck.{run};
 ghost use Rattle.deck.specs.Incremental.{output};
 ghost use Rattle.deck.specs.Closing.{closingByte};
@@ -94,7 +94,7 @@ fn finish(d: DeckState, cryptogram: &[u8], e: bool, tag: &mut [u8]) -> Compresse
     requires { ⌜ (length (now cryptogram) ≤ 16384) × (length (now tag) ≡ 16) × (d .index ≤ 1048576) ⌝ }
     ensures { λ r. ⌜ (r .state ≡ withText saneParameters incremental d e (now (cryptogram .entry)))
         × (now (tag .exit) ≡ tagOf saneParameters incremental (r .state))
-        × (r .count ≡ cond (isEmpty (now (cryptogram .entry))) 0 (blocks (framed (now (cryptogram .entry)) (saneParameters .frameM e))) + outputCount 0 16) ⌝ }
+        × (r .count ≡ cond (isEmpty (now (cryptogram .entry))) 0 (b (length (now (cryptogram .entry)))) + outputCount 0 16) ⌝ }
 {
     let h = steps::append_text(d, cryptogram, closing(true, e));
     let state = h.state;

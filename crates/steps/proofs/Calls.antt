@@ -10,11 +10,12 @@ use lib.ListN.{length, drop, replicate, length-replicate}
 use lib.Seq.{drop-at}
 use Rattle.deck.specs.declared.DeckState.{DeckState}
 use Rattle.xoofff.specs.declared.Compressed.{Compressed}
-use Rattle.deck.specs.Strings.{blocks, framed}
+use Rattle.deck.specs.Strings.{b, framed}
 use Rattle.deck.specs.Incremental.{append}
 use Rattle.deck.specs.Closing.{closingByte, closedBy}
 use Rattle.xoofff.specs.Leaves.{compressed}
 use Rattle.deck.proofs.Closing.{closedBy-closing, closing-pos}
+use Rattle.deck.proofs.Strings.{blocks-is}
 use Rattle.modes.specs.Call.{CallInput}
 use Rattle.modes.specs.Mode.{isEmpty, incremental, withA, withText, Parameters, StepResult, Mode}
 use Rattle.modes.specs.Rules.{SessionState, Outcome, growth, firstCheck, checkNumber, metadataString, written, sameBytes, accepted, wrongTag, ifNoCheck, wrapSteps, unwrapSteps, wrapAt, unwrapAt}
@@ -42,12 +43,12 @@ module _ (t : Bool) (d : DeckState) (x : List ℕ) (c : ℕ) (f : List Bool) (h 
       go true = refl
       go false = refl
 
-  pub count-if : h .count ≡ cond t (blocks (framed x f)) 0
+  pub count-if : h .count ≡ cond t (b (length x)) 0
   unfolding compressed
   count-if = ap (λ (r : Compressed). r .count) framed-if ∙ go t
     where
-      go : (t : Bool) → compressedIf t d (framed x f) .count ≡ cond t (blocks (framed x f)) 0
-      go true = refl
+      go : (t : Bool) → compressedIf t d (framed x f) .count ≡ cond t (b (length x)) 0
+      go true = blocks-is (framed x f) short
       go false = refl
 
 pub cond-not : {A : Type 0} (t : Bool) (p q : A) → cond (not t) p q ≡ cond t q p
@@ -60,8 +61,8 @@ module _ (p : Parameters) (f : ShortFrames p) (d : DeckState) (e : Bool) (x : Li
   pub text-state : h .state ≡ withText p incremental d e x
   text-state = state-if (not (isEmpty x)) d x c (p .frameM e) h (f .ofM e) closes is ∙ cond-not (isEmpty x) (append d (framed x (p .frameM e))) d
 
-  pub text-count : h .count ≡ cond (isEmpty x) 0 (blocks (framed x (p .frameM e)))
-  text-count = count-if (not (isEmpty x)) d x c (p .frameM e) h (f .ofM e) closes is ∙ cond-not (isEmpty x) (blocks (framed x (p .frameM e))) 0
+  pub text-count : h .count ≡ cond (isEmpty x) 0 (b (length x))
+  text-count = count-if (not (isEmpty x)) d x c (p .frameM e) h (f .ofM e) closes is ∙ cond-not (isEmpty x) (b (length x)) 0
 
 -- ---- what is known once the string of A is in the history
 
@@ -113,7 +114,7 @@ module _ {m : Mode} (f : ShortFrames (m .parameters)) {s : SessionState DeckStat
       state-if (not (isEmpty (i .metadata)) || isEmpty (i .text)) d (i .metadata) c (m .parameters .frameA (s .toggle)) h (f .ofA (s .toggle)) (k .closes) (k .isA)
       ∙ ap (λ (u : DeckState). withA (m .parameters) incremental u (s .toggle) (i .metadata) (i .text)) (k .held)
 
-  pub begun-count : h .count ≡ cond (not (isEmpty (i .metadata)) || isEmpty (i .text)) (blocks (framed (i .metadata) (m .parameters .frameA (s .toggle)))) 0
+  pub begun-count : h .count ≡ cond (not (isEmpty (i .metadata)) || isEmpty (i .text)) (b (length (i .metadata))) 0
   begun-count =
       count-if (not (isEmpty (i .metadata)) || isEmpty (i .text)) d (i .metadata) c (m .parameters .frameA (s .toggle)) h (f .ofA (s .toggle)) (k .closes) (k .isA)
 

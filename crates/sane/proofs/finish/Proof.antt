@@ -7,7 +7,7 @@ use native.Mathlib.Omega.{arith}
 use lib.ListN.{length}
 use denote.Ref.{now}
 use borrow.Author.Needs.{needs}
-use Rattle.deck.specs.Strings.{blocks, framed}
+use Rattle.deck.specs.Strings.{b}
 use Rattle.deck.specs.Deck.{run}
 use Rattle.deck.specs.Incremental.{output}
 use Rattle.deck.proofs.Closing.{closing-pos}
@@ -24,20 +24,19 @@ append-text-requires c κs =
     let s = c .before .before .before in
     (omega (arith, c .closing .ensures, closing-pos (true ∷ s .args .e ∷ [])), omega (arith, s .pre .0), s .pre .2)
 
--- the history's string, and the tag's permutations
-counted : (c : tie.After-struct-known) → (let s = c .before .before .before .before .before .before .before .before .before .before in
-    c .before .before .before .before .before .before .append-text .result .count
-    ≡ cond (isEmpty (now (s .args .cryptogram))) 0 (blocks (framed (now (s .args .cryptogram)) (saneParameters .frameM (s .args .e)))))
+-- the permutations of the cryptogram's string
+counted : (c : tie.After-append-text) → (let x = now (c .before .before .before .before .args .cryptogram) in
+    c .append-text .result .count ≡ cond (isEmpty x) 0 (b (length x)))
 counted c =
-    let q = c .before .before .before .before .before .before in
-    let a = q .before .before .before .before .args in
-    text-count saneParameters short (a .d) (a .e) (now (a .cryptogram)) (q .before .closing .result) (q .append-text .result) (q .before .closing .ensures)
-    (q .append-text .ensures)
+    let a = c .before .before .before .before .args in
+    text-count saneParameters short (a .d) (a .e) (now (a .cryptogram)) (c .before .closing .result) (c .append-text .result) (c .before .closing .ensures)
+    (c .append-text .ensures)
 
 add-count : tie.Need-add-count
 add-count c =
-    let s = c .before .before .before .before .before .before .before .before .before .before in
-    omega (arith, counted c, text-most (now (s .args .cryptogram)) (s .args .e), c .before .before .before .tag-of .ensures .1, blocks-most 0 (length (now (s .args .tag))))
+    let q = c .before .before .before .before .before .before in
+    let s = q .before .before .before .before in
+    omega (arith, counted q, text-most (now (s .args .cryptogram)), c .before .before .before .tag-of .ensures .1, blocks-most 0 (length (now (s .args .tag))))
 
 returns : tie.Need-returns
 returns c =
@@ -48,7 +47,7 @@ returns c =
       text-state saneParameters short (a .d) (a .e) (now (a .cryptogram)) (q .before .closing .result) (q .append-text .result) (q .before .closing .ensures)
           (q .append-text .ensures),
       t .ensures .0 ∙ ap (run (output (q .append-text .result .state)) 0) (s .pre .1),
-      λ i. counted c i + (t .ensures .1 ∙ ap (outputCount 0) (s .pre .1)) i,
+      λ i. counted q i + (t .ensures .1 ∙ ap (outputCount 0) (s .pre .1)) i,
     )
 
 pub finish-spec : {M : Type 1} → statement M
