@@ -14,22 +14,22 @@ use Rattle.sane.proofs.Calls.{fits, start-refused, start-counted, start
 use Rattle.sane.proofs.start.Statement.{statement}
 use Rattle.sane.proofs.start.Tie as tie
 
--- ---- places before a place
+-- ---- from a place back to an earlier one: the entry; where no check was met
 
 abbrev entry : tie.After-start-check → tie.Start
 entry c = c .before .before .before .before
 
-abbrev unchecked : tie.After-tag-of → tie.Else1
-unchecked c = c .before .before .before .before .before
+abbrev passed : tie.After-tag-of → tie.Else1
+passed c = c .before .before .before .before .before
 
 -- ---- what is known there
 
 within : (c : tie.Else1) → (let a = entry (c .before) .args in NonceFits (now (a .key)) (now (a .nonce)) (now (a .tag)))
 within c = let a = entry (c .before) .args in fits (now (a .key)) (now (a .nonce)) (now (a .tag)) (c .before .start-check .result) (c .before .start-check .ensures) (c .if1 .left)
 
-counted : (c : tie.After-tag-of) → 1 + c .before .before .before .compress .result .count + c .tag-of .result ≡ b (length (now (entry (unchecked c .before) .args .nonce))) + 3
+counted : (c : tie.After-tag-of) → 1 + c .before .before .before .compress .result .count + c .tag-of .result ≡ b (length (now (entry (passed c .before) .args .nonce))) + 3
 counted c =
-    let q = unchecked c in
+    let q = passed c in
     let a = entry (q .before) .args in
     start-counted (now (a .key)) (now (a .nonce)) (now (a .tag)) (q .before .start-check .result) (q .before .start-check .ensures) (q .if1 .left)
     (c .before .before .before .before .key-mask .ensures) (c .before .before .before .compress .ensures) (c .tag-of .ensures)
@@ -50,15 +50,15 @@ tag-of-requires : tie.Need-tag-of-requires
 tag-of-requires c κs = omega (arith, within (c .before .before .before .before) .tag-fits)
 
 add-result : tie.Need-add-result
-add-result c = omega (arith, counted (c .before .before .before), within (unchecked (c .before .before .before)) .nonce-short)
+add-result c = omega (arith, counted (c .before .before .before), within (passed (c .before .before .before)) .nonce-short)
 
 add-result-2 : tie.Need-add-result-2
-add-result-2 c = omega (arith, counted (c .before .before .before), within (unchecked (c .before .before .before)) .nonce-short)
+add-result-2 c = omega (arith, counted (c .before .before .before), within (passed (c .before .before .before)) .nonce-short)
 
 returns-2 : tie.Need-returns-2
 returns-2 c =
     let t = c .before .before .before .before in
-    let q = unchecked t in
+    let q = passed t in
     let a = entry (q .before) .args in
     ap (λ (r : SaneResult). nonceResult r (t .tag-of .last .1 .0)) (c .result2 .ensures)
     ∙ start-accepted (now (a .key)) (now (a .nonce)) (now (a .tag)) (q .before .start-check .result) (q .before .start-check .ensures) (q .if1 .left)

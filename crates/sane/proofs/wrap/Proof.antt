@@ -1,13 +1,13 @@
 -- `sane::wrap` meets its contract. Assumes nothing.
 use mathlib.Core.Path.{_≡_, refl, sym, ap, _∙_}
+use Prim.Native.Nat.{_≤_}
 use native.Mathlib.Omega.{arith}
 use lib.ListN.{length, take}
+use lib.Seq.{length-take-le}
 use denote.Ref.{now}
 use borrow.Author.Needs.{needs}
-use Rattle.deck.specs.Incremental.{output}
 use Rattle.modes.specs.Call.{CallInput}
 use Rattle.modes.specs.Mode.{sane}
-use Rattle.steps.proofs.Buffers.{added-length, added-taken}
 use Rattle.steps.proofs.Calls.{Begun, begins, begun-index, Within, within, wrap-refused, wrap-accepted}
 use Rattle.sane.specs.declared.SaneResult.{SaneResult}
 use Rattle.sane.specs.Session.{stateOf, callResult, handed}
@@ -15,19 +15,19 @@ use Rattle.sane.proofs.Calls.{short, Done, done-most, wrap-worked}
 use Rattle.sane.proofs.wrap.Statement.{statement}
 use Rattle.sane.proofs.wrap.Tie as tie
 
--- ---- places before a place
+-- ---- from a place back to an earlier one: the entry; where no check was met; the history with A; the cryptogram
 
 abbrev entry : tie.After-check → tie.Start
 entry c = c .before .before .before .before .before .before
 
-abbrev unchecked : tie.After-append-metadata → tie.Else1
-unchecked c = c .before .before
+abbrev passed : tie.After-append-metadata → tie.Else1
+passed c = c .before .before
 
-abbrev gained : tie.After-add-stream → tie.After-append-metadata
-gained c = c .before .before .before
+abbrev metadata : tie.After-add-stream → tie.After-append-metadata
+metadata c = c .before .before .before
 
-abbrev streamed : tie.After-finish → tie.After-add-stream
-streamed c = c .before .before .before .before .before
+abbrev cryptogram : tie.After-finish → tie.After-add-stream
+cryptogram c = c .before .before .before .before .before
 
 -- ---- what is known there
 
@@ -38,26 +38,26 @@ input c = let a = entry c .args in handed (now (a .metadata)) (now (a .message))
 limits : (c : tie.Else1) → Within sane (stateOf (entry (c .before) .args .s)) (input (c .before))
 limits c = within sane (stateOf (entry (c .before) .args .s)) (input (c .before)) (c .before .check .ensures) (c .if1 .left)
 
-begun : (c : tie.After-append-metadata) → (let q = unchecked c .before in
+begun : (c : tie.After-append-metadata) → (let q = passed c .before in
     Begun sane (stateOf (entry q .args .s)) (input q) (q .check .result) (q .before .deck-of .result) (c .before .closing .result) (c .append-metadata .result))
 begun c =
-    let q = unchecked c in
+    let q = passed c in
     record { checked = q .before .check .ensures; none = q .if1 .left; held = q .before .before .deck-of .ensures; closes = c .before .closing .ensures; isA = c .append-metadata .ensures }
 
--- the cryptogram is as long as the message
-taken : (c : tie.After-add-stream) → (let x = input (unchecked (gained c) .before) .text in length (take (length x) (c .add-stream .last .1 .1 .0)) ≡ length x)
-taken c =
-    let q = unchecked (gained c) .before in
-    let d = q .before .deck-of .result in
-    ap length (added-taken (output d) 16 (input q .text) (input q .out) _ (c .add-stream .ensures .0)) ∙ added-length (output d) 16 (input q .text)
+-- the output buffer holds the message, so the cryptogram is as long as it
+holds : (c : tie.After-add-stream) → length (input (passed (metadata c) .before) .text) ≤ length (c .add-stream .last .1 .1 .0)
+holds c = omega (arith, limits (passed (metadata c)) .holds, c .add-stream .kept .1 .1 .0)
 
-done : (c : tie.After-finish) → (let x = streamed c in let b = gained x in let q = unchecked b .before in
+taken : (c : tie.After-add-stream) → (let x = input (passed (metadata c) .before) .text in length (take (length x) (c .add-stream .last .1 .1 .0)) ≡ length x)
+taken c = length-take-le _ _ (holds c)
+
+done : (c : tie.After-finish) → (let x = cryptogram c in let b = metadata x in let q = passed b .before in
     Done (stateOf (entry q .args .s)) (input q) (q .check .result) (q .before .deck-of .result) (b .before .closing .result) (b .append-metadata .result)
     (x .add-stream .result) (x .add-stream .last .1 .1 .0) (take (length (input q .text)) (x .add-stream .last .1 .1 .0)) (c .finish .result)
     (c .finish .last .1 .1 .1 .0))
 done c =
-    let x = streamed c in
-    record { begun = begun (gained x); streamed = x .add-stream .ensures; sized = taken x; finished = c .finish .ensures }
+    let x = cryptogram c in
+    record { begun = begun (metadata x); streamed = x .add-stream .ensures; sized = taken x; finished = c .finish .ensures }
 
 -- ---- the needs
 
@@ -74,33 +74,25 @@ append-metadata-requires c κs =
     begins sane (stateOf (entry q .args .s)) (input q) (limits (c .before)) (q .before .deck-of .ensures) (c .closing .ensures)
 
 add-stream-requires : tie.Need-add-stream-requires
-add-stream-requires c κs = let w = limits (unchecked (c .before .before)) in (w .text, w .holds)
-
-slice-reshare-prefix-finish : tie.Need-slice-reshare-prefix-finish
-slice-reshare-prefix-finish c =
-    let x = c .before .before in
-    omega (arith, limits (unchecked (gained x)) .holds, x .add-stream .kept .1 .1 .0)
-
-slice-aggregate-finish : tie.Need-slice-aggregate-finish
-slice-aggregate-finish c = sym (taken (c .before .before .before))
+add-stream-requires c κs = let w = limits (passed (c .before .before)) in (w .text, w .holds)
 
 finish-requires : tie.Need-finish-requires
 finish-requires c κs =
     let x = c .before .before .before .before in
-    let w = limits (unchecked (gained x)) in
-    (omega (arith, taken x, w .text), w .tag, begun-index short (begun (gained x)))
+    let w = limits (passed (metadata x)) in
+    (omega (arith, taken x, w .text), w .tag, begun-index short (begun (metadata x)))
 
 returns-2 : tie.Need-returns-2
 returns-2 c =
     let f = c .before .before .before .before .before .before in
-    let q = unchecked (gained (streamed f)) .before in
-    ap (λ (r : SaneResult). callResult r (streamed f .add-stream .last .1 .1 .0) (f .finish .last .1 .1 .1 .0)) (c .result2 .ensures)
+    let q = passed (metadata (cryptogram f)) .before in
+    ap (λ (r : SaneResult). callResult r (cryptogram f .add-stream .last .1 .1 .0) (f .finish .last .1 .1 .1 .0)) (c .result2 .ensures)
     ∙ wrap-accepted sane (stateOf (entry q .args .s)) (input q) (wrap-worked (done f) refl)
 
 pub wrap-spec : {M : Type 1} → statement M
 wrap-spec =
     tie.close
     (tie.spec (λ c κs. search needs) (λ c κs. search needs) (λ c κs. search needs) returns (λ c κs. search needs) append-metadata-requires
-    add-stream-requires slice-reshare-prefix-finish slice-aggregate-finish finish-requires
+    add-stream-requires (λ c. holds (c .before .before)) (λ c. sym (taken (c .before .before .before))) finish-requires
     (λ c. omega (arith, done-most (done (c .before .before .before .before)))) (λ c. omega (arith, done-most (done (c .before .before .before .before .before))))
     (λ c κs. search needs) (λ c. search needs) (λ c. search needs) returns-2)

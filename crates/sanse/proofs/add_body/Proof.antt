@@ -8,14 +8,15 @@ use Rattle.deck.specs.Strings.{b}
 use Rattle.deck.specs.Incremental.{append, output}
 use Rattle.deck.specs.Closing.{closedBy}
 use Rattle.steps.specs.Steps.{outputCount}
-use Rattle.sanse.proofs.Calls.{body-none, body-most, body-done}
+use Rattle.steps.proofs.Buffers.{none-added}
+use Rattle.sanse.proofs.Calls.{body-most, body-done}
 use Rattle.sanse.proofs.add_body.Statement.{statement}
 use Rattle.sanse.proofs.add_body.Tie as tie
 
 returns : tie.Need-returns
 returns c =
     let a = c .before .before .before .before .args in
-    body-none (output (append (a .d) (closedBy (now (a .tag)) (a .closing)))) (b (length (now (a .tag))) + outputCount 0 (length (now (a .text)))) (now (a .text)) (now (a .out)) (c .if1 .taken)
+    none-added (output (append (a .d) (closedBy (now (a .tag)) (a .closing)))) 0 (b (length (now (a .tag))) + outputCount 0 (length (now (a .text)))) (now (a .text)) (now (a .out)) (c .if1 .taken)
 
 add-result : tie.Need-add-result
 add-result c =
