@@ -1,5 +1,5 @@
--- The layout of an envelope: document 01, "Envelope" (limits of lengths: "Counts and limits"). A header is a thing of its own, a function of its
--- letter, its group and its two lengths. Assumes nothing.
+-- The layout of an envelope: document 01, "Envelope" (limits of lengths: "Counts and limits"), and document 02, request 2 (the letter N). A header
+-- is a thing of its own, a function of its letter, its group and its two lengths. Assumes nothing.
 use Prim.Native.Nat.{ℕ, _≤_}
 use mathlib.Core.Path.{_≡_}
 use mathlib.Core.Bool.{cond}
@@ -8,9 +8,12 @@ use lib.ListN.{length}
 use lib.Dec.{eqb}
 use Rattle.decimal.specs.Decimal.{decimal}
 
--- the characters `S` and `,`
+-- the letters `S` (a message of SANSE) and `N` (of SANE), and the comma
 abbrev pub letterS : ℕ
 letterS = 83
+
+abbrev pub letterN : ℕ
+letterN = 78
 
 abbrev pub comma : ℕ
 comma = 44
@@ -24,13 +27,13 @@ maxLength = 16384
 
 -- how many bytes the tag has, by the letter; 0 for a byte that is no letter of an envelope
 unfoldable pub tagLength : ℕ → ℕ
-tagLength letter = cond (eqb letter letterS) 32 0
+tagLength letter = cond (eqb letter letterS) 32 (cond (eqb letter letterN) 16 0)
 
 -- a number of the header: in decimal, and a comma
 unfoldable pub field : ℕ → List ℕ
 field n = decimal n ++ (comma ∷ [])
 
--- the header's bytes: `S,group,A length,M length,`
+-- the header's bytes: `letter,group,A length,M length,`
 unfoldable pub header : (letter group alen mlen : ℕ) → List ℕ
 header letter group alen mlen = letter ∷ comma ∷ (field group ++ (field alen ++ field mlen))
 
