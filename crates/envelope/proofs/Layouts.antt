@@ -27,7 +27,7 @@ pub header-longest : {letter group alen mlen : ℕ} → InRange letter group ale
 header-longest {letter} {group} {alen} {mlen} h =
     omega (arith, header-length letter group alen mlen, decimal-within 1 group (omega arith), decimal-within 4 alen (omega arith), decimal-within 4 mlen (omega arith))
 
--- There is one of 17 with every letter, as `S,31,16384,16384,`.
+-- There is one of 17 for every letter, as `S,31,16384,16384,`.
 pub header-of-17 : (letter : ℕ) → length (header letter 31 16384 16384) ≡ 17
 unfolding decimal decimalWithin
 header-of-17 letter = header-length letter 31 16384 16384
@@ -47,12 +47,15 @@ pub tag-of-N : tagLength letterN ≡ 16
 unfolding tagLength
 tag-of-N = refl
 
--- a byte is S, N or neither, and then it has no tag
-letter-cases : (letter : ℕ) → (letter ≡ letterS) ⊎ ((letter ≡ letterN) ⊎ (tagLength letter ≡ 0))
+-- a byte is S, or N, or has no tag
+abbrev LetterCases : ℕ → Type 0
+LetterCases letter = (letter ≡ letterS) ⊎ ((letter ≡ letterN) ⊎ (tagLength letter ≡ 0))
+
+letter-cases : (letter : ℕ) → LetterCases letter
 unfolding tagLength
 letter-cases letter = go (eqb letter letterS) (eqb letter letterN) refl refl
   where
-    go : (s n : Bool) → eqb letter letterS ≡ s → eqb letter letterN ≡ n → (letter ≡ letterS) ⊎ ((letter ≡ letterN) ⊎ (tagLength letter ≡ 0))
+    go : (s n : Bool) → eqb letter letterS ≡ s → eqb letter letterN ≡ n → LetterCases letter
     go true n e f = inl (eqb-true letter letterS e)
     go false true e f = inr (inl (eqb-true letter letterN f))
     go false false e f = inr (inr (simp (e, f)))
@@ -64,7 +67,7 @@ unknown-letter letter = (
   (λ neither. go neither (letter-cases letter)),
 )
   where
-    go : ((letter ≡ letterS → ⊥) × (letter ≡ letterN → ⊥)) → (letter ≡ letterS) ⊎ ((letter ≡ letterN) ⊎ (tagLength letter ≡ 0)) → tagLength letter ≡ 0
+    go : ((letter ≡ letterS → ⊥) × (letter ≡ letterN → ⊥)) → LetterCases letter → tagLength letter ≡ 0
     go neither (inl e) = absurd (neither .0 e)
     go neither (inr (inl e)) = absurd (neither .1 e)
     go neither (inr (inr z)) = z
@@ -73,7 +76,7 @@ unknown-letter letter = (
 pub tag-bound : (letter : ℕ) → tagLength letter ≤ 32
 tag-bound letter = go (letter-cases letter)
   where
-    go : (letter ≡ letterS) ⊎ ((letter ≡ letterN) ⊎ (tagLength letter ≡ 0)) → tagLength letter ≤ 32
+    go : LetterCases letter → tagLength letter ≤ 32
     go (inl e) = omega (arith, tag-of-S, ap tagLength e)
     go (inr (inl e)) = omega (arith, tag-of-N, ap tagLength e)
     go (inr (inr z)) = omega arith

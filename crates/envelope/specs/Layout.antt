@@ -29,6 +29,10 @@ maxLength = 16384
 unfoldable pub tagLength : ℕ → ℕ
 tagLength letter = cond (eqb letter letterS) 32 (cond (eqb letter letterN) 16 0)
 
+-- a letter of an envelope is a byte that has a tag
+abbrev pub Known : ℕ → Type 0
+Known letter = tagLength letter ≡ 0 → ⊥
+
 -- a number of the header: in decimal, and a comma
 unfoldable pub field : ℕ → List ℕ
 field n = decimal n ++ (comma ∷ [])
@@ -44,7 +48,7 @@ envelope letter group metadata cryptogram tag =
 
 -- letter, group and lengths are within their ranges
 pub record InRange (letter group alen mlen : ℕ) : Type 0 where
-  pub known : tagLength letter ≡ 0 → ⊥
+  pub known : Known letter
   pub group-fits : group ≤ maxGroup
   pub metadata-fits : alen ≤ maxLength
   pub message-fits : mlen ≤ maxLength
