@@ -18,9 +18,9 @@
  * Every proved function takes any bytes and returns. Its number is 0 where the call was accepted, and otherwise the number of the first check
  * that it met (PEVGHAZO_* in numbers.h). A refusal has count 0 and leaves sessions, buffers and the day's count as they were, but for two:
  *
- *   - A refused pevghazo_start or pevghazo_sane_start closes the record that it was lent. The session that the record held is lost with all that it could still
- *     seal or open; no call gives it back. Who wants to keep it until the new one has started hands over another record. (A refused
- *     pevghazo_open_group leaves the group's session.)
+ *   - A refused pevghazo_start or pevghazo_sane_start closes the record that it was lent. The session that the record held is lost with all
+ *     that it could still seal or open; no call gives it back. Who wants to keep it until the new one has started hands over another record.
+ *     (A refused pevghazo_open_group leaves the group's session.)
  *   - Number 11 returns the real count, adds it to the day's count in the table, and sets the first bytes of the output buffer, as many as
  *     the cryptogram has, to zero. The session stays as it was.
  *
