@@ -128,12 +128,17 @@ impl Record {
 
 impl Drop for Record {
     fn drop(&mut self) {
-        let record: *mut Record = self;
-        // SAFETY: the record is borrowed alone, and zero in all bytes is a record. The write is volatile, so that it is not
-        // left out as one that nobody reads; what it overwrites has no drop of its own.
-        unsafe { record.write_volatile(Record::closed()) };
-        compiler_fence(Ordering::SeqCst);
+        overwrite(self, Record::closed());
     }
+}
+
+/// Writes a closed record over one that is being dropped.
+pub(super) fn overwrite<R>(record: &mut R, closed: R) {
+    let record: *mut R = record;
+    // SAFETY: the record is borrowed alone. The write is volatile, so that it is not left out as one that nobody reads; what it
+    // overwrites is being dropped already.
+    unsafe { record.write_volatile(closed) };
+    compiler_fence(Ordering::SeqCst);
 }
 
 #[cfg(test)]
