@@ -3,18 +3,20 @@
 ghost use mathlib.Core.Path.{_≡_};
 ghost use mathlib.Core.Bool.{_&&_, not, cond};
 ghost use mathlib.Core.List.{[], _∷_};
-ghost use Prim.Native.Nat.{_+_, _≤_, _<_};
+ghost use Prim.Native.Nat.{_+_, _≤_};
 ghost use lib.Dec.{ltb, leb, eqb};
 ghost use lib.ListN.{length};
 ghost use Rattle.word.specs.Lists.{sum};
+ghost use Rattle.deck.specs.Strings.{b};
 ghost use Rattle.deck.specs.Deck.{run};
 ghost use Rattle.deck.specs.Incremental.{output};
 ghost use Rattle.deck.specs.Closing.{closingByte};
-ghost use Rattle.modes.specs.Mode.{sane, saneParameters, incremental, isEmpty};
+ghost use Rattle.modes.specs.Mode.{sane, saneParameters, incremental, isEmpty, withText, tagOf};
 ghost use Rattle.modes.specs.Rules.{growth, firstCheck, written, wrapAt, unwrapAt, nonceStartAt};
 ghost use Rattle.steps.specs.Steps.{outputCount};
 ghost use Rattle.sane.specs.Session.{stateOf, nonceResult, callResult, handed};
 use deck::DeckState;
+use xoofff::Compressed;
 
 // A session of SANE, a type of its own: the accumulator, the mask at the index, the input index, e, and whether it is open.
 #[repr(C)]
@@ -85,6 +87,19 @@ fn add_stream(d: DeckState, text: &[u8], out: &mut [u8]) -> u32
         return 0;
     }
     steps::add_keystream(d, 16, text, out)
+}
+
+// The history gains the cryptogram, if it is not empty, and its tag fills a buffer of 16 bytes; gives the history and the permutations done.
+fn finish(d: DeckState, cryptogram: &[u8], e: bool, tag: &mut [u8]) -> Compressed
+    requires { ⌜ (length (now cryptogram) ≤ 16384) × (length (now tag) ≡ 16) × (d .index ≤ 1048576) ⌝ }
+    ensures { λ r. ⌜ (r .state ≡ withText saneParameters incremental d e (now (cryptogram .entry)))
+        × (now (tag .exit) ≡ tagOf saneParameters incremental (r .state))
+        × (r .count ≡ cond (isEmpty (now (cryptogram .entry))) 0 (b (length (now (cryptogram .entry)))) + outputCount 0 16) ⌝ }
+{
+    let h = steps::append_text(d, cryptogram, closing(true, e));
+    let state = h.state;
+    let count = h.count + steps::tag_of(state, tag);
+    Compressed { state, count }
 }
 
 // What a record keeps of its history.
@@ -167,13 +182,12 @@ pub fn wrap(
     if number != 0 {
         return result(number, 0, d, e, s.opened);
     }
-    let c = add_stream(d, message, out);
     let h = steps::append_metadata(d, metadata, message, closing(false, e));
     let d1 = h.state;
-    let g = steps::append_text(d1, &out[..n], closing(true, e));
+    let c = add_stream(d, message, out);
+    let g = finish(d1, &out[..n], e, tag);
     let d2 = g.state;
-    let t = steps::tag_of(d2, tag);
-    result(0, c + h.count + g.count + t, d2, !e, s.opened)
+    result(0, c + h.count + g.count, d2, !e, s.opened)
 }
 
 // Unwraps a cryptogram: the message goes to the start of `out`. Checks 5 to 9, and 11 for a tag that differs, whose 16 bytes are all compared.
@@ -194,14 +208,13 @@ pub fn unwrap(
     if number != 0 {
         return result(number, 0, d, e, s.opened);
     }
-    let c = add_stream(d, cryptogram, out);
     let h = steps::append_metadata(d, metadata, cryptogram, closing(false, e));
     let d1 = h.state;
-    let g = steps::append_text(d1, cryptogram, closing(true, e));
-    let d2 = g.state;
+    let c = add_stream(d, cryptogram, out);
     let mut found = [0u8; 16];
-    let t = steps::tag_of(d2, &mut found);
-    let count = c + h.count + g.count + t;
+    let g = finish(d1, cryptogram, e, &mut found);
+    let d2 = g.state;
+    let count = c + h.count + g.count;
     if steps::same_bytes(tag, &found) {
         return result(0, count, d2, !e, s.opened);
     }

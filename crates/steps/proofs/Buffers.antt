@@ -1,6 +1,7 @@
 -- What the loops over buffers hold, over plain values. Assumes nothing.
 use mathlib.Core.Path.{_≡_, refl, sym, ap, ap₂, _∙_}
-use mathlib.Core.Bool.{Bool, true, false, _&&_}
+use mathlib.Core.Bool.{Bool, true, false, _&&_, cond}
+use mathlib.Core.Logic.{_≢_}
 use mathlib.Core.List.{List, [], _∷_, _++_, append-nil}
 use Prim.Native.Nat.{ℕ, zero, suc, _+_, _<_}
 use native.Mathlib.Numerals.{add-one}
@@ -13,6 +14,7 @@ use borrow.Author.Tests.{eq-eqb, ne-eqb, eqb-true, eqb-false}
 use Rattle.word.specs.Lists.{sum}
 use Rattle.word.proofs.Lists.{tabulate-length, zeros-sum, sum-length, xor-undone}
 use Rattle.deck.specs.Deck.{run}
+use Rattle.modes.specs.Mode.{isEmpty}
 use Rattle.modes.specs.Rules.{written, sameBytes}
 
 -- ---- a run that is copied to the start of a buffer
@@ -50,6 +52,27 @@ tag-filled f t t₁ t₂ e g =
         ∙ ap (λ (l : List ℕ). replicate (length t) 0 ++ l) (drop-length t)
         ∙ append-nil (replicate (length t) 0)
 
+-- output that is added to a text takes nothing from its length
+pub added-length : (f : ℕ → ℕ) (i : ℕ) (text : List ℕ) → length (sum text (run f i (length text))) ≡ length text
+added-length f i text = sum-length text (run f i (length text)) (omega (arith, tabulate-length (length text) (λ j. f (i + j))))
+
+-- the sum stands at the start of the buffer that it was written to
+pub added-taken : (f : ℕ → ℕ) (i : ℕ) (text d d₁ : List ℕ) → d₁ ≡ written (sum text (run f i (length text))) d
+    → take (length text) d₁ ≡ sum text (run f i (length text))
+added-taken f i text d d₁ e = ap (take (length text)) e ∙ take-at (sum text (run f i (length text))) _ (length text) (added-length f i text)
+
+-- an empty text: nothing is added, at no cost
+pub none-added : (f : ℕ → ℕ) (i n : ℕ) (text d : List ℕ) → length text ≡ 0
+    → (d ≡ written (sum text (run f i (length text))) d) × (0 ≡ cond (isEmpty text) 0 n)
+unfolding sum
+none-added f i n [] d h = (refl, refl)
+none-added f i n (y ∷ text) d h = absurd (omega (arith, h))
+
+-- the cost of one that is not empty
+pub some-counted : (n c : ℕ) (text : List ℕ) → length text ≢ 0 → c ≡ n → c ≡ cond (isEmpty text) 0 n
+some-counted n c [] h e = absurd (h refl)
+some-counted n c (y ∷ text) h e = e
+
 -- to a text that was copied to the start of a buffer
 pub part-added : (f : ℕ → ℕ) (i : ℕ) (text d d₁ p : List ℕ) → d₁ ≡ written text d → p ≡ sum (take (length text) d₁) (run f i (length (take (length text) d₁)))
     → p ++ drop (length text) d₁ ≡ written (sum text (run f i (length text))) d
@@ -62,7 +85,7 @@ part-added f i text d d₁ p e g = ap₂ (λ (l m : List ℕ). l ++ m) (g ∙ ap
     rest =
         ap (drop (length text)) e
         ∙ drop-at text _ (length text) refl
-        ∙ ap (λ (n : ℕ). drop n d) (sym (sum-length text (run f i (length text)) (omega (arith, tabulate-length (length text) (λ j. f (i + j))))))
+        ∙ ap (λ (n : ℕ). drop n d) (sym (added-length f i text))
 
 pub part-length : (text d d₁ : List ℕ) → d₁ ≡ written text d → length (take (length text) d₁) ≡ length text
 part-length text d d₁ e = ap length (ap (take (length text)) e ∙ take-at text _ (length text) refl)

@@ -1,3 +1,4 @@
 -- Laws that belong to no one function.
 pub mod Buffers
 pub mod History
+pub mod Calls
