@@ -11,10 +11,12 @@ pub mod Converse
 pub mod Exactly
 pub mod AnySession
 pub mod Start
+pub mod NonceStart
 pub mod Demand3
 pub mod OneCall
 pub mod Demands
 pub mod Fresh
+pub mod SaneDemands
 pub mod Edges
 pub mod Leaves
 pub mod Codes

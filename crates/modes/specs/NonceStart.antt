@@ -20,10 +20,9 @@ pub record NonceAccepted (key nonce : List ℕ) (o : NonceOpening) : Type 0 wher
   pub index : o .session .history .index ≡ (length nonce / 48 + 1) + 1
 
 -- refused by the number n: count 0, a closed session, zero in all its numbers, and the tag buffer as it was
-abbrev pub NonceRefused : (tag : List ℕ) (n : ℕ) → NonceOpening → Type 0
-NonceRefused tag n o =
-    o
-    ≡ record {
+abbrev pub nonceRefused : (tag : List ℕ) (n : ℕ) → NonceOpening
+nonceRefused tag n =
+    record {
       number = n;
       count = 0;
       session = record {
@@ -62,4 +61,4 @@ module _ (key nonce tag : List ℕ) where
     pub six : (o .number ≡ 6) ↔ ((Nonce4 → ⊥) × Nonce6)
     pub seven : (o .number ≡ 7) ↔ ((Nonce4 → ⊥) × (Nonce6 → ⊥) × Nonce7)
     pub opens : o .number ≡ 0 → NonceAccepted key nonce o
-    pub refused : o .number ≢ 0 → NonceRefused tag (o .number) o
+    pub refused : o .number ≢ 0 → o ≡ nonceRefused tag (o .number)

@@ -25,6 +25,7 @@
 //! | what | where |
 //! |---|---|
 //! | one end of a session, as a group holds it | [`Session`] |
+//! | one end of a session of a group that keeps a counter | [`SaneSession`] |
 //! | the office's 32 sessions with a day's allowance | [`Table`] |
 //! | what is handed over, by name | [`Plain`], [`Arrival`] |
 //! | the bytes in which a sealed message travels | [`envelope`] |
@@ -33,7 +34,7 @@
 //! | the C interface itself, on slices | [`raw`] |
 //!
 //! All work is done by the C library, whose functions are proved to meet their definitions for all bytes. This crate adds types:
-//! a session cannot be copied by accident, a tag has 32 bytes, a table has 32 sessions. It also sees to memory: sessions, tables
+//! a session cannot be copied by accident, a tag has its mode's length, a table has 32 sessions. It also sees to memory: sessions, tables
 //! and their stored bytes are set to zero when they are dropped, and after each call the stack that it used is overwritten.
 //! Messages and keys are the caller's: [`wipe`] sets them to zero.
 //!
@@ -47,15 +48,17 @@ pub mod envelope;
 pub mod raw;
 mod record;
 mod refusal;
+mod sane;
 mod secret;
 mod session;
 mod table;
 mod texts;
 
 pub use code::{BadCode, Code};
-pub use envelope::Envelope;
+pub use envelope::{Envelope, Letter};
 pub use raw::wipe;
 pub use refusal::{BadBytes, Number, Refusal};
+pub use sane::SaneSession;
 pub use secret::Secret;
 pub use session::Session;
 pub use table::{Day, Group, Table};
@@ -63,14 +66,18 @@ pub use texts::{Arrival, Opened, Plain, Sealed, Unwrapped, Wrapped};
 
 /// The groups of a table.
 pub const GROUPS: usize = 32;
-/// The bytes of a tag.
+/// The bytes of a tag of a [`Session`].
 pub const TAG_LENGTH: usize = 32;
+/// The bytes of a tag of a [`SaneSession`].
+pub const SANE_TAG_LENGTH: usize = 16;
 /// The fewest bytes of a key.
 pub const KEY_MIN: usize = 16;
 /// The most bytes of a key.
 pub const KEY_MAX: usize = 47;
 /// The most bytes of metadata, and of a message.
 pub const TEXT_MAX: usize = 16_384;
+/// The most bytes of a nonce.
+pub const NONCE_MAX: usize = 16_384;
 /// The most bytes of an envelope's header.
 pub const HEADER_MAX: usize = 17;
 /// The highest index that a session may reach.
@@ -80,5 +87,7 @@ pub const CODE_LENGTH: usize = 8;
 /// The highest number of a packet.
 pub const PACKET_MAX: u32 = 2_047;
 
-/// A tag.
+/// A tag of a [`Session`].
 pub type Tag = [u8; TAG_LENGTH];
+/// A tag of a [`SaneSession`].
+pub type SaneTag = [u8; SANE_TAG_LENGTH];

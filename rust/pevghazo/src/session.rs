@@ -3,13 +3,13 @@
 use std::fmt;
 
 use crate::code::Code;
-use crate::envelope::{self, sealed};
+use crate::envelope::{self, Letter, check_group, sealed};
 use crate::raw::{self, Record};
 use crate::record;
-use crate::refusal::{BadBytes, Number, Refusal, answer};
+use crate::refusal::{BadBytes, Refusal, answer};
 use crate::secret::Secret;
 use crate::texts::{Arrival, Opened, Plain, Sealed, Unwrapped, Wrapped};
-use crate::{GROUPS, TAG_LENGTH, Tag};
+use crate::{TAG_LENGTH, Tag};
 
 /// One end of a session under a key.
 ///
@@ -140,21 +140,22 @@ impl Session {
     /// # }
     /// ```
     pub fn seal(&mut self, group: u32, plain: &Plain<'_>) -> Result<Sealed, Refusal> {
-        if group as usize >= GROUPS {
-            return Err(Refusal { number: Number::BadGroup, count: 0 });
-        }
+        check_group(group)?;
         let wrapped = self.wrap(plain)?;
-        Ok(sealed(group, plain, &wrapped))
+        Ok(sealed(Letter::S, group, plain, &wrapped))
     }
 
-    /// Opens the envelope at the start of the bytes; more bytes may follow. Checks 1, 2, 5, 9 and 11.
+    /// Opens the envelope at the start of the bytes; more bytes may follow. Checks 1, 2, 5, 7, 9 and 11. An envelope with the
+    /// letter N, which is for a [`SaneSession`](crate::SaneSession), gets 7.
     ///
     /// A session does not know its group's number, so the header's is handed out and not looked at. It is not under the tag: an
     /// accepted envelope is the other end's next one, whatever its header says.
     pub fn open<'a>(&mut self, bytes: &'a [u8]) -> Result<Opened<'a>, Refusal> {
-        let arrived = envelope::read(bytes)?;
-        let unwrapped = self.unwrap(&arrived.arrival())?;
-        Ok(arrived.opened(unwrapped))
+        let envelope = envelope::read(bytes)?;
+        envelope.opened(|out| {
+            let given = raw::unwrap(&mut self.record, envelope.metadata, envelope.cryptogram, envelope.tag, out);
+            answer(given.number, given.count)
+        })
     }
 
     /// The code of a packet, 0 to 2,047, and the permutations done. Checks 5 and 12.
@@ -228,24 +229,19 @@ impl Session {
     /// ```
     #[must_use]
     pub fn to_bytes(&self) -> Secret {
-        let mut bytes = Secret::zeros(Session::BYTES);
-        record::store(&self.record, bytes.bytes_mut());
-        bytes
+        record::to_bytes(&*self.record)
     }
 
     /// A session from its stored bytes. Refused are another length, a flag that is neither 0 nor 1, an index above 1,048,576,
     /// and a session that is not open and not zero in all its numbers.
     pub fn from_bytes(bytes: &[u8]) -> Result<Session, BadBytes> {
-        record::check_length(Session::BYTES, bytes.len())?;
-        let mut record = Box::new(Record::closed());
-        record::load(&mut record, bytes)?;
-        Ok(Session { record })
+        Ok(Session { record: record::from_bytes(bytes)? })
     }
 }
 
 impl fmt::Debug for Session {
     /// What is not secret.
     fn fmt(&self, f: &mut fmt::Formatter<'_>) -> fmt::Result {
-        record::debug("Session", &self.record, f)
+        record::debug("Session", &*self.record, f)
     }
 }

@@ -3,7 +3,7 @@
 use std::fmt;
 
 use crate::code::Code;
-use crate::envelope::{self, sealed};
+use crate::envelope::{self, Envelope, Letter, sealed};
 pub use crate::raw::Day;
 use crate::raw::{self, GroupAnswer, Record};
 use crate::record;
@@ -165,15 +165,19 @@ impl Table {
     /// Seals a message into an envelope for a group. Checks 3, 5, 6, 9 and 10.
     pub fn seal(&mut self, group: u32, plain: &Plain<'_>) -> Result<Sealed, Refusal> {
         let wrapped = self.wrap(group, plain)?;
-        Ok(sealed(group, plain, &wrapped))
+        Ok(sealed(Letter::S, group, plain, &wrapped))
     }
 
     /// Opens the envelope at the start of the bytes, with the session of the group that its header names; more bytes may
-    /// follow. Checks 1, 2, 5 and 9 to 11; 11 adds its count to the day's.
+    /// follow. Checks 1, 2, 5, 7 and 9 to 11; 11 adds its count to the day's. An envelope with the letter N, which is for a
+    /// [`SaneSession`](crate::SaneSession), gets 7.
     pub fn open<'a>(&mut self, bytes: &'a [u8]) -> Result<Opened<'a>, Refusal> {
-        let arrived = envelope::read(bytes)?;
-        let unwrapped = self.unwrap(arrived.group, &arrived.arrival())?;
-        Ok(arrived.opened(unwrapped))
+        let envelope = envelope::read(bytes)?;
+        let Envelope { group, metadata, cryptogram, tag, .. } = envelope;
+        envelope.opened(|out| {
+            let given = raw::unwrap_group(&mut self.sessions[..], group, self.day, metadata, cryptogram, tag, out);
+            self.take(given)
+        })
     }
 
     /// [`Session::code`](crate::Session::code) of a group's session: the code of a packet, 0 to 2,047, and the permutations

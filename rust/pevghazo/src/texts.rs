@@ -3,7 +3,7 @@
 
 use std::fmt;
 
-use crate::Tag;
+use crate::TAG_LENGTH;
 
 /// What is wrapped or sealed.
 ///
@@ -32,25 +32,26 @@ pub struct Plain<'a> {
     pub message: &'a [u8],
 }
 
-/// What is unwrapped, as it arrived.
+/// What is unwrapped, as it arrived. Its tag has 32 bytes, or 16 for a [`SaneSession`](crate::SaneSession).
 #[derive(Clone, Copy, Debug, PartialEq, Eq)]
-pub struct Arrival<'a> {
+pub struct Arrival<'a, const TAG: usize = TAG_LENGTH> {
     /// The metadata.
     pub metadata: &'a [u8],
     /// The cryptogram.
     pub cryptogram: &'a [u8],
     /// The tag.
-    pub tag: &'a Tag,
+    pub tag: &'a [u8; TAG],
 }
 
-/// A wrapped message: what travels beside the metadata, and what the wrapping cost.
+/// A wrapped message: what travels beside the metadata, and what the wrapping cost. Its tag has 32 bytes, or 16 from a
+/// [`SaneSession`](crate::SaneSession).
 #[must_use = "the session has gone on: the other end needs this message before the next one"]
 #[derive(Clone, Debug, PartialEq, Eq)]
-pub struct Wrapped {
+pub struct Wrapped<const TAG: usize = TAG_LENGTH> {
     /// The cryptogram, as long as the message.
     pub cryptogram: Vec<u8>,
     /// The tag.
-    pub tag: Tag,
+    pub tag: [u8; TAG],
     /// The permutations done.
     pub count: u32,
 }

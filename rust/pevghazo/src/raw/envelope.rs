@@ -9,6 +9,8 @@ use std::mem::{offset_of, size_of};
 pub struct Parts {
     /// 0, or the refusal's number.
     pub number: u32,
+    /// The letter, or zero on a refusal.
+    pub letter: u8,
     /// The group.
     pub group: u32,
     /// Where the metadata begin.
@@ -33,12 +35,14 @@ pub struct Written {
 }
 
 // The layouts of the header on x86-64.
-const _: () = assert!(size_of::<Parts>() == 40 && offset_of!(Parts, metadata) == 8 && offset_of!(Parts, place) == 32);
+const _: () = assert!(size_of::<Parts>() == 48 && offset_of!(Parts, letter) == 4 && offset_of!(Parts, group) == 8);
+const _: () = assert!(offset_of!(Parts, metadata) == 16 && offset_of!(Parts, place) == 40);
 const _: () = assert!(size_of::<Written>() == 16 && offset_of!(Written, len) == 8);
 
 unsafe extern "C" {
     fn pevghazo_read_envelope(bytes: *const u8, bytes_len: usize) -> Parts;
     fn pevghazo_write_envelope(
+        letter: u8,
         group: u32,
         metadata: *const u8,
         metadata_len: usize,
@@ -57,11 +61,19 @@ pub fn read_envelope(bytes: &[u8]) -> Parts {
     unsafe { pevghazo_read_envelope(bytes.as_ptr(), bytes.len()) }
 }
 
-/// Writes an envelope. Checks 3, 6, 7 and 8.
-pub fn write_envelope(group: u32, metadata: &[u8], cryptogram: &[u8], tag: &[u8], out: &mut [u8]) -> Written {
+/// Writes an envelope. Checks 1 (for the letter), 3, 6, 7 and 8.
+pub fn write_envelope(
+    letter: u8,
+    group: u32,
+    metadata: &[u8],
+    cryptogram: &[u8],
+    tag: &[u8],
+    out: &mut [u8],
+) -> Written {
     // SAFETY: see the module's head.
     unsafe {
         pevghazo_write_envelope(
+            letter,
             group,
             metadata.as_ptr(),
             metadata.len(),

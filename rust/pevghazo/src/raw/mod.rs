@@ -1,7 +1,7 @@
 //! The calls of `include/pevghazo.h`, one to one, on slices. All of the crate's `unsafe` is in this folder, whose files are
 //! those of the header.
 //!
-//! Programs use [`Session`](crate::Session) and [`Table`](crate::Table). What is here answers with the library's own numbers
+//! Programs use [`Session`](crate::Session), [`SaneSession`](crate::SaneSession) and [`Table`](crate::Table). What is here answers with the library's own numbers
 //! and takes tags and tables of any length, which the tests need.
 //!
 //! Each call hands over the pointers and lengths of slices and references, so they are not null and hold what the types say;
@@ -22,12 +22,14 @@ use std::sync::atomic::{Ordering, compiler_fence};
 
 mod codes;
 mod envelope;
+mod sane;
 mod session;
 mod stack;
 mod table;
 
 pub use codes::code;
 pub use envelope::{Parts, Written, read_envelope, write_envelope};
+pub use sane::{SaneRecord, sane_start, sane_unwrap, sane_wrap};
 pub use session::{Answer, Record, start, unwrap, wrap};
 pub(crate) use stack::clear_stack;
 pub use table::{Day, Found, GroupAnswer, nearly_full, no_day, open_group, start_day, unwrap_group, wrap_group};
