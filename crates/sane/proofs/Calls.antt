@@ -2,11 +2,9 @@
 -- its facts over. Assumes nothing.
 use mathlib.Core.Path.{_≡_, refl, sym, ap, ap₂, _∙_}
 use mathlib.Core.Logic.{_≢_}
-use mathlib.Core.Bool.{Bool, true, false, not, _||_, _&&_, cond}
+use mathlib.Core.Bool.{true, false, not, _||_, cond}
 use mathlib.Core.List.{List, [], _∷_}
 use Prim.Native.Nat.{ℕ, zero, suc, _+_, _≤_}
-use lib.Dec.{leb, ltb, eqb}
-use borrow.Author.Tests.{leb-true, ltb-false, eqb-true}
 use native.Mathlib.Omega.{arith}
 use lib.ListN.{length, take}
 use Rattle.word.specs.Lists.{sum}
@@ -24,11 +22,13 @@ use Rattle.modes.specs.Mode.{isEmpty, incremental, withA, withText, tagOf, addK
 use Rattle.modes.specs.Rules.{SessionState, written, metadataString, wrapSteps, unwrapSteps, closed, nonceCheck, nonceSession, nonceOpening, nonceStartAt}
 use Rattle.modes.specs.NonceStart.{NonceFits}
 use Rattle.modes.proofs.Steps.{ShortFrames}
+use Rattle.modes.proofs.NonceStart.{nonce-exactly}
 use Rattle.modes.proofs.Leaves.{countStream, sane-leaf-counts, closed-N, nonce-leaf-counts}
 use Rattle.steps.specs.Steps.{outputCount}
 use Rattle.steps.proofs.Buffers.{added-length, added-taken}
 use Rattle.steps.proofs.Calls.{Begun, begun-state, begun-count, within, Worked}
 
+-- its frame bits leave room for the padding bit in one byte
 pub short : ShortFrames saneParameters
 short = record { ofA = λ e. omega arith; ofM = λ e. omega arith; ofT = λ e. omega arith }
 
@@ -118,21 +118,8 @@ firstOf key nonce tag = nonceCheck 16 key (length nonce) (length tag)
 
 module _ (key nonce tag : List ℕ) (n : ℕ) (h : n ≡ firstOf key nonce tag) where
   pub fits : n ≡ 0 → NonceFits key nonce tag
-  fits z = go (leb 16 (length key)) (leb (length key) 47) (ltb 16384 (length nonce)) (eqb (length tag) 16) refl refl refl refl (sym h ∙ z)
-    where
-      go : (p q r t : Bool) → leb 16 (length key) ≡ p → leb (length key) 47 ≡ q → ltb 16384 (length nonce) ≡ r → eqb (length tag) 16 ≡ t
-          → _≡_ {A = ℕ} (cond (not (p && q)) 4 (cond r 6 (cond (not t) 7 0))) 0 → NonceFits key nonce tag
-      go true true false true d e f g z =
-          record {
-            key-long = leb-true 16 (length key) d;
-            key-short = leb-true (length key) 47 e;
-            nonce-short = ltb-false 16384 (length nonce) f;
-            tag-fits = eqb-true (length tag) 16 g;
-          }
-      go true true false false d e f g z = absurd (omega arith)
-      go true true true t d e f g z = absurd (omega arith)
-      go true false r t d e f g z = absurd (omega arith)
-      go false q r t d e f g z = absurd (omega arith)
+  unfolding nonceStartAt
+  fits z = nonce-exactly key nonce tag .accepted .0 (ap (λ (k : ℕ). nonceOpening saneParameters key nonce tag k .number) (sym h ∙ z))
 
   pub start-refused : n ≢ 0 → record { number = n; count = 0; session = closed; tag = tag } ≡ nonceStartAt saneParameters key nonce tag
   unfolding nonceStartAt

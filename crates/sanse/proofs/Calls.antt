@@ -28,6 +28,7 @@ use Rattle.steps.specs.Steps.{compressedIf, outputCount}
 use Rattle.steps.proofs.Buffers.{added-length, added-taken, some-counted}
 use Rattle.steps.proofs.Calls.{closed-is, text-state, text-count, Begun, begun-state, begun-count, within, Worked}
 
+-- its frame bits leave room for the padding bit in one byte
 pub short : ShortFrames sanseParameters
 short = record { ofA = λ e. omega arith; ofM = λ e. omega arith; ofT = λ e. omega arith }
 
