@@ -37,8 +37,8 @@
 //! | the C interface itself, on slices | [`raw`] |
 //!
 //! All work is done by the C library, whose functions are proved to meet their definitions for all bytes. This crate adds types:
-//! a session cannot be copied by accident, a tag has its mode's length, a table has 32 sessions. It also sees to memory: sessions,
-//! tables and their stored bytes are set to zero when they are dropped, and after each call the stack that it used is
+//! a session cannot be copied by accident, a tag has its mode's length, a table has 32 sessions. It also sees to memory:
+//! sessions, tables and their stored bytes are set to zero when they are dropped, and after each call the stack that it used is
 //! overwritten. Messages and keys are the caller's: [`wipe`] sets them to zero.
 //!
 //! The build looks for the library in the folder that `PEVGHAZO_LIB_DIR` names (`libpevghazo.a` or `libcapi.a`); then in the
