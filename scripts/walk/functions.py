@@ -1,43 +1,66 @@
 """The functions whose walks are written by these scripts."""
 from lent import Lent, Small, Table
 
-# ---- over a lent record: session
+# ---- over a lent record: session, sane_session
+
+WRAP = [('metadata', 'bytes'), ('message', 'bytes'), ('out', 'buffer'), ('tag', 'buffer')]
+UNWRAP = [('metadata', 'bytes'), ('cryptogram', 'bytes'), ('tag', 'bytes'), ('out', 'buffer')]
 
 
-def session(function, params, core_args, gives, says, uses):
-    """A function of the crate `session`: its answer is the number and the count of what the core gives."""
+def session(mode, function, params, core_args, gives, says, uses):
+    """A function over the lent record of a mode: its answer is the number and the count of what the core gives."""
+    crate, record, result, environment = {
+        'sanse': ('session', 'Session', 'CallResult', 'session·proofs.proofs'),
+        'sane': ('sane_session', 'SaneSession', 'SaneResult', 'session.proofs'),
+    }[mode]
     return Lent(
-        path=f'session::{function}', core=f'sanse::{function}', record='sanse::Session', result='sanse::CallResult', session=('session', 2),
+        path=f'{crate}::{function}', core=f'{mode}::{function}', record=f'{mode}::{record}', result=f'{mode}::{result}', session=('session', 2),
         answer='session::Answer', answer_field=None, answer_parts=[('number', 0), ('count', 1)],
         params=[('s', 'record')] + params, core_args=core_args, gives=gives, says=says, proof='e', uses=uses,
-        environment='Rattle.session.proofs.Env',
+        environment=f'Rattle.{environment}.Env',
     )
+
+
+def calls(mode, crate):
+    """Wrap and unwrap of a mode."""
+    return [
+        session(
+            mode, 'wrap', WRAP, ['s'] + [name for name, _ in WRAP],
+            f'callResult r out′ tag′ ≡ wrapAt {mode} incremental (stateOf h) (handed metadata message out tag)',
+            'Wrapped s (handed metadata message out tag) res s′ out′ tag′',
+            f'''use Rattle.modes.specs.Mode.{{{mode}, incremental}}
+use Rattle.modes.specs.Rules.{{wrapAt}}
+use Rattle.{mode}.specs.Session.{{stateOf, callResult, handed}}
+use Rattle.{crate}.specs.Lent.{{Wrapped}}'''),
+        session(
+            mode, 'unwrap', UNWRAP, ['s'] + [name for name, _ in UNWRAP],
+            f'callResult r out′ tag ≡ unwrapAt {mode} incremental (stateOf h) (handed metadata cryptogram out tag)',
+            'Unwrapped s (handed metadata cryptogram out tag) res s′ out′ tag',
+            f'''use Rattle.modes.specs.Mode.{{{mode}, incremental}}
+use Rattle.modes.specs.Rules.{{unwrapAt}}
+use Rattle.{mode}.specs.Session.{{stateOf, callResult, handed}}
+use Rattle.{crate}.specs.Lent.{{Unwrapped}}'''),
+    ]
 
 
 SESSION = [
     session(
-        'start', [('key', 'bytes')], ['key'],
+        'sanse', 'start', [('key', 'bytes')], ['key'],
         'startResult r ≡ startAt key',
         'Started key res s′',
         '''use Rattle.modes.specs.Rules.{startAt}
 use Rattle.sanse.specs.Session.{startResult}
 use Rattle.session.specs.Lent.{Started}'''),
+    *calls('sanse', 'session'),
     session(
-        'wrap', [('metadata', 'bytes'), ('message', 'bytes'), ('out', 'buffer'), ('tag', 'buffer')], ['s', 'metadata', 'message', 'out', 'tag'],
-        'callResult r out′ tag′ ≡ wrapAt sanse incremental (stateOf h) (handed metadata message out tag)',
-        'Wrapped s (handed metadata message out tag) res s′ out′ tag′',
-        '''use Rattle.modes.specs.Mode.{sanse, incremental}
-use Rattle.modes.specs.Rules.{wrapAt}
-use Rattle.sanse.specs.Session.{stateOf, callResult, handed}
-use Rattle.session.specs.Lent.{Wrapped}'''),
-    session(
-        'unwrap', [('metadata', 'bytes'), ('cryptogram', 'bytes'), ('tag', 'bytes'), ('out', 'buffer')], ['s', 'metadata', 'cryptogram', 'tag', 'out'],
-        'callResult r out′ tag ≡ unwrapAt sanse incremental (stateOf h) (handed metadata cryptogram out tag)',
-        'Unwrapped s (handed metadata cryptogram out tag) res s′ out′ tag',
-        '''use Rattle.modes.specs.Mode.{sanse, incremental}
-use Rattle.modes.specs.Rules.{unwrapAt}
-use Rattle.sanse.specs.Session.{stateOf, callResult, handed}
-use Rattle.session.specs.Lent.{Unwrapped}'''),
+        'sane', 'start', [('key', 'bytes'), ('nonce', 'bytes'), ('tag', 'buffer')], ['key', 'nonce', 'tag'],
+        'nonceResult r tag′ ≡ nonceStartAt saneParameters key nonce tag',
+        'Started key nonce tag res s′ tag′',
+        '''use Rattle.modes.specs.Mode.{saneParameters}
+use Rattle.modes.specs.Rules.{nonceStartAt}
+use Rattle.sane.specs.Session.{nonceResult}
+use Rattle.sane_session.specs.Lent.{Started}'''),
+    *calls('sane', 'sane_session'),
 ]
 
 # ---- over one record of a lent table: office
@@ -75,7 +98,7 @@ OFFICE = [
 use Rattle.groups.specs.Groups.{openOnDay, groupOpeningResult}
 use Rattle.office.specs.Table.{noGroup, refused3, openGroupAt, zeroRecord, tableOf, openingResult}'''),
     office(
-        'wrap_group', 'wrap', [('metadata', 'bytes'), ('message', 'bytes'), ('out', 'buffer'), ('tag', 'buffer')],
+        'wrap_group', 'wrap', WRAP,
         'groupResult r out′ tag′ ≡ wrapOnDay day (stateOf h) (handed metadata message out tag)',
         'tableResult res table′ out′ tag′ ≡ wrapGroupAt day (tableOf table) g (handed metadata message out tag)',
         ('call', '(wrapAt sanse incremental) day (handed (x-metadata .now) (x-message .now) (x-out .now) (x-tag .now))'),
@@ -85,7 +108,7 @@ use Rattle.sanse.specs.Session.{stateOf, handed}
 use Rattle.groups.specs.Groups.{wrapOnDay, groupResult}
 use Rattle.office.specs.Table.{noGroup, refused3, wrapGroupAt, zeroRecord, tableOf, tableResult}'''),
     office(
-        'unwrap_group', 'unwrap', [('metadata', 'bytes'), ('cryptogram', 'bytes'), ('tag', 'bytes'), ('out', 'buffer')],
+        'unwrap_group', 'unwrap', UNWRAP,
         'groupResult r out′ tag ≡ unwrapOnDay day (stateOf h) (handed metadata cryptogram out tag)',
         'tableResult res table′ out′ tag ≡ unwrapGroupAt day (tableOf table) g (handed metadata cryptogram out tag)',
         ('call', '(unwrapAt sanse incremental) day (handed (x-metadata .now) (x-cryptogram .now) (x-out .now) (x-tag .now))'),
@@ -117,4 +140,5 @@ use Rattle.codes.specs.Code.{codeResult, Coded}''',
 
 PASSING = (
     [f'capi::c_session::pevghazo_{function}' for function in ('start', 'wrap', 'unwrap')] + ['capi::c_codes::pevghazo_code']
+    + [f'capi::c_sane::pevghazo_sane_{function}' for function in ('start', 'wrap', 'unwrap')]
     + [f'capi::c_table::pevghazo_{function}' for function in ('open_group', 'wrap_group', 'unwrap_group')])

@@ -5,7 +5,7 @@ ghost use Rattle.envelope_write.specs.Write.{writeAnswer, writeBuffer};
 use envelope::Parts;
 use envelope_write::WriteResult;
 
-// Where the parts of the envelope at the start of some bytes begin, and the place after it. Checks 1 and 2.
+// The letter and the group of the envelope at the start of some bytes, where its parts begin, and the place after it. Checks 1 and 2.
 #[no_mangle]
 pub extern "C" fn pevghazo_read_envelope(bytes: &[u8]) -> Parts
     ensures { λ r. ⌜ r ≡ readParts (now (bytes .entry)) ⌝ }
@@ -13,17 +13,18 @@ pub extern "C" fn pevghazo_read_envelope(bytes: &[u8]) -> Parts
     envelope::read_parts(bytes)
 }
 
-// Writes an envelope to the start of `out` and gives how many bytes that are. Checks 3, 6, 7 and 8.
+// Writes an envelope of a letter to the start of `out` and gives how many bytes that are. Checks 1, 3, 6, 7 and 8.
 #[no_mangle]
 pub extern "C" fn pevghazo_write_envelope(
+    letter: u8,
     group: u32,
     metadata: &[u8],
     cryptogram: &[u8],
     tag: &[u8],
     out: &mut [u8],
 ) -> WriteResult
-    ensures { λ r. ⌜ (r ≡ writeAnswer group (now (metadata .entry)) (now (cryptogram .entry)) (now (tag .entry)) (now (out .entry)))
-        × (now (out .exit) ≡ writeBuffer group (now (metadata .entry)) (now (cryptogram .entry)) (now (tag .entry)) (now (out .entry))) ⌝ }
+    ensures { λ r. ⌜ (r ≡ writeAnswer letter group (now (metadata .entry)) (now (cryptogram .entry)) (now (tag .entry)) (now (out .entry)))
+        × (now (out .exit) ≡ writeBuffer letter group (now (metadata .entry)) (now (cryptogram .entry)) (now (tag .entry)) (now (out .entry))) ⌝ }
 {
-    envelope_write::write_envelope(group, metadata, cryptogram, tag, out)
+    envelope_write::write_envelope(letter, group, metadata, cryptogram, tag, out)
 }

@@ -1,6 +1,7 @@
 -- Laws of the layout: how long a header is, and how it continues. Assumes nothing.
 use Prim.Native.Nat.{ℕ, _+_, _≤_}
-use mathlib.Core.Path.{_≡_, refl}
+use mathlib.Core.Path.{_≡_, refl, ap}
+use mathlib.Core.Logic.{_↔_, _⊎_, inl, inr}
 use mathlib.Core.Bool.{Bool, true, false}
 use mathlib.Core.List.{List, [], _∷_, _++_, append-assoc}
 use native.Mathlib.Omega.{arith}
@@ -9,7 +10,7 @@ use lib.Dec.{eqb}
 use borrow.Author.Tests.{eqb-true}
 use Rattle.decimal.specs.Decimal.{decimal, decimalWithin}
 use Rattle.decimal.proofs.Laws.{decimal-within}
-use Rattle.envelope.specs.Layout.{letterS, comma, tagLength, field, header, envelope, InRange}
+use Rattle.envelope.specs.Layout.{letterS, letterN, comma, tagLength, field, header, envelope, InRange}
 
 pub field-length : (n : ℕ) → length (field n) ≡ length (decimal n) + 1
 unfolding field
@@ -26,10 +27,10 @@ pub header-longest : {letter group alen mlen : ℕ} → InRange letter group ale
 header-longest {letter} {group} {alen} {mlen} h =
     omega (arith, header-length letter group alen mlen, decimal-within 1 group (omega arith), decimal-within 4 alen (omega arith), decimal-within 4 mlen (omega arith))
 
--- There is one of 17: `S,31,16384,16384,`.
-pub header-of-17 : length (header letterS 31 16384 16384) ≡ 17
+-- There is one of 17 for every letter, as `S,31,16384,16384,`.
+pub header-of-17 : (letter : ℕ) → length (header letter 31 16384 16384) ≡ 17
 unfolding decimal decimalWithin
-header-of-17 = header-length letterS 31 16384 16384
+header-of-17 letter = header-length letter 31 16384 16384
 
 -- a header and what follows it, number by number
 pub header-then : (letter group alen mlen : ℕ) (rest : List ℕ)
@@ -37,27 +38,48 @@ pub header-then : (letter group alen mlen : ℕ) (rest : List ℕ)
 unfolding header field
 header-then letter group alen mlen rest = simp append-assoc
 
--- the only letter today is S, and its tag has 32 bytes
-pub known-letter : (letter : ℕ) → (tagLength letter ≡ 0 → ⊥) → letter ≡ letterS
-unfolding tagLength
-known-letter letter h = go (eqb letter letterS) refl
-  where
-    go : (t : Bool) → eqb letter letterS ≡ t → letter ≡ letterS
-    go true e = eqb-true letter letterS e
-    go false e = absurd (h (simp e))
-
+-- a tag of S has 32 bytes, one of N 16
 pub tag-of-S : tagLength letterS ≡ 32
 unfolding tagLength
 tag-of-S = refl
 
+pub tag-of-N : tagLength letterN ≡ 16
+unfolding tagLength
+tag-of-N = refl
+
+-- a byte is S, or N, or has no tag
+abbrev LetterCases : ℕ → Type 0
+LetterCases letter = (letter ≡ letterS) ⊎ ((letter ≡ letterN) ⊎ (tagLength letter ≡ 0))
+
+letter-cases : (letter : ℕ) → LetterCases letter
+unfolding tagLength
+letter-cases letter = go (eqb letter letterS) (eqb letter letterN) refl refl
+  where
+    go : (s n : Bool) → eqb letter letterS ≡ s → eqb letter letterN ≡ n → LetterCases letter
+    go true n e f = inl (eqb-true letter letterS e)
+    go false true e f = inr (inl (eqb-true letter letterN f))
+    go false false e f = inr (inr (simp (e, f)))
+
+-- The letters are S and N: a byte is unknown exactly where it is neither.
+pub unknown-letter : (letter : ℕ) → (tagLength letter ≡ 0) ↔ ((letter ≡ letterS → ⊥) × (letter ≡ letterN → ⊥))
+unknown-letter letter = (
+  (λ z. (λ e. omega (arith, tag-of-S, ap tagLength e), λ e. omega (arith, tag-of-N, ap tagLength e))),
+  (λ neither. go neither (letter-cases letter)),
+)
+  where
+    go : ((letter ≡ letterS → ⊥) × (letter ≡ letterN → ⊥)) → LetterCases letter → tagLength letter ≡ 0
+    go neither (inl e) = absurd (neither .0 e)
+    go neither (inr (inl e)) = absurd (neither .1 e)
+    go neither (inr (inr z)) = z
+
 -- no letter has a tag of more than 32 bytes
 pub tag-bound : (letter : ℕ) → tagLength letter ≤ 32
-unfolding tagLength
-tag-bound letter = go (eqb letter letterS) refl
+tag-bound letter = go (letter-cases letter)
   where
-    go : (t : Bool) → eqb letter letterS ≡ t → tagLength letter ≤ 32
-    go true e = simp e (omega arith)
-    go false e = simp e (omega arith)
+    go : LetterCases letter → tagLength letter ≤ 32
+    go (inl e) = omega (arith, tag-of-S, ap tagLength e)
+    go (inr (inl e)) = omega (arith, tag-of-N, ap tagLength e)
+    go (inr (inr z)) = omega arith
 
 pub envelope-length : (letter group : ℕ) (metadata cryptogram tag : List ℕ)
     → length (envelope letter group metadata cryptogram tag) ≡ length (header letter group (length metadata) (length cryptogram)) + length metadata + length cryptogram + length tag

@@ -47,6 +47,7 @@ module _ (s : List ℕ) (h : Header) (is-h : h ≡ readHeader s) where
     pub all-parts : h .alen + h .mlen + t ≤ length s - h .place
         → readParts s ≡ record {
           number = 0;
+          letter = h .letter;
           group = h .group;
           metadata = h .place;
           cryptogram = h .place + h .alen;

@@ -9,13 +9,12 @@ use lib.ListN.{length, take, drop, length-append, length-drop, take-append-drop}
 use lib.Seq.{drop-at, take-at, length-take-le}
 use borrow.Author.Tests.{lt-ltb, le-ltb}
 use Rattle.decimal.proofs.Laws.{lt-or-le}
-use Rattle.envelope.specs.Layout.{letterS, tagLength, header, envelope, Begins, IsEnvelope}
-use Rattle.envelope.specs.Read.{noHeader, readHeader, noParts, partsOf, readParts, anEnvelope, readEnvelope, between, metadataPart, cryptogramPart, tagPart}
+use Rattle.envelope.specs.Layout.{tagLength, header, envelope, Begins, IsEnvelope}
+use Rattle.envelope.specs.Read.{noHeader, readHeader, noParts, partsOf, readParts, anEnvelope, answerOf, readEnvelope, between, metadataPart, cryptogramPart, tagPart}
 use Rattle.envelope.specs.Checks.{ReadStop, bad-header, too-few, readable}
 use Rattle.envelope.specs.declared.Header.{Header}
 use Rattle.envelope.specs.declared.Parts.{Parts}
 use Rattle.envelope.proofs.Headers.{header-sound, header-complete, header-decided}
-use Rattle.envelope.proofs.Layouts.{known-letter}
 
 -- the condition of some number holds
 some-stop : (s : List ℕ) → (n : ℕ) × ReadStop s n
@@ -52,6 +51,7 @@ module _ (s : List ℕ) (letter group alen mlen : ℕ) (rest : List ℕ) (h : Be
   pub parts-whole : alen + mlen + tagLength letter ≤ length rest
       → readParts s ≡ record {
         number = 0;
+        letter = letter;
         group = group;
         metadata = length (header letter group alen mlen);
         cryptogram = length (header letter group alen mlen) + alen;
@@ -74,18 +74,21 @@ unfolding readEnvelope
 read-number-exact s n =
     ((λ e. subst (ReadStop s) (sym (parts-number s (some-stop s .0) (some-stop s .1)) ∙ e) (some-stop s .1)), parts-number s n)
 
--- A refusal gives three empty parts, group 0 and place 0.
-pub read-refused : (s : List ℕ) → (readEnvelope s .number ≡ 0 → ⊥)
-    → (readEnvelope s ≡ record { number = readEnvelope s .number; group = 0; place = 0 }) × (metadataPart s ≡ []) × (cryptogramPart s ≡ []) × (tagPart s ≡ [])
+-- only the number is given: three empty parts, a zero byte for the letter, group 0 and place 0
+abbrev pub OnlyNumber : List ℕ → Type 0
+OnlyNumber s =
+    (readEnvelope s ≡ record { number = readEnvelope s .number; letter = 0; group = 0; place = 0 })
+    × (metadataPart s ≡ []) × (cryptogramPart s ≡ []) × (tagPart s ≡ [])
+
+-- A refusal gives nothing but its number.
+pub read-refused : (s : List ℕ) → (readEnvelope s .number ≡ 0 → ⊥) → OnlyNumber s
 unfolding readEnvelope metadataPart cryptogramPart tagPart
 read-refused s stopped = go (some-stop s .0) (some-stop s .1)
   where
-    empty : (n : ℕ) → readParts s ≡ noParts n
-        → (readEnvelope s ≡ record { number = readEnvelope s .number; group = 0; place = 0 }) × (metadataPart s ≡ []) × (cryptogramPart s ≡ []) × (tagPart s ≡ [])
+    empty : (n : ℕ) → readParts s ≡ noParts n → OnlyNumber s
     empty n e = (simp e, simp e, simp e, simp e)
 
-    go : (n : ℕ) → ReadStop s n
-        → (readEnvelope s ≡ record { number = readEnvelope s .number; group = 0; place = 0 }) × (metadataPart s ≡ []) × (cryptogramPart s ≡ []) × (tagPart s ≡ [])
+    go : (n : ℕ) → ReadStop s n → OnlyNumber s
     go n (bad-header none) = empty 1 (parts-bad s none)
     go n (too-few l g a m rest h less) = empty 2 (parts-few s l g a m rest h less)
     go n (readable l g a m rest h enough) = absurd (stopped (ap (λ (p : Parts). p .number) (parts-whole s l g a m rest h enough)))
@@ -116,9 +119,9 @@ between-at : (before run after : List ℕ) (i j : ℕ) → length before ≡ i �
 between-at before run after i j is-i is-j =
     ap (take (j - i)) (drop-at before (run ++ after) i is-i) ∙ take-at run after (j - i) (omega arith)
 
--- An envelope that stands there is read: its group, its parts, and its length as the place after it. Whatever follows it is free.
+-- An envelope that stands there is read: its letter, its group, its parts, and its length as the place after it. Whatever follows it is free.
 pub envelope-complete : (s : List ℕ) (letter group : ℕ) (metadata cryptogram tag rest : List ℕ) → IsEnvelope s letter group metadata cryptogram tag rest
-    → (readEnvelope s ≡ anEnvelope group (length (envelope letter group metadata cryptogram tag)))
+    → (readEnvelope s ≡ anEnvelope letter group (length (envelope letter group metadata cryptogram tag)))
     × (metadataPart s ≡ metadata) × (cryptogramPart s ≡ cryptogram) × (tagPart s ≡ tag)
 unfolding readEnvelope metadataPart cryptogramPart tagPart envelope
 envelope-complete s letter group metadata cryptogram tag rest h =
@@ -130,7 +133,7 @@ envelope-complete s letter group metadata cryptogram tag rest h =
     let total : length head + (length metadata + length cryptogram + tagLength letter) ≡ length (head ++ (metadata ++ (cryptogram ++ tag))) = simp length-append (omega (arith, h .tag-fits)) in
     let behind-metadata : s ≡ (head ++ metadata) ++ (cryptogram ++ (tag ++ rest)) = whole ∙ simp append-assoc in
     let behind-cryptogram : s ≡ ((head ++ metadata) ++ cryptogram) ++ (tag ++ rest) = whole ∙ simp append-assoc in (
-      ap (λ (p : Parts). record { number = p .number; group = p .group; place = p .place }) found ∙ ap (anEnvelope group) total,
+      ap answerOf found ∙ ap (anEnvelope letter group) total,
       ap (λ (p : Parts). between (p .metadata) (p .cryptogram) s) found
           ∙ ap (between (length head) (length head + length metadata)) whole
           ∙ between-at head metadata (cryptogram ++ (tag ++ rest)) (length head) (length head + length metadata) refl refl,
@@ -179,23 +182,24 @@ split s l g a m rest h enough =
       },
     )
 
--- Bytes that are read without a refusal begin with the envelope that writing the group and the three parts gives; the place is where it ends.
-pub envelope-sound : (s : List ℕ) → readEnvelope s .number ≡ 0
-    → IsEnvelope s letterS (readEnvelope s .group) (metadataPart s) (cryptogramPart s) (tagPart s) (drop (readEnvelope s .place) s)
+-- the envelope at the start of the bytes s is made of what reading them gives, and the place is where it ends
+abbrev pub AsRead : List ℕ → Type 0
+AsRead s =
+    IsEnvelope s (readEnvelope s .letter) (readEnvelope s .group) (metadataPart s) (cryptogramPart s) (tagPart s) (drop (readEnvelope s .place) s)
+
+-- Bytes that are read without a refusal begin with the envelope of the letter, the group and the three parts that reading gives.
+pub envelope-sound : (s : List ℕ) → readEnvelope s .number ≡ 0 → AsRead s
 envelope-sound s e = go 0 refl (read-number-exact s 0 .0 e)
   where
-    known : (l g : ℕ) (metadata cryptogram tag after : List ℕ) → IsEnvelope s l g metadata cryptogram tag after
-        → IsEnvelope s letterS (readEnvelope s .group) (metadataPart s) (cryptogramPart s) (tagPart s) (drop (readEnvelope s .place) s)
-    known l g metadata cryptogram tag after h =
+    given : (l g : ℕ) (metadata cryptogram tag after : List ℕ) → IsEnvelope s l g metadata cryptogram tag after → AsRead s
+    given l g metadata cryptogram tag after h =
         let c = envelope-complete s l g metadata cryptogram tag after h in
         let rest : drop (length (envelope l g metadata cryptogram tag)) s ≡ after =
         ap (drop (length (envelope l g metadata cryptogram tag))) (h .bytes)
         ∙ drop-at (envelope l g metadata cryptogram tag) after (length (envelope l g metadata cryptogram tag)) refl in
-        simp (c .0, c .1, c .2, c .3, rest)
-        (subst (λ (x : ℕ). IsEnvelope s x g metadata cryptogram tag after) (known-letter l (h .in-range .known)) h)
+        simp (c .0, c .1, c .2, c .3, rest) h
 
-    go : (n : ℕ) → n ≡ 0 → ReadStop s n
-        → IsEnvelope s letterS (readEnvelope s .group) (metadataPart s) (cryptogramPart s) (tagPart s) (drop (readEnvelope s .place) s)
+    go : (n : ℕ) → n ≡ 0 → ReadStop s n → AsRead s
     go n z (bad-header none) = let no-way : ⊥ = omega arith in absurd no-way
     go n z (too-few l g a m rest h less) = let no-way : ⊥ = omega arith in absurd no-way
-    go n z (readable l g a m rest h enough) = let p = split s l g a m rest h enough in known l g (p .0) (p .1) (p .2) (p .3) (p .4)
+    go n z (readable l g a m rest h enough) = let p = split s l g a m rest h enough in given l g (p .0) (p .1) (p .2) (p .3) (p .4)

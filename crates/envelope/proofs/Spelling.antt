@@ -4,30 +4,29 @@ use mathlib.Core.Path.{_≡_, sym, ap, _∙_}
 use mathlib.Core.List.{List}
 use lib.ListN.{length, take, drop}
 use lib.Seq.{take-at}
-use Rattle.envelope.specs.Layout.{letterS, envelope}
+use Rattle.envelope.specs.Layout.{envelope}
 use Rattle.envelope.specs.Read.{readEnvelope, metadataPart, cryptogramPart, tagPart}
 use Rattle.envelope.specs.declared.Envelope.{Envelope}
 use Rattle.envelope.proofs.Reading.{envelope-complete, envelope-sound}
 
+-- the envelope of what reading the bytes s gives
+abbrev pub spelled : List ℕ → List ℕ
+spelled s = envelope (readEnvelope s .letter) (readEnvelope s .group) (metadataPart s) (cryptogramPart s) (tagPart s)
+
 -- the place is where the envelope ends, and the bytes up to it are the envelope
-pub place-is : (s : List ℕ) → readEnvelope s .number ≡ 0
-    → readEnvelope s .place ≡ length (envelope letterS (readEnvelope s .group) (metadataPart s) (cryptogramPart s) (tagPart s))
+pub place-is : (s : List ℕ) → readEnvelope s .number ≡ 0 → readEnvelope s .place ≡ length (spelled s)
 place-is s e = ap (λ (r : Envelope). r .place) (envelope-complete s _ _ _ _ _ _ (envelope-sound s e) .0)
 
-pub front-is : (s : List ℕ) → readEnvelope s .number ≡ 0
-    → take (readEnvelope s .place) s ≡ envelope letterS (readEnvelope s .group) (metadataPart s) (cryptogramPart s) (tagPart s)
+pub front-is : (s : List ℕ) → readEnvelope s .number ≡ 0 → take (readEnvelope s .place) s ≡ spelled s
 front-is s e =
     ap (take (readEnvelope s .place)) (envelope-sound s e .bytes)
-    ∙ take-at (envelope letterS (readEnvelope s .group) (metadataPart s) (cryptogramPart s) (tagPart s)) (drop (readEnvelope s .place) s) (readEnvelope s .place) (sym (place-is s e))
+    ∙ take-at (spelled s) (drop (readEnvelope s .place) s) (readEnvelope s .place) (sym (place-is s e))
 
--- An envelope has one spelling only: bytes that read as the same group and parts are the same up to the place.
-pub one-spelling : (s t : List ℕ) → readEnvelope s .number ≡ 0 → readEnvelope t .number ≡ 0 → readEnvelope s .group ≡ readEnvelope t .group
+-- An envelope has one spelling only: bytes that read as the same letter, group and parts are the same up to the place.
+pub one-spelling : (s t : List ℕ) → readEnvelope s .number ≡ 0 → readEnvelope t .number ≡ 0
+    → readEnvelope s .letter ≡ readEnvelope t .letter → readEnvelope s .group ≡ readEnvelope t .group
     → metadataPart s ≡ metadataPart t → cryptogramPart s ≡ cryptogramPart t → tagPart s ≡ tagPart t
     → take (readEnvelope s .place) s ≡ take (readEnvelope t .place) t
-one-spelling s t es et g a c x =
-    front-is s es
-    ∙ ap (λ (k : ℕ). envelope letterS k (metadataPart s) (cryptogramPart s) (tagPart s)) g
-    ∙ ap (λ (l : List ℕ). envelope letterS (readEnvelope t .group) l (cryptogramPart s) (tagPart s)) a
-    ∙ ap (λ (l : List ℕ). envelope letterS (readEnvelope t .group) (metadataPart t) l (tagPart s)) c
-    ∙ ap (envelope letterS (readEnvelope t .group) (metadataPart t) (cryptogramPart t)) x
-    ∙ sym (front-is t et)
+one-spelling s t es et l g a c x =
+    let same : spelled s ≡ spelled t = simp (l, g, a, c, x) in
+    front-is s es ∙ same ∙ sym (front-is t et)

@@ -1,6 +1,6 @@
--- The checks that reading an envelope meets, each number with its condition: document 01, "What stops a call" (1, 2) and "Envelope". Number 0
--- stands for a call that nothing stops. proofs/Reading.antt shows that a call gets a number exactly where its condition holds.
--- Assumes nothing.
+-- The checks that reading an envelope meets, each number with its condition: document 01, "What stops a call" (1, 2) and "Envelope"; number 2
+-- goes by the letter's tag (document 02, request 2). Number 0 stands for a call that nothing stops. proofs/Reading.antt shows that a call gets a
+-- number exactly where its condition holds. Assumes nothing.
 use Prim.Native.Nat.{ℕ, _+_, _<_, _≤_}
 use mathlib.Core.List.{List}
 use lib.ListN.{length}

@@ -1,5 +1,5 @@
--- The layout of an envelope: document 01, "Envelope" (limits of lengths: "Counts and limits"). A header is a thing of its own, a function of its
--- letter, its group and its two lengths. Assumes nothing.
+-- The layout of an envelope: document 01, "Envelope" (limits of lengths: "Counts and limits"), and document 02, request 2 (the letter N). A header
+-- is a thing of its own, a function of its letter, its group and its two lengths. Assumes nothing.
 use Prim.Native.Nat.{ℕ, _≤_}
 use mathlib.Core.Path.{_≡_}
 use mathlib.Core.Bool.{cond}
@@ -8,9 +8,12 @@ use lib.ListN.{length}
 use lib.Dec.{eqb}
 use Rattle.decimal.specs.Decimal.{decimal}
 
--- the characters `S` and `,`
+-- the letters `S` (a message of SANSE) and `N` (of SANE), and the comma
 abbrev pub letterS : ℕ
 letterS = 83
+
+abbrev pub letterN : ℕ
+letterN = 78
 
 abbrev pub comma : ℕ
 comma = 44
@@ -24,13 +27,17 @@ maxLength = 16384
 
 -- how many bytes the tag has, by the letter; 0 for a byte that is no letter of an envelope
 unfoldable pub tagLength : ℕ → ℕ
-tagLength letter = cond (eqb letter letterS) 32 0
+tagLength letter = cond (eqb letter letterS) 32 (cond (eqb letter letterN) 16 0)
+
+-- a letter of an envelope is a byte that has a tag
+abbrev pub Known : ℕ → Type 0
+Known letter = tagLength letter ≡ 0 → ⊥
 
 -- a number of the header: in decimal, and a comma
 unfoldable pub field : ℕ → List ℕ
 field n = decimal n ++ (comma ∷ [])
 
--- the header's bytes: `S,group,A length,M length,`
+-- the header's bytes: `letter,group,A length,M length,`
 unfoldable pub header : (letter group alen mlen : ℕ) → List ℕ
 header letter group alen mlen = letter ∷ comma ∷ (field group ++ (field alen ++ field mlen))
 
@@ -41,7 +48,7 @@ envelope letter group metadata cryptogram tag =
 
 -- letter, group and lengths are within their ranges
 pub record InRange (letter group alen mlen : ℕ) : Type 0 where
-  pub known : tagLength letter ≡ 0 → ⊥
+  pub known : Known letter
   pub group-fits : group ≤ maxGroup
   pub metadata-fits : alen ≤ maxLength
   pub message-fits : mlen ≤ maxLength

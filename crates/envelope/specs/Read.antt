@@ -1,5 +1,6 @@
 -- What a reader finds in a run of bytes, which may be any bytes and of which more may follow the envelope: document 01, "Envelope", and numbers 1
--- and 2 of "What stops a call". proofs/Reading.antt shows that this is exactly what the layout says. Assumes nothing.
+-- and 2 of "What stops a call"; document 02, request 2, has the letter given too. proofs/Reading.antt shows that this is exactly what the layout
+-- says. Assumes nothing.
 use Prim.Native.Nat.{ℕ, _+_, _-_}
 use mathlib.Core.Bool.{cond}
 use mathlib.Core.List.{List}
@@ -38,9 +39,9 @@ readHeader s =
     cond (eqb (tagLength (getD s 0 0)) 0) noHeader
     (cond (eqb (getD s 1 0) comma) (headerG s (getD s 0 0) (readDecimal maxGroup comma s 2)) noHeader)
 
--- a refusal: three empty parts, group 0, place 0
+-- a refusal: three empty parts, a zero byte for the letter, group 0, place 0
 abbrev pub noParts : ℕ → Parts
-noParts n = record { number = n; group = 0; metadata = 0; cryptogram = 0; tag = 0; place = 0 }
+noParts n = record { number = n; letter = 0; group = 0; metadata = 0; cryptogram = 0; tag = 0; place = 0 }
 
 -- how many bytes belong to the header h behind it: metadata, cryptogram and tag
 abbrev pub bodyLength : Header → ℕ
@@ -53,6 +54,7 @@ partsOf n h =
     (cond (ltb (n - h .place) (bodyLength h)) (noParts 2)
     (record {
       number = 0;
+      letter = h .letter;
       group = h .group;
       metadata = h .place;
       cryptogram = h .place + h .alen;
@@ -64,13 +66,17 @@ partsOf n h =
 unfoldable pub readParts : List ℕ → Parts
 readParts s = partsOf (length s) (readHeader s)
 
--- number 0: an envelope for a group, that ends at a place
-abbrev pub anEnvelope : (group place : ℕ) → Envelope
-anEnvelope group place = record { number = 0; group = group; place = place }
+-- number 0: an envelope of a letter for a group, that ends at a place
+abbrev pub anEnvelope : (letter group place : ℕ) → Envelope
+anEnvelope letter group place = record { number = 0; letter = letter; group = group; place = place }
 
--- what reading an envelope answers: the number, the group, and the place after the envelope
+-- the answer that goes with the parts: all but where these begin
+abbrev pub answerOf : Parts → Envelope
+answerOf p = record { number = p .number; letter = p .letter; group = p .group; place = p .place }
+
+-- what reading an envelope answers: the number, the letter, the group, and the place after the envelope
 unfoldable pub readEnvelope : List ℕ → Envelope
-readEnvelope s = record { number = readParts s .number; group = readParts s .group; place = readParts s .place }
+readEnvelope s = answerOf (readParts s)
 
 -- the bytes of s from the place i up to the place j
 abbrev pub between : ℕ → ℕ → List ℕ → List ℕ

@@ -1,6 +1,6 @@
-// Message envelopes (document 01, "Envelope"): a header `S,group,A length,M length,`, and then metadata, cryptogram and tag. Reading takes any
-// bytes and hands out the caller's own. Each answer has a number of document 01's "What stops a call", 0 where nothing stopped it.
-// specs/Layout.antt has the layout and Read.antt what is found; the theorems over them are in proofs/.
+// Message envelopes (document 01, "Envelope", and document 02, request 2): a header `letter,group,A length,M length,`, and then metadata, cryptogram
+// and tag. Reading takes any bytes and hands out the caller's own. Each answer has a number of document 01's "What stops a call", 0 where nothing
+// stopped it. specs/Layout.antt has the layout and Read.antt what is found; the theorems over them are in proofs/.
 use decimal::read_decimal;
 ghost use mathlib.Core.Path.{_≡_};
 ghost use Rattle.envelope.specs.Layout.{tagLength};
@@ -13,7 +13,10 @@ pub const MAX_LENGTH: u32 = 16384;
 
 pub const COMMA: u8 = b',';
 
+// The letters: S for a message of SANSE, N for one of SANE.
 pub const LETTER_S: u8 = b'S';
+
+pub const LETTER_N: u8 = b'N';
 
 // A header: letter, group, the lengths of metadata and message, and the place after it; number 1 and zeros where there is none.
 pub struct Header {
@@ -25,10 +28,11 @@ pub struct Header {
     pub place: usize,
 }
 
-// Where the parts of an envelope begin, and the place after it; zeros but for the number where it is refused.
+// Letter, group, where the parts of an envelope begin, and the place after it; zeros but for the number where it is refused.
 #[repr(C)]
 pub struct Parts {
     pub number: u32,
+    pub letter: u8,
     pub group: u32,
     pub metadata: usize,
     pub cryptogram: usize,
@@ -36,9 +40,10 @@ pub struct Parts {
     pub place: usize,
 }
 
-// What reading answers: the number, the group and the place after the envelope.
+// What reading answers: the number, the letter, the group and the place after the envelope.
 pub struct Envelope {
     pub number: u32,
+    pub letter: u8,
     pub group: u32,
     pub place: usize,
 }
@@ -47,7 +52,13 @@ pub struct Envelope {
 pub fn tag_len(letter: u8) -> usize
     ensures { λ r. ⌜ r ≡ tagLength letter ⌝ }
 {
-    if letter == LETTER_S { 32 } else { 0 }
+    if letter == LETTER_S {
+        32
+    } else if letter == LETTER_N {
+        16
+    } else {
+        0
+    }
 }
 
 // The answer where the bytes begin with no header.
@@ -106,6 +117,7 @@ fn no_parts(number: u32) -> Parts
 {
     Parts {
         number,
+        letter: 0,
         group: 0,
         metadata: 0,
         cryptogram: 0,
@@ -114,7 +126,7 @@ fn no_parts(number: u32) -> Parts
     }
 }
 
-// Where the parts of the envelope at the start of some bytes begin, and where it ends.
+// The letter and the group of the envelope at the start of some bytes, where its parts begin, and where it ends.
 pub fn read_parts(s: &[u8]) -> Parts
     ensures { λ r. ⌜ r ≡ readParts (now (s .entry)) ⌝ }
 {
@@ -130,6 +142,7 @@ pub fn read_parts(s: &[u8]) -> Parts
     let cryptogram = metadata + h.alen;
     Parts {
         number: 0,
+        letter: h.letter,
         group: h.group,
         metadata,
         cryptogram,
@@ -138,14 +151,15 @@ pub fn read_parts(s: &[u8]) -> Parts
     }
 }
 
-// Reads the envelope at the start of some bytes: its group and the place after it. Refusals: 1 (no header stands there), 2 (too few bytes
-// follow it); then group and place are 0.
+// Reads the envelope at the start of some bytes: its letter, its group and the place after it. Refusals: 1 (no header stands there), 2 (too few
+// bytes follow it); then letter, group and place are 0.
 pub fn read_envelope(s: &[u8]) -> Envelope
     ensures { λ r. ⌜ r ≡ readEnvelope (now (s .entry)) ⌝ }
 {
     let p = read_parts(s);
     Envelope {
         number: p.number,
+        letter: p.letter,
         group: p.group,
         place: p.place,
     }

@@ -46,10 +46,11 @@ fn put_part(s: &[u8]) {
     put(checksum(s));
 }
 
-// Reads the envelope at the start of some bytes, and writes number, group, place and the three parts.
+// Reads the envelope at the start of some bytes, and writes number, letter, group, place and the three parts.
 fn put_read(s: &[u8]) {
     let e = envelope::read_envelope(s);
     put(e.number as usize);
+    put(wide(e.letter));
     put(e.group as usize);
     put(e.place);
     put_part(envelope::metadata(s));
@@ -96,7 +97,7 @@ fn read_case(case: &[u8; 24]) {
 }
 
 // Writes an envelope to the first bytes of a buffer, with parts of a string; then writes number, length, a sum over the buffer, and what is
-// read from it. At 2, 4, 6, 8 and 10 of the case stand the group and the lengths of metadata, cryptogram, tag and buffer.
+// read from it. Byte 1 of the case is the letter; at 2, 4, 6, 8 and 10 stand the group and the lengths of metadata, cryptogram, tag and buffer.
 fn put_write(case: &[u8; 24], source: &[u8], out: &mut [u8]) {
     let a = word(case, 4);
     let c = word(case, 6) + 7;
@@ -115,6 +116,7 @@ fn put_write(case: &[u8; 24], source: &[u8], out: &mut [u8]) {
         return;
     }
     let w = envelope_write::write_envelope(
+        case[1],
         word(case, 2) as u32,
         &source[..a],
         &source[7..c],

@@ -1,66 +1,60 @@
 -- What each test and each write of the code that makes an envelope comes to. Assumes nothing.
 use Prim.Native.Nat.{ℕ, _+_, _<_, _≤_}
 use mathlib.Core.Path.{_≡_, refl, sym, ap, _∙_}
+use mathlib.Core.Bool.{cond}
 use mathlib.Core.List.{List, [], _∷_, _++_, append-assoc}
 use native.Mathlib.Omega.{arith}
 use lib.ListN.{length, set, length-append}
+use lib.Dec.{eqb, ltb}
 use borrow.Author.Tests.{lt-ltb, le-ltb, eq-eqb, ne-eqb}
 use Rattle.decimal.specs.Buffer.{writtenAt}
 use Rattle.decimal.proofs.Laws.{decimal-within}
 use Rattle.decimal.proofs.Buffers.{writtenAt-join, writtenAt-pair}
-use Rattle.envelope.specs.Layout.{comma, maxGroup, maxLength, tagLength, field, header, envelope}
+use Rattle.envelope.specs.Layout.{comma, maxGroup, maxLength, tagLength, Known, field, header, envelope}
 use Rattle.envelope.proofs.Layouts.{header-length, field-length, tag-bound}
 use Rattle.envelope_write.specs.Write.{writeNumber}
 
 module _ (letter group alen mlen tlen room : ℕ) where
-  pub number-3 : maxGroup < group → writeNumber letter group alen mlen tlen room ≡ 3
+  pub number-1 : tagLength letter ≡ 0 → writeNumber letter group alen mlen tlen room ≡ 1
   unfolding writeNumber
-  number-3 h = simp (lt-ltb maxGroup group h)
+  number-1 h = simp (eq-eqb (tagLength letter) 0 h)
 
-  module _ (g : group ≤ maxGroup) where
-    pub number-6-metadata : maxLength < alen → writeNumber letter group alen mlen tlen room ≡ 6
+  module _ (l : Known letter) where
+    pub number-3 : maxGroup < group → writeNumber letter group alen mlen tlen room ≡ 3
     unfolding writeNumber
-    number-6-metadata h = simp (le-ltb maxGroup group g, lt-ltb maxLength alen h)
+    number-3 h = simp (ne-eqb (tagLength letter) 0 l, lt-ltb maxGroup group h)
 
-    module _ (a : alen ≤ maxLength) where
-      pub number-6-message : maxLength < mlen → writeNumber letter group alen mlen tlen room ≡ 6
+    module _ (g : group ≤ maxGroup) where
+      pub number-6-metadata : maxLength < alen → writeNumber letter group alen mlen tlen room ≡ 6
       unfolding writeNumber
-      number-6-message h = simp (le-ltb maxGroup group g, le-ltb maxLength alen a, lt-ltb maxLength mlen h)
+      number-6-metadata h = simp (ne-eqb (tagLength letter) 0 l, le-ltb maxGroup group g, lt-ltb maxLength alen h)
 
-      module _ (m : mlen ≤ maxLength) where
-        pub number-7 : (tlen ≡ tagLength letter → ⊥) → writeNumber letter group alen mlen tlen room ≡ 7
+      module _ (a : alen ≤ maxLength) where
+        pub number-6-message : maxLength < mlen → writeNumber letter group alen mlen tlen room ≡ 6
         unfolding writeNumber
-        number-7 h = simp (le-ltb maxGroup group g, le-ltb maxLength alen a, le-ltb maxLength mlen m, ne-eqb tlen (tagLength letter) h)
+        number-6-message h = simp (ne-eqb (tagLength letter) 0 l, le-ltb maxGroup group g, le-ltb maxLength alen a, lt-ltb maxLength mlen h)
 
-        -- n is the header's length
-        module _ (t : tlen ≡ tagLength letter) (n : ℕ) (is-n : n ≡ length (header letter group alen mlen)) where
-          pub sizes : n + alen + mlen + tlen ≤ 32817
-          sizes =
-              omega (arith, tag-bound letter, header-length letter group alen mlen, decimal-within 1 group (omega arith), decimal-within 4 alen (omega arith), decimal-within 4 mlen (omega arith))
-
-          pub number-8 : room < n + alen + mlen + tlen → writeNumber letter group alen mlen tlen room ≡ 8
+        module _ (m : mlen ≤ maxLength) where
+          -- the tests up to the tag's
+          to-tag : writeNumber letter group alen mlen tlen room
+              ≡ cond (eqb tlen (tagLength letter)) (cond (ltb room (length (header letter group alen mlen) + alen + mlen + tlen)) 8 0) 7
           unfolding writeNumber
-          number-8 h =
-              simp (
-                le-ltb maxGroup group g,
-                le-ltb maxLength alen a,
-                le-ltb maxLength mlen m,
-                eq-eqb tlen (tagLength letter) t,
-                sym is-n,
-                lt-ltb room (n + alen + mlen + tlen) h,
-              )
+          to-tag = simp (ne-eqb (tagLength letter) 0 l, le-ltb maxGroup group g, le-ltb maxLength alen a, le-ltb maxLength mlen m)
 
-          pub number-0 : n + alen + mlen + tlen ≤ room → writeNumber letter group alen mlen tlen room ≡ 0
-          unfolding writeNumber
-          number-0 h =
-              simp (
-                le-ltb maxGroup group g,
-                le-ltb maxLength alen a,
-                le-ltb maxLength mlen m,
-                eq-eqb tlen (tagLength letter) t,
-                sym is-n,
-                le-ltb room (n + alen + mlen + tlen) h,
-              )
+          pub number-7 : (tlen ≡ tagLength letter → ⊥) → writeNumber letter group alen mlen tlen room ≡ 7
+          number-7 h = to-tag ∙ simp (ne-eqb tlen (tagLength letter) h)
+
+          -- n is the header's length
+          module _ (t : tlen ≡ tagLength letter) (n : ℕ) (is-n : n ≡ length (header letter group alen mlen)) where
+            pub sizes : n + alen + mlen + tlen ≤ 32817
+            sizes =
+                omega (arith, tag-bound letter, header-length letter group alen mlen, decimal-within 1 group (omega arith), decimal-within 4 alen (omega arith), decimal-within 4 mlen (omega arith))
+
+            pub number-8 : room < n + alen + mlen + tlen → writeNumber letter group alen mlen tlen room ≡ 8
+            number-8 h = to-tag ∙ simp (eq-eqb tlen (tagLength letter) t, sym is-n, lt-ltb room (n + alen + mlen + tlen) h)
+
+            pub number-0 : n + alen + mlen + tlen ≤ room → writeNumber letter group alen mlen tlen room ≡ 0
+            number-0 h = to-tag ∙ simp (eq-eqb tlen (tagLength letter) t, sym is-n, le-ltb room (n + alen + mlen + tlen) h)
 
 -- letter and comma, and then the three numbers, one behind the other, are the header
 pub header-written : (letter group alen mlen p q : ℕ) (out o₁ o₂ o₃ : List ℕ) → length (header letter group alen mlen) ≤ length out

@@ -1,9 +1,8 @@
-// Writes envelopes (document 01, "Envelope") to the start of a lent buffer. Each answer has a number of document 01's "What stops a call", 0
+// Writes envelopes (document 01, "Envelope", and document 02, request 2) to the start of a lent buffer. Each answer has a number of document 01's "What stops a call", 0
 // where nothing stopped it. specs/Write.antt says what is written; that reading gives it back is shown in proofs/RoundTrip.antt.
 use decimal::decimal_len;
 use decimal::write_decimal;
 use envelope::COMMA;
-use envelope::LETTER_S;
 use envelope::MAX_GROUP;
 use envelope::MAX_LENGTH;
 use envelope::tag_len;
@@ -67,6 +66,10 @@ fn write_header(letter: u8, group: u32, alen: u32, mlen: u32, out: &mut [u8]) ->
 fn write_number(letter: u8, group: u32, alen: usize, mlen: usize, tlen: usize, room: usize) -> u32
     ensures { λ r. ⌜ r ≡ writeNumber letter group alen mlen tlen room ⌝ }
 {
+    let known = tag_len(letter);
+    if known == 0 {
+        return 1;
+    }
     if MAX_GROUP < group {
         return 3;
     }
@@ -76,7 +79,7 @@ fn write_number(letter: u8, group: u32, alen: usize, mlen: usize, tlen: usize, r
     if (MAX_LENGTH as usize) < mlen {
         return 6;
     }
-    if tlen != tag_len(letter) {
+    if tlen != known {
         return 7;
     }
     if room < header_len(group, alen as u32, mlen as u32) + alen + mlen + tlen {
@@ -85,20 +88,22 @@ fn write_number(letter: u8, group: u32, alen: usize, mlen: usize, tlen: usize, r
     0
 }
 
-// Writes an envelope to the start of a buffer and gives how many bytes that are; the rest of the buffer is kept. Refusals: 3 (the group), 6
-// (metadata or cryptogram too long), 7 (the tag is not 32 bytes), 8 (the buffer is shorter than the envelope); then the buffer is unaltered.
+// Writes an envelope to the start of a buffer and gives how many bytes that are; the rest of the buffer is kept. Refusals: 1 (the letter is
+// neither S nor N), 3 (the group), 6 (metadata or cryptogram too long), 7 (the tag has not the letter's length: 32 bytes for S, 16 for N), 8 (the
+// buffer is shorter than the envelope); then the buffer is unaltered.
 pub fn write_envelope(
+    letter: u8,
     group: u32,
     metadata: &[u8],
     cryptogram: &[u8],
     tag: &[u8],
     out: &mut [u8],
 ) -> WriteResult
-    ensures { λ r. ⌜ (r ≡ writeAnswer group (now (metadata .entry)) (now (cryptogram .entry)) (now (tag .entry)) (now (out .entry)))
-        × (now (out .exit) ≡ writeBuffer group (now (metadata .entry)) (now (cryptogram .entry)) (now (tag .entry)) (now (out .entry))) ⌝ }
+    ensures { λ r. ⌜ (r ≡ writeAnswer letter group (now (metadata .entry)) (now (cryptogram .entry)) (now (tag .entry)) (now (out .entry)))
+        × (now (out .exit) ≡ writeBuffer letter group (now (metadata .entry)) (now (cryptogram .entry)) (now (tag .entry)) (now (out .entry))) ⌝ }
 {
     let number = write_number(
-        LETTER_S,
+        letter,
         group,
         metadata.len(),
         cryptogram.len(),
@@ -109,7 +114,7 @@ pub fn write_envelope(
         return WriteResult { number, len: 0 };
     }
     let p = write_header(
-        LETTER_S,
+        letter,
         group,
         metadata.len() as u32,
         cryptogram.len() as u32,

@@ -1,4 +1,4 @@
--- Document 01's edges hold, and the bytes after A, M and T at every length. Assumes nothing.
+-- The table of edges holds, and so do the bytes after A, M and T, and after SANE's strings, at every length. Assumes nothing.
 use mathlib.Core.Bool.{Bool, true, false}
 use mathlib.Core.List.{List, [], _∷_, _++_, map}
 use mathlib.Core.Path.{_≡_, refl, sym, ap, ap₂, _∙_}
@@ -15,18 +15,21 @@ use Rattle.deck.specs.Strings.{bitsOf, padded, framed}
 use Rattle.deck.specs.Closing.{closingByte}
 use Rattle.deck.proofs.Closing.{closing-lt}
 use Rattle.deck.proofs.Strings.{padded-byteBit}
-use Rattle.modes.specs.Mode.{sanseCount}
-use Rattle.modes.specs.Rules.{growth, startAt}
-use Rattle.modes.specs.Edges.{edgeRows, paddedByte, BytesAfter}
+use Rattle.modes.specs.Mode.{sanseCount, saneCount}
+use Rattle.modes.specs.Rules.{growth, startAt, nonceStartAt}
+use Rattle.modes.specs.Edges.{edgeRows, paddedByte, BytesAfter, SaneBytesAfter}
 
 pub edges-hold : Hold edgeRows
-unfolding sanseCount growth closingByte startAt rollIn rollOut lanes ofBits bit
+unfolding sanseCount saneCount growth closingByte startAt nonceStartAt rollIn rollOut lanes ofBits bit
 edges-hold = refl
 
--- the table has all of document 01's rows: what they say, in its order, then a start's numbers and one count more, and the rollings
+-- the table has all of document 01's rows: what they say, in its order, then a start's numbers and one count more, and the rollings; then
+-- SANE's
 pub edges-say : map (λ (r : Row). r .says) edgeRows
     ≡ (1 ∷ 1 ∷ 2 ∷ 3 ∷ []) ∷ (3 ∷ []) ∷ (6 ∷ []) ∷ (8 ∷ []) ∷ (1030 ∷ []) ∷ (2 ∷ []) ∷ (5 ∷ []) ∷ (4 ∷ 6 ∷ []) ∷ (10 ∷ 14 ∷ []) ∷ (11 ∷ 15 ∷ [])
-    ∷ (4 ∷ 0 ∷ 0 ∷ 4 ∷ []) ∷ (8 ∷ []) ∷ only s₁₁ 0x2001 ∷ set (only s₀ 0x8000_0000) s₁₁ 4 ∷ only s₁₁ 7 ∷ []
+    ∷ (4 ∷ 0 ∷ 0 ∷ 4 ∷ []) ∷ (8 ∷ []) ∷ only s₁₁ 0x2001 ∷ set (only s₀ 0x8000_0000) s₁₁ 4 ∷ only s₁₁ 7
+    ∷ (3 ∷ []) ∷ (5 ∷ 5 ∷ 6 ∷ []) ∷ (8 ∷ []) ∷ (1029 ∷ []) ∷ (0 ∷ 0 ∷ 0 ∷ 1 ∷ []) ∷ (1 ∷ 0 ∷ 1 ∷ 1 ∷ []) ∷ (4 ∷ 6 ∷ []) ∷ (5 ∷ 7 ∷ []) ∷ (1 ∷ [])
+    ∷ (16 ∷ 16 ∷ []) ∷ (4 ∷ 4 ∷ 5 ∷ []) ∷ (7 ∷ 0 ∷ 7 ∷ []) ∷ []
 edges-say = refl
 
 -- the byte after the last of a string's bytes is the closing byte of its frame bits
@@ -49,3 +52,10 @@ bytes-after x true =
     record { afterA = closing-at x _ (omega arith); afterM = closing-at x _ (omega arith); afterT = closing-at x _ (omega arith) }
 bytes-after x false =
     record { afterA = closing-at x _ (omega arith); afterM = closing-at x _ (omega arith); afterT = closing-at x _ (omega arith) }
+
+pub sane-bytes-after : (x : List ℕ) (e : Bool) → SaneBytesAfter x e
+unfolding closingByte
+sane-bytes-after x true =
+    record { afterA = closing-at x _ (omega arith); afterC = closing-at x _ (omega arith); afterN = closing-at x _ (omega arith) }
+sane-bytes-after x false =
+    record { afterA = closing-at x _ (omega arith); afterC = closing-at x _ (omega arith); afterN = closing-at x _ (omega arith) }

@@ -1,17 +1,17 @@
--- What the code's leaves are handed and count, as SANSE's strings and counts: the closing bytes of A, M and T give the frame bits, and the
--- permutations that the leaves do sum to document 01's formula. Assumes nothing.
+-- What the code's leaves are handed and count, as SANSE's and SANE's strings and counts: the closing bytes give the frame bits, and the
+-- permutations that the leaves do sum to the formulas of document 01 and of request 2. Assumes nothing.
 use mathlib.Core.Bool.{Bool, true, false, not, _||_, cond}
 use mathlib.Core.List.{List, [], _∷_}
 use mathlib.Core.Path.{_≡_, refl}
 use Prim.Native.Nat.{ℕ, zero, suc, _+_}
 use native.Mathlib.Omega.{arith}
 use lib.ListN.{length}
-use Rattle.deck.specs.Strings.{blocks, framed}
+use Rattle.deck.specs.Strings.{b, blocks, framed}
 use Rattle.deck.specs.Closing.{closingByte, closedBy}
 use Rattle.xoofff.specs.Leaves.{outputBlocks}
 use Rattle.deck.proofs.Closing.{closedBy-closing}
 use Rattle.deck.proofs.Strings.{blocks-is}
-use Rattle.modes.specs.Mode.{isEmpty, sanseParameters, sanseCount, ceiling48}
+use Rattle.modes.specs.Mode.{isEmpty, sanseParameters, sanseCount, ceiling48, saneParameters, saneCount}
 
 -- ---- closing bytes
 
@@ -72,3 +72,49 @@ leaf-counts (z ∷ a) (y ∷ x) t e h =
       outputBlocks-is 32,
       outputBlocks-is (suc (length x)),
     )
+
+-- ---- SANE: the closing byte of A is SANSE's, those of the cryptogram and of the nonce are its own
+
+pub closed-C : (x : List ℕ) (e : Bool) → closedBy x (cond e 7 5) ≡ framed x (saneParameters .frameM e)
+unfolding closingByte
+closed-C x true = closedBy-closing x (true ∷ true ∷ []) (omega arith)
+closed-C x false = closedBy-closing x (true ∷ false ∷ []) (omega arith)
+
+pub closed-N : (x : List ℕ) → closedBy x 1 ≡ framed x []
+unfolding closingByte
+closed-N x = closedBy-closing x [] (omega arith)
+
+-- the output blocks of a keystream of n bytes from byte 16 on
+pub outputBlocks-16 : (n : ℕ) → outputBlocks 16 (suc n) ≡ ceiling48 (suc n + 16)
+unfolding outputBlocks
+outputBlocks-16 n = omega arith
+
+-- the blocks of the cryptogram where there is one, and the permutations of the keystream, y's among them
+abbrev pub countC : (c : List ℕ) → Bool → ℕ
+countC c e = cond (isEmpty c) 0 (blocks (framed c (saneParameters .frameM e)))
+
+abbrev pub countStream : (x : List ℕ) → ℕ
+countStream x = cond (isEmpty x) 0 (1 + outputBlocks 16 (length x))
+
+-- what the leaves of a call count, with the tag's: y, and one output block. The cryptogram c has the length of the text x
+pub sane-leaf-counts : (a x c : List ℕ) (e : Bool) → length c ≡ length x
+    → countStream x + countA a x e + countC c e + (1 + outputBlocks 0 16) ≡ saneCount (length a) (length x)
+unfolding saneCount
+sane-leaf-counts [] [] [] e h = omega (arith, blocks-is (framed [] (false ∷ e ∷ [])) (omega arith), outputBlocks-is 16)
+sane-leaf-counts (z ∷ a) [] [] e h = omega (arith, blocks-is (framed (z ∷ a) (false ∷ e ∷ [])) (omega arith), outputBlocks-is 16)
+sane-leaf-counts a [] (w ∷ c) e h = absurd (omega arith)
+sane-leaf-counts a (y ∷ x) [] e h = absurd (omega arith)
+sane-leaf-counts [] (y ∷ x) (w ∷ c) e h =
+    omega (arith, blocks-is (framed (w ∷ c) (true ∷ e ∷ [])) (omega arith), outputBlocks-is 16, outputBlocks-16 (length x))
+sane-leaf-counts (z ∷ a) (y ∷ x) (w ∷ c) e h =
+    omega (
+      arith,
+      blocks-is (framed (z ∷ a) (false ∷ e ∷ [])) (omega arith),
+      blocks-is (framed (w ∷ c) (true ∷ e ∷ [])) (omega arith),
+      outputBlocks-is 16,
+      outputBlocks-16 (length x),
+    )
+
+-- and of a start: the key's, the nonce's blocks, y, and one output block
+pub nonce-leaf-counts : (nonce : List ℕ) → 1 + blocks (framed nonce []) + (1 + outputBlocks 0 16) ≡ b (length nonce) + 3
+nonce-leaf-counts nonce = omega (arith, blocks-is (framed nonce []) (omega arith), outputBlocks-is 16)

@@ -1,5 +1,6 @@
 -- Laws and theorems that belong to no one function.
 pub mod Papers
+pub mod PapersSane
 pub mod Steps
 pub mod Modes
 pub mod Sessions
@@ -10,10 +11,12 @@ pub mod Converse
 pub mod Exactly
 pub mod AnySession
 pub mod Start
+pub mod NonceStart
 pub mod Demand3
 pub mod OneCall
 pub mod Demands
 pub mod Fresh
+pub mod SaneDemands
 pub mod Edges
 pub mod Leaves
 pub mod Codes

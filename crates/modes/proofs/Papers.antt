@@ -46,7 +46,7 @@ first32-is f =
 
 -- ---- the count
 
-ceiling-is : (M : ℕ) → ceiling48 M ≡ cond (eqb (M % 48) 0) (M / 48) (M / 48 + 1)
+pub ceiling-is : (M : ℕ) → ceiling48 M ≡ cond (eqb (M % 48) 0) (M / 48) (M / 48 + 1)
 ceiling-is M = go (eqb (M % 48) 0) refl
   where
     go : (t : Bool) → eqb (M % 48) 0 ≡ t → ceiling48 M ≡ cond t (M / 48) (M / 48 + 1)

@@ -1,5 +1,5 @@
--- What the theorems ask of a mode (`ModeLaws`), and that the modes with SANSE's steps have it, for any parameters with short frames: their
--- steps go by what they see of the history, what was wrapped is unwrapped, and the index grows by the lengths. Assumes nothing.
+-- What the theorems ask of a mode (`ModeLaws`), and that the modes with SANSE's steps and those with SANE's have it, for any parameters with
+-- short frames: their steps go by what they see of the history, what was wrapped is unwrapped, and the index grows by the lengths. Assumes nothing.
 use mathlib.Core.Bool.{Bool}
 use mathlib.Core.List.{List, [], _∷_}
 use mathlib.Core.Path.{_≡_, refl, sym, ap, _∙_}
@@ -10,7 +10,7 @@ use Rattle.word.specs.Lists.{tabulate, sum}
 use Rattle.word.proofs.Lists.{tabulate-length, sum-length, sum-undone}
 use Rattle.deck.specs.Strings.{Str, b, framed}
 use Rattle.deck.specs.Deck.{run}
-use Rattle.modes.specs.Mode.{HistoryRep, StepResult, Mode, Parameters, withA, withText, tagOf, addKeystream, stepResult, sivBody, sivWrap, sivUnwrap, siv, sanse, sanseParameters}
+use Rattle.modes.specs.Mode.{HistoryRep, StepResult, Mode, Parameters, withA, withText, tagOf, addKeystream, stepResult, sivBody, sivWrap, sivUnwrap, siv, streamWrap, streamUnwrap, stream, sanse, sanseParameters, sane, saneParameters}
 use Rattle.modes.specs.Rules.{growth}
 
 -- ---- one way to hold a history seen through another
@@ -105,6 +105,20 @@ module _ (p : Parameters) {S S′ : Type 0} {d : HistoryRep S} {d′ : HistoryRe
       result-simulates (withText p d h₁ e (sivBody p d h₁ e c t)) _
       (ap (withText p d′ (withA p d′ (φ h) e a c) e) k ∙ withText-simulates h₁ e (sivBody p d h₁ e c t) g₁) k
 
+  pub streamWrap-simulates : (h : S) (e : Bool) (a x : List ℕ) → streamWrap p d′ (φ h) e a x ≡ mapResult φ (streamWrap p d h e a x)
+  unfolding streamWrap
+  streamWrap-simulates h e a x =
+      let h₁ = withA p d h e a x in
+      let k = addKeystream-simulates h x refl in
+      result-simulates (withText p d h₁ e (addKeystream p d h x)) _
+      (ap (withText p d′ (withA p d′ (φ h) e a x) e) k ∙ withText-simulates h₁ e (addKeystream p d h x) (withA-simulates h e a x)) k
+
+  pub streamUnwrap-simulates : (h : S) (e : Bool) (a c t : List ℕ) → streamUnwrap p d′ (φ h) e a c t ≡ mapResult φ (streamUnwrap p d h e a c t)
+  unfolding streamUnwrap
+  streamUnwrap-simulates h e a c t =
+      let h₁ = withA p d h e a c in
+      result-simulates (withText p d h₁ e c) _ (withText-simulates h₁ e c (withA-simulates h e a c)) (addKeystream-simulates h c refl)
+
 -- ---- keystream added twice is gone
 
 module _ (p : Parameters) {S : Type 0} (d : HistoryRep S) where
@@ -146,6 +160,21 @@ module _ (p : Parameters) {S : Type 0} (d : HistoryRep S) where
   unfolding sivWrap
   sivWrap-tag h e a x = tabulate-length (p .tagLength) _
 
+  pub stream-undone : (h : S) (e : Bool) (a x t : List ℕ) → streamUnwrap p d h e a (streamWrap p d h e a x .body) t ≡ restored (streamWrap p d h e a x) x
+  unfolding streamWrap streamUnwrap
+  stream-undone h e a x t =
+      let c = addKeystream p d h x in
+      ap (λ (r : S). stepResult p d (withText p d r e c) (addKeystream p d h c)) (withA-body h e a x h)
+      ∙ ap (stepResult p d (withText p d (withA p d h e a x) e c)) (addKeystream-undone h x)
+
+  pub streamWrap-length : (h : S) (e : Bool) (a x : List ℕ) → length (streamWrap p d h e a x .body) ≡ length x
+  unfolding streamWrap
+  streamWrap-length h e a x = addKeystream-length h x
+
+  pub streamWrap-tag : (h : S) (e : Bool) (a x : List ℕ) → length (streamWrap p d h e a x .tag) ≡ p .tagLength
+  unfolding streamWrap
+  streamWrap-tag h e a x = tabulate-length (p .tagLength) _
+
 -- ---- the index after a call
 
 module _ (p : Parameters) (s : ShortFrames p) {S : Type 0} (d : HistoryRep S) (g : Grows d) where
@@ -171,7 +200,19 @@ module _ (p : Parameters) (s : ShortFrames p) {S : Type 0} (d : HistoryRep S) (g
       x : List ℕ
       x = sivBody p d (withA p d h e a c) e c t
 
--- ---- the modes
+  pub streamWrap-index : (h : S) (e : Bool) (a x : List ℕ) → d .index (streamWrap p d h e a x .after) ≡ d .index h + growth (length a) (length x)
+  unfolding streamWrap
+  streamWrap-index h e a x =
+      let c = addKeystream p d h x in
+      ap (λ (h₁ : S). d .index (withText p d h₁ e c)) (sym (withA-body p d h e a x h))
+      ∙ grown h e a c ∙ ap (λ (n : ℕ). d .index h + growth (length a) n) (addKeystream-length p d h x)
+
+  pub streamUnwrap-index : (h : S) (e : Bool) (a c t : List ℕ)
+      → d .index (streamUnwrap p d h e a c t .after) ≡ d .index h + growth (length a) (length c)
+  unfolding streamUnwrap
+  streamUnwrap-index h e a c t = grown h e a c
+
+-- ---- the modes, with any frame bits
 
 pub siv-laws : (p : Parameters) → ShortFrames p → ModeLaws (siv p)
 siv-laws p s =
@@ -185,5 +226,20 @@ siv-laws p s =
       unwraps-index = λ d g. sivUnwrap-index p s d g;
     }
 
+pub stream-laws : (p : Parameters) → ShortFrames p → ModeLaws (stream p)
+stream-laws p s =
+    record {
+      wraps-simulate = λ l. streamWrap-simulates p l;
+      unwraps-simulate = λ l. streamUnwrap-simulates p l;
+      undone = λ d h e a x. stream-undone p d h e a x _;
+      wraps-length = λ d. streamWrap-length p d;
+      wraps-tag = λ d. streamWrap-tag p d;
+      wraps-index = λ d g. streamWrap-index p s d g;
+      unwraps-index = λ d g. streamUnwrap-index p s d g;
+    }
+
 pub sanse-laws : ModeLaws sanse
 sanse-laws = siv-laws sanseParameters (record { ofA = λ e. omega arith; ofM = λ e. omega arith; ofT = λ e. omega arith })
+
+pub sane-laws : ModeLaws sane
+sane-laws = stream-laws saneParameters (record { ofA = λ e. omega arith; ofM = λ e. omega arith; ofT = λ e. omega arith })

@@ -1,16 +1,49 @@
--- Document 01, "Edges, marked for proof": the whole table as rows of one table with one statement over it (`Hold`), with a few rows more;
--- and the bytes after A, M and T at every length. Assumes nothing.
+-- Document 01, "Edges, marked for proof": the whole table as rows of one table with one statement over it (`Hold`), with a few rows more and
+-- the rows of SANE (document 02, request 2); and the bytes after A, M and T, and after SANE's strings, at every length. Assumes nothing.
 use mathlib.Core.Bool.{Bool, true, false, cond}
-use mathlib.Core.List.{List, [], _∷_}
+use mathlib.Core.List.{List, [], _∷_, _++_, map}
 use mathlib.Core.Path.{_≡_}
 use Prim.Native.Nat.{ℕ, _+_, _*_}
 use lib.ListN.{length, getD, replicate}
-use Rattle.word.specs.Word.{ofBits}
+use Rattle.word.specs.Word.{digit, ofBits}
 use Rattle.rolling.specs.Edges.{Row, rollingRows}
 use Rattle.deck.specs.Strings.{Str, b, bitsOf, padded, framed}
 use Rattle.deck.specs.Closing.{closingByte}
-use Rattle.modes.specs.Mode.{sanseCount, sanseParameters}
-use Rattle.modes.specs.Rules.{growth, startAt}
+use Rattle.modes.specs.Mode.{sanseCount, sanseParameters, saneCount, saneParameters}
+use Rattle.modes.specs.Rules.{growth, startAt, NonceOpening, nonceStartAt}
+
+-- ---- SANE
+
+-- a start under a key of 16 bytes with a nonce of n bytes and a tag buffer of t
+abbrev pub saneStart : (n t : ℕ) → NonceOpening
+saneStart n t = nonceStartAt saneParameters (replicate 16 0) (replicate n 0) (replicate t 0)
+
+-- frame bits as numbers
+abbrev pub digits : List Bool → List ℕ
+digits f = map digit f
+
+-- its rows
+abbrev pub saneRows : List Row
+saneRows =
+    -- count, A 0 M 0; A 0 M 1; A 0 M 32; A 0 M 33; A 20 M 48; A 16,384 M 16,384
+    record { gives = saneCount 0 0 ∷ []; says = 3 ∷ [] }
+    ∷ record { gives = saneCount 0 1 ∷ saneCount 0 32 ∷ saneCount 0 33 ∷ []; says = 5 ∷ 5 ∷ 6 ∷ [] }
+    ∷ record { gives = saneCount 20 48 ∷ []; says = 8 ∷ [] }
+    ∷ record { gives = saneCount 16384 16384 ∷ []; says = 1029 ∷ [] }
+    -- frame bits after A and after the cryptogram, each at e 0 and then at e 1; after the nonce there are none
+    ∷ record { gives = digits (saneParameters .frameA false) ++ digits (saneParameters .frameA true); says = 0 ∷ 0 ∷ 0 ∷ 1 ∷ [] }
+    ∷ record { gives = digits (saneParameters .frameM false) ++ digits (saneParameters .frameM true); says = 1 ∷ 0 ∷ 1 ∷ 1 ∷ [] }
+    -- byte after A, after the cryptogram, at e 0 and 1; after the nonce
+    ∷ record { gives = closingByte (saneParameters .frameA false) ∷ closingByte (saneParameters .frameA true) ∷ []; says = 4 ∷ 6 ∷ [] }
+    ∷ record { gives = closingByte (saneParameters .frameM false) ∷ closingByte (saneParameters .frameM true) ∷ []; says = 5 ∷ 7 ∷ [] }
+    ∷ record { gives = closingByte [] ∷ []; says = 1 ∷ [] }
+    -- the tag's length, and the output byte that keystream starts at
+    ∷ record { gives = saneParameters .tagLength ∷ saneParameters .offset ∷ []; says = 16 ∷ 16 ∷ [] }
+    -- a start's count with a nonce of 0, 47, 48 bytes
+    ∷ record { gives = saneStart 0 16 .count ∷ saneStart 47 16 .count ∷ saneStart 48 16 .count ∷ []; says = 4 ∷ 4 ∷ 5 ∷ [] }
+    -- a start's number with a tag buffer of 15, 16, 32 bytes
+    ∷ record { gives = saneStart 0 15 .number ∷ saneStart 0 16 .number ∷ saneStart 0 32 .number ∷ []; says = 7 ∷ 0 ∷ 7 ∷ [] }
+    ∷ []
 
 -- ---- the table
 
@@ -38,8 +71,9 @@ edgeRows =
     }
     -- count, A 48 M 1
     ∷ record { gives = sanseCount 48 1 ∷ []; says = 8 ∷ [] }
-    -- the rows of the rollings
+    -- the rows of the rollings, and those of SANE
     ∷ rollingRows
+    ++ saneRows
 
 -- ---- the bytes after A, M and T
 
@@ -53,3 +87,9 @@ pub record BytesAfter (x : List ℕ) (e : Bool) : Type 0 where
   pub afterA : paddedByte (framed x (sanseParameters .frameA e)) (length x) ≡ cond e 6 4
   pub afterM : paddedByte (framed x (sanseParameters .frameM e)) (length x) ≡ cond e 14 10
   pub afterT : paddedByte (framed x (sanseParameters .frameT e)) (length x) ≡ cond e 15 11
+
+-- and so in SANE: 4 or 6 after A, 5 or 7 after the cryptogram, and 1 after the nonce
+pub record SaneBytesAfter (x : List ℕ) (e : Bool) : Type 0 where
+  pub afterA : paddedByte (framed x (saneParameters .frameA e)) (length x) ≡ cond e 6 4
+  pub afterC : paddedByte (framed x (saneParameters .frameM e)) (length x) ≡ cond e 7 5
+  pub afterN : paddedByte (framed x []) (length x) ≡ 1

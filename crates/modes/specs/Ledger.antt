@@ -11,6 +11,7 @@ use Rattle.deck.specs.Strings.{Str}
 use Rattle.deck.specs.Deck.{indexOf}
 use Rattle.modes.specs.Call.{CallInput}
 use Rattle.modes.specs.Paper.{PaperResult, sanseWrap, sanseUnwrap}
+use Rattle.modes.specs.PaperSane.{saneWrap, saneUnwrap}
 
 -- a mode as the papers give it: its tag's length in bytes, its count by the byte lengths of A and M, and its algorithms at key, history and
 -- e
@@ -31,6 +32,18 @@ sansePermutations A M =
 -- SANSE as 003 and document 01 give it
 abbrev pub sansePaper : PaperMode
 sansePaper = record { tagLength = 32; count = sansePermutations; wraps = sanseWrap; unwraps = sanseUnwrap }
+
+-- request 2's count for SANE: b(A) + 2 where M is empty, otherwise a + b(M) + 3 + ceiling ((M + 16) / 48), where a is b(A), or 0 for empty A
+unfoldable pub sanePermutations : (A M : ℕ) → ℕ
+sanePermutations A M =
+    let bA : ℕ = A / 48 + 1 in
+    let bM : ℕ = M / 48 + 1 in
+    let ceiling : ℕ = cond (eqb ((M + 16) % 48) 0) ((M + 16) / 48) ((M + 16) / 48 + 1) in
+    cond (eqb M 0) (bA + 2) (cond (eqb A 0) 0 bA + bM + 3 + ceiling)
+
+-- SANE as 003 and request 2 give it
+abbrev pub sanePaper : PaperMode
+sanePaper = record { tagLength = 16; count = sanePermutations; wraps = saneWrap; unwraps = saneUnwrap }
 
 -- what a ledger holds
 pub record Ledger : Type 0 where

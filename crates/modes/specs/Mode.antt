@@ -1,5 +1,5 @@
--- Session modes, each written once over any way to hold a history (document 01, "SANSE" and "Counts and limits"; 003, sections 4 and 5),
--- and SANSE as one of them. Assumes nothing.
+-- Session modes, each written once over any way to hold a history (document 01, "SANSE" and "Counts and limits"; document 02, request 2;
+-- 003, sections 4 and 5), and SANSE and SANE as two of them. Assumes nothing.
 use mathlib.Core.Bool.{Bool, true, false, not, _||_, cond}
 use mathlib.Core.List.{List, [], _∷_, _++_}
 use Prim.Native.Nat.{ℕ, zero, suc, _+_, _/_}
@@ -99,9 +99,24 @@ module _ (p : Parameters) {S : Type 0} (d : HistoryRep S) where
       let m : List ℕ = sivBody h₁ e c t in
       stepResult (withText h₁ e m) m
 
--- the mode of these steps with any parameters
+  -- ---- modes whose keystream is that of the history before A, and whose history gains the cryptogram: SANE
+
+  -- the steps of wrap: the cryptogram, then the strings of A and of the cryptogram, then the tag
+  unfoldable pub streamWrap : S → Bool → (a m : List ℕ) → StepResult S
+  streamWrap h e a m =
+      let c : List ℕ = addKeystream h m in
+      stepResult (withText (withA h e a m) e c) c
+
+  -- the same steps of unwrap, which do not go by the tag that arrived
+  unfoldable pub streamUnwrap : S → Bool → (a c t : List ℕ) → StepResult S
+  streamUnwrap h e a c t = stepResult (withText (withA h e a c) e c) (addKeystream h c)
+
+-- the modes of these steps with any parameters
 abbrev pub siv : Parameters → Mode
 siv p = record { parameters = p; wraps = λ {S} d. sivWrap p d; unwraps = λ {S} d. sivUnwrap p d }
+
+abbrev pub stream : Parameters → Mode
+stream p = record { parameters = p; wraps = λ {S} d. streamWrap p d; unwraps = λ {S} d. streamUnwrap p d }
 
 -- ---- SANSE
 
@@ -135,3 +150,29 @@ sanseParameters =
 -- Xoofff-SANSE
 abbrev pub sanse : Mode
 sanse = siv sanseParameters
+
+-- ---- SANE
+
+-- the permutations of a call by the lengths of A and M; the one between accumulator and output is done once for the keystream and once for
+-- the tag
+unfoldable pub saneCount : (a m : ℕ) → ℕ
+saneCount a zero = b a + 2
+saneCount a (suc m) = blocksOfA a + b (suc m) + 3 + ceiling48 (suc m + 16)
+
+-- its frame bits: A, 0, e; cryptogram, 1, e; no tag enters its history. Its tags have 16 bytes, keystream is taken from byte 16 on, and e
+-- toggles
+abbrev pub saneParameters : Parameters
+saneParameters =
+    record {
+      frameA = λ e. false ∷ e ∷ [];
+      frameM = λ e. true ∷ e ∷ [];
+      frameT = λ e. [];
+      tagLength = 16;
+      offset = 16;
+      count = saneCount;
+      nextToggle = not;
+    }
+
+-- Xoofff-SANE
+abbrev pub sane : Mode
+sane = stream saneParameters

@@ -1,4 +1,5 @@
--- What stops a call, and what each call gives and leaves, refused ones included (document 01, "Counts and limits" and "What stops a call"):
+-- What stops a call, and what each call gives and leaves, refused ones included (document 01, "Counts and limits" and "What stops a call";
+-- document 02, request 2):
 -- for any mode, any way to hold a history and any session. The contracts cite these. Assumes nothing.
 use mathlib.Core.Bool.{Bool, true, false, not, _||_, _&&_, cond}
 use mathlib.Core.List.{List, [], _∷_, _++_}
@@ -6,11 +7,11 @@ use Prim.Native.Nat.{ℕ, zero, suc, _+_}
 use lib.Dec.{ltb, leb, eqb}
 use lib.ListN.{length, drop, replicate}
 use Rattle.deck.specs.declared.DeckState.{DeckState}
-use Rattle.deck.specs.Strings.{b}
+use Rattle.deck.specs.Strings.{b, framed}
 use Rattle.state.specs.State.{zeros}
 use Rattle.deck.specs.Deck.{keyMask}
 use Rattle.modes.specs.Call.{CallInput}
-use Rattle.modes.specs.Mode.{HistoryRep, StepResult, Mode}
+use Rattle.modes.specs.Mode.{HistoryRep, incremental, Parameters, StepResult, Mode, tagOf}
 
 -- ---- limits
 
@@ -151,3 +152,36 @@ newSession key = record { history = record { acc = zeros; mask = keyMask key; in
 -- start, of any key
 unfoldable pub startAt : (key : List ℕ) → Opening
 startAt key = cond (keyFits key) (record { number = 0; count = 1; session = newSession key }) (record { number = 4; count = 0; session = closed })
+
+-- ---- start with a nonce, and its checks 4, 6 and 7: SANE
+
+-- what it gives: its number (0: accepted), its count, the session, and the tag buffer after it
+pub record NonceOpening : Type 0 where
+  pub number : ℕ
+  pub count : ℕ
+  pub session : SessionState DeckState
+  pub tag : List ℕ
+
+-- the first check that is met, or 0: by the mode's tag length l, the key, and the lengths of the nonce and of the tag buffer
+abbrev pub nonceCheck : (l : ℕ) (key : List ℕ) (n t : ℕ) → ℕ
+nonceCheck l key n t = cond (not (keyFits key)) 4 (cond (ltb longest n) 6 (cond (not (eqb t l)) 7 0))
+
+-- an open session whose history has the nonce, without frame bits, as its one string
+abbrev pub nonceSession : (key nonce : List ℕ) → SessionState DeckState
+nonceSession key nonce = record { history = incremental .append (newSession key .history) (framed nonce []); toggle = false; opened = true }
+
+module _ (p : Parameters) (key nonce tag : List ℕ) where
+  -- by that check: a closed session and the tag buffer as it was; or b(N) + 3 permutations, the session, and the tag of its history
+  abbrev pub nonceOpening : ℕ → NonceOpening
+  nonceOpening zero =
+      record {
+        number = 0;
+        count = b (length nonce) + 3;
+        session = nonceSession key nonce;
+        tag = tagOf p incremental (nonceSession key nonce .history);
+      }
+  nonceOpening (suc n) = record { number = suc n; count = 0; session = closed; tag = tag }
+
+  -- start, of any key, nonce and tag buffer, in a mode of these parameters
+  unfoldable pub nonceStartAt : NonceOpening
+  nonceStartAt = nonceOpening (nonceCheck (p .tagLength) key (length nonce) (length tag))

@@ -33,6 +33,6 @@ module _ {M : Type 1} (𝓤 : URA M) (H : Heap 𝓤) (A : Atoms 𝓤) (mem : Mem
   pub write-envelope-ensures : (κs : Lfts 4) (a : Args write-envelope.signature κs) (r : Res write-envelope.signature κs) (z : AtExit write-envelope.ended κs)
       → write-envelope.clauses 𝓤 H A mem run κs a .ensures tt r z
       ≡ connectives 𝓤 .⌜_⌝
-      ((r ≡ writeAnswer (a .0) (now (a .1 .0)) (now (a .1 .1 .0)) (now (a .1 .1 .1 .0)) (now (a .1 .1 .1 .1 .0)))
-      × (now (z .1 .1 .1 .1 .0) ≡ writeBuffer (a .0) (now (a .1 .0)) (now (a .1 .1 .0)) (now (a .1 .1 .1 .0)) (now (a .1 .1 .1 .1 .0))))
+      ((r ≡ writeAnswer (a .0) (a .1 .0) (now (a .1 .1 .0)) (now (a .1 .1 .1 .0)) (now (a .1 .1 .1 .1 .0)) (now (a .1 .1 .1 .1 .1 .0)))
+      × (now (z .1 .1 .1 .1 .1 .0) ≡ writeBuffer (a .0) (a .1 .0) (now (a .1 .1 .0)) (now (a .1 .1 .1 .0)) (now (a .1 .1 .1 .1 .0)) (now (a .1 .1 .1 .1 .1 .0))))
   write-envelope-ensures κs a r z = refl

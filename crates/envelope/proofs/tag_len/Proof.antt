@@ -1,4 +1,4 @@
--- `envelope::tag_len` meets its contract: the test says which case of `tagLength` holds. Assumes nothing.
+-- `envelope::tag_len` meets its contract: the tests say which case of `tagLength` holds. Assumes nothing.
 use mathlib.Core.Path.{sym}
 use borrow.Author.Tests.{eq-eqb, ne-eqb}
 use Rattle.envelope.specs.Layout.{tagLength}
@@ -11,7 +11,11 @@ returns c = sym (simp (eq-eqb _ _ (c .if1 .taken)))
 
 returns-2 : tie.Need-returns-2
 unfolding tagLength
-returns-2 c = sym (simp (ne-eqb _ _ (c .if1 .left)))
+returns-2 c = sym (simp (ne-eqb _ _ (c .before .if1 .left), eq-eqb _ _ (c .if2 .taken)))
+
+returns-3 : tie.Need-returns-3
+unfolding tagLength
+returns-3 c = sym (simp (ne-eqb _ _ (c .before .if1 .left), ne-eqb _ _ (c .if2 .left)))
 
 pub tag-len-spec : {M : Type 1} → statement M
-tag-len-spec = tie.close (tie.spec returns returns-2)
+tag-len-spec = tie.close (tie.spec returns returns-2 returns-3)

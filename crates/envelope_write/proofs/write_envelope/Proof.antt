@@ -1,10 +1,7 @@
 -- `envelope_write::write_envelope` meets its contract: where no check is met there is room for each part, and what the writes leave is joined in
 -- proofs/WriteSteps.antt. Assumes nothing.
-use mathlib.Core.Path.{sym, _∙_}
 use native.Mathlib.Omega.{arith}
-use lib.ListN.{length}
 use denote.Ref.{now}
-use Rattle.envelope.specs.Layout.{letterS}
 use Rattle.envelope.proofs.Layouts.{envelope-length}
 use Rattle.envelope_write.proofs.WriteSteps.{envelope-written}
 use Rattle.envelope_write.proofs.Writing.{accepted, stopped, done}
@@ -13,34 +10,39 @@ use Rattle.envelope_write.proofs.write_envelope.Statement.{statement}
 use Rattle.envelope_write.proofs.write_envelope.Tie as tie
 
 returns : tie.Need-returns
-returns c = stopped _ _ _ _ _ _ (c .before .write-number .ensures) (c .if1 .taken)
+returns c = stopped _ _ _ _ _ _ _ (c .before .write-number .ensures) (c .if1 .taken)
 
 cast-write-header : tie.Need-cast-write-header
-cast-write-header c = omega (arith, accepted letterS (c .before .before .before .before .before .before .args .group) (length (now (c .before .before .before .before .before .before .args .metadata))) (length (now (c .before .before .before .before .before .before .args .cryptogram))) (length (now (c .before .before .before .before .before .before .args .tag))) (length (now (c .before .before .before .before .before .before .args .out))) (sym (c .before .write-number .ensures) ∙ c .if1 .left))
+cast-write-header c = omega (arith, accepted _ _ _ _ _ _ (c .before .write-number .ensures) (c .if1 .left))
 
 cast-write-header-2 : tie.Need-cast-write-header-2
-cast-write-header-2 c = omega (arith, accepted letterS (c .before .before .before .before .before .before .args .group) (length (now (c .before .before .before .before .before .before .args .metadata))) (length (now (c .before .before .before .before .before .before .args .cryptogram))) (length (now (c .before .before .before .before .before .before .args .tag))) (length (now (c .before .before .before .before .before .before .args .out))) (sym (c .before .write-number .ensures) ∙ c .if1 .left))
+cast-write-header-2 c = omega (arith, accepted _ _ _ _ _ _ (c .before .write-number .ensures) (c .if1 .left))
 
 write-header-requires : tie.Need-write-header-requires
-write-header-requires c κs = omega (arith, accepted letterS (c .before .before .before .before .before .before .before .args .group) (length (now (c .before .before .before .before .before .before .before .args .metadata))) (length (now (c .before .before .before .before .before .before .before .args .cryptogram))) (length (now (c .before .before .before .before .before .before .before .args .tag))) (length (now (c .before .before .before .before .before .before .before .args .out))) (sym (c .before .before .write-number .ensures) ∙ c .before .if1 .left))
+write-header-requires c κs = omega (arith, accepted _ _ _ _ _ _ (c .before .before .write-number .ensures) (c .before .if1 .left))
 
 copy-at-requires : tie.Need-copy-at-requires
-copy-at-requires c κs = omega (arith, accepted letterS (c .before .before .before .before .before .before .before .before .before .before .before .args .group) (length (now (c .before .before .before .before .before .before .before .before .before .before .before .args .metadata))) (length (now (c .before .before .before .before .before .before .before .before .before .before .before .args .cryptogram))) (length (now (c .before .before .before .before .before .before .before .before .before .before .before .args .tag))) (length (now (c .before .before .before .before .before .before .before .before .before .before .before .args .out))) (sym (c .before .before .before .before .before .before .write-number .ensures) ∙ c .before .before .before .before .before .if1 .left), c .before .before .before .write-header .ensures .0, c .before .before .before .write-header .kept .1 .1 .1 .1 .0)
+copy-at-requires c κs = omega (arith, accepted _ _ _ _ _ _ (c .before .before .before .before .before .before .write-number .ensures) (c .before .before .before .before .before .if1 .left), c .before .before .before .write-header .ensures .0, c .before .before .before .write-header .kept .1 .1 .1 .1 .0)
 
 copy-at-requires-2 : tie.Need-copy-at-requires-2
-copy-at-requires-2 c κs = omega (arith, accepted letterS (c .before .before .before .before .before .before .before .before .before .before .before .before .before .before .before .args .group) (length (now (c .before .before .before .before .before .before .before .before .before .before .before .before .before .before .before .args .metadata))) (length (now (c .before .before .before .before .before .before .before .before .before .before .before .before .before .before .before .args .cryptogram))) (length (now (c .before .before .before .before .before .before .before .before .before .before .before .before .before .before .before .args .tag))) (length (now (c .before .before .before .before .before .before .before .before .before .before .before .before .before .before .before .args .out))) (sym (c .before .before .before .before .before .before .before .before .before .before .write-number .ensures) ∙ c .before .before .before .before .before .before .before .before .before .if1 .left), c .before .before .before .before .before .before .before .write-header .ensures .0, c .before .before .before .before .before .before .before .write-header .kept .1 .1 .1 .1 .0, c .before .before .before .copy-at .ensures .0, c .before .before .before .copy-at .kept .1 .0)
+copy-at-requires-2 c κs = omega (arith, accepted _ _ _ _ _ _ (c .before .before .before .before .before .before .before .before .before .before .write-number .ensures) (c .before .before .before .before .before .before .before .before .before .if1 .left), c .before .before .before .before .before .before .before .write-header .ensures .0, c .before .before .before .before .before .before .before .write-header .kept .1 .1 .1 .1 .0, c .before .before .before .copy-at .ensures .0, c .before .before .before .copy-at .kept .1 .0)
 
 copy-at-requires-3 : tie.Need-copy-at-requires-3
-copy-at-requires-3 c κs = omega (arith, accepted letterS (c .before .before .before .before .before .before .before .before .before .before .before .before .before .before .before .before .before .before .before .args .group) (length (now (c .before .before .before .before .before .before .before .before .before .before .before .before .before .before .before .before .before .before .before .args .metadata))) (length (now (c .before .before .before .before .before .before .before .before .before .before .before .before .before .before .before .before .before .before .before .args .cryptogram))) (length (now (c .before .before .before .before .before .before .before .before .before .before .before .before .before .before .before .before .before .before .before .args .tag))) (length (now (c .before .before .before .before .before .before .before .before .before .before .before .before .before .before .before .before .before .before .before .args .out))) (sym (c .before .before .before .before .before .before .before .before .before .before .before .before .before .before .write-number .ensures) ∙ c .before .before .before .before .before .before .before .before .before .before .before .before .before .if1 .left), c .before .before .before .before .before .before .before .before .before .before .before .write-header .ensures .0, c .before .before .before .before .before .before .before .before .before .before .before .write-header .kept .1 .1 .1 .1 .0, c .before .before .before .before .before .before .before .copy-at .ensures .0, c .before .before .before .before .before .before .before .copy-at .kept .1 .0, c .before .before .before .copy-at2 .ensures .0, c .before .before .before .copy-at2 .kept .1 .0)
+copy-at-requires-3 c κs = omega (arith, accepted _ _ _ _ _ _ (c .before .before .before .before .before .before .before .before .before .before .before .before .before .before .write-number .ensures) (c .before .before .before .before .before .before .before .before .before .before .before .before .before .if1 .left), c .before .before .before .before .before .before .before .before .before .before .before .write-header .ensures .0, c .before .before .before .before .before .before .before .before .before .before .before .write-header .kept .1 .1 .1 .1 .0, c .before .before .before .before .before .before .before .copy-at .ensures .0, c .before .before .before .before .before .before .before .copy-at .kept .1 .0, c .before .before .before .copy-at2 .ensures .0, c .before .before .before .copy-at2 .kept .1 .0)
 
 returns-2 : tie.Need-returns-2
 returns-2 c =
     let a = c .before .before .before .before .before .before .before .before .before .before .before .before .before .before .before .before .before .before .before .before .before .before .args in
-    let w = accepted letterS (c .before .before .before .before .before .before .before .before .before .before .before .before .before .before .before .before .before .before .before .before .before .before .args .group) (length (now (c .before .before .before .before .before .before .before .before .before .before .before .before .before .before .before .before .before .before .before .before .before .before .args .metadata))) (length (now (c .before .before .before .before .before .before .before .before .before .before .before .before .before .before .before .before .before .before .before .before .before .before .args .cryptogram))) (length (now (c .before .before .before .before .before .before .before .before .before .before .before .before .before .before .before .before .before .before .before .before .before .before .args .tag))) (length (now (c .before .before .before .before .before .before .before .before .before .before .before .before .before .before .before .before .before .before .before .before .before .before .args .out))) (sym (c .before .before .before .before .before .before .before .before .before .before .before .before .before .before .before .before .before .write-number .ensures) ∙ c .before .before .before .before .before .before .before .before .before .before .before .before .before .before .before .before .if1 .left) in
-    done (a .group) (now (a .metadata)) (now (a .cryptogram)) (now (a .tag)) (now (a .out)) (c .before .before .copy-at3 .result) _ (sym (c .before .before .before .before .before .before .before .before .before .before .before .before .before .before .before .before .before .write-number .ensures) ∙ c .before .before .before .before .before .before .before .before .before .before .before .before .before .before .before .before .if1 .left)
-    (omega (arith, envelope-length letterS (a .group) (now (a .metadata)) (now (a .cryptogram)) (now (a .tag)), c .before .before .before .before .before .before .before .before .before .before .before .before .before .before .write-header .ensures .0, c .before .before .before .before .before .before .before .before .before .before .copy-at .ensures .0, c .before .before .before .before .before .before .copy-at2 .ensures .0, c .before .before .copy-at3 .ensures .0))
-    (envelope-written letterS (a .group) (c .before .before .before .before .before .before .before .before .before .before .before .before .before .before .write-header .result) (c .before .before .before .before .before .before .before .before .before .before .copy-at .result) (c .before .before .before .before .before .before .copy-at2 .result) (now (a .metadata)) (now (a .cryptogram)) (now (a .tag)) (now (a .out)) _ _ _ _ (w .room-fits)
-    (c .before .before .before .before .before .before .before .before .before .before .before .before .before .before .write-header .ensures .0) (c .before .before .before .before .before .before .before .before .before .before .copy-at .ensures .0) (c .before .before .before .before .before .before .copy-at2 .ensures .0) (c .before .before .before .before .before .before .before .before .before .before .before .before .before .before .write-header .ensures .1) (c .before .before .before .before .before .before .before .before .before .before .copy-at .ensures .1) (c .before .before .before .before .before .before .copy-at2 .ensures .1) (c .before .before .copy-at3 .ensures .1))
+    let number = c .before .before .before .before .before .before .before .before .before .before .before .before .before .before .before .before .before .write-number .ensures in
+    let header = c .before .before .before .before .before .before .before .before .before .before .before .before .before .before .write-header in
+    let metadata = c .before .before .before .before .before .before .before .before .before .before .copy-at in
+    let cryptogram = c .before .before .before .before .before .before .copy-at2 in
+    let tag = c .before .before .copy-at3 in
+    let w = accepted _ _ _ _ _ _ number (c .before .before .before .before .before .before .before .before .before .before .before .before .before .before .before .before .if1 .left) in
+    done (a .letter) (a .group) (now (a .metadata)) (now (a .cryptogram)) (now (a .tag)) (now (a .out)) (tag .result) _ number (c .before .before .before .before .before .before .before .before .before .before .before .before .before .before .before .before .if1 .left)
+    (omega (arith, envelope-length (a .letter) (a .group) (now (a .metadata)) (now (a .cryptogram)) (now (a .tag)), header .ensures .0, metadata .ensures .0, cryptogram .ensures .0, tag .ensures .0))
+    (envelope-written (a .letter) (a .group) (header .result) (metadata .result) (cryptogram .result) (now (a .metadata)) (now (a .cryptogram)) (now (a .tag)) (now (a .out)) _ _ _ _ (w .room-fits)
+    (header .ensures .0) (metadata .ensures .0) (cryptogram .ensures .0) (header .ensures .1) (metadata .ensures .1) (cryptogram .ensures .1) (tag .ensures .1))
 
 pub write-envelope-spec : {M : Type 1} → statement M
 write-envelope-spec = tie.close (tie.spec (λ c κs. search needs) returns cast-write-header cast-write-header-2 write-header-requires copy-at-requires copy-at-requires-2 copy-at-requires-3 (λ c. search needs) returns-2)

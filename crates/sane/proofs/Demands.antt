@@ -1,0 +1,105 @@
+-- Demands 1 to 3 hold of the program's start, wrap and unwrap of SANE, known by their `ensures` alone; what they say, written out; and that what
+-- they speak of is there. Assumes nothing.
+use mathlib.Core.Bool.{Bool}
+use mathlib.Core.List.{List}
+use mathlib.Core.Path.{_≡_, refl}
+use Prim.Native.Nat.{ℕ}
+use Rattle.deck.specs.declared.DeckState.{DeckState}
+use Rattle.deck.specs.Strings.{Str}
+use Rattle.modes.specs.Call.{CallInput, Call}
+use Rattle.modes.specs.Mode.{incremental, sane}
+use Rattle.modes.specs.Rules.{Outcome}
+use Rattle.modes.specs.Ledger.{sanePaper}
+use Rattle.modes.specs.OneCall.{sessionOf, WrapClaim, UnwrapClaim}
+use Rattle.modes.specs.AnySession.{AnyWrap, AnyUnwrap}
+use Rattle.modes.specs.NonceStart.{NonceExactly}
+use Rattle.modes.specs.Promises.{Promises, Records, Run, sessionsHeld}
+use Rattle.modes.specs.Demands.{AnyCallOf, OneCallOf, RunsExist}
+use Rattle.modes.specs.SaneDemands.{SaneDemand3, NonceStarts, NonceStartOf, SaneDemand3Of, NonceStartsExist}
+use Rattle.modes.proofs.Modes.{sane-follows}
+use Rattle.modes.proofs.Demands.{ByRules, Whole, any-call-of, one-call-of, runs-exist, kept}
+use Rattle.modes.proofs.SaneDemands.{nonce-start-of, nonce-starts-exist, sane-demand-3-of}
+use Rattle.sane.specs.declared.SaneSession.{SaneSession}
+use Rattle.sane.specs.declared.SaneResult.{SaneResult}
+use Rattle.sane.specs.Session.{stateOf, nonceResult, callResult, saneKind}
+use Rattle.sane.proofs.Contracts.{StartPromise, promises, start-is, wrap-is, unwrap-is}
+
+-- ---- what the demands say of these records, written out
+
+pub start-says : (starts : NonceStarts saneKind)
+    → NonceStartOf saneKind starts
+    ≡ ((key nonce tag : List ℕ) (r : SaneResult) (tag′ : List ℕ) → starts key nonce tag r tag′ → NonceExactly key nonce tag (nonceResult r tag′))
+start-says starts = refl
+
+pub demand-3-says : (starts : NonceStarts saneKind) (p : Promises saneKind)
+    → SaneDemand3Of saneKind starts p
+    ≡ ((key nonce t u : List ℕ) (first second : SaneResult) (t′ u′ : List ℕ) → starts key nonce t first t′ → starts key nonce u second u′
+    → first .number ≡ 0 → second .number ≡ 0
+    → (cs : List Call) (os : List (Outcome DeckState)) (to : Records saneKind)
+    → Run saneKind p cs (record { office = first .session; group = second .session }) os to
+    → SaneDemand3 key nonce cs (nonceResult first t′) (nonceResult second u′) os (sessionsHeld saneKind to))
+demand-3-says starts p = refl
+
+pub starts-exist-says : (starts : NonceStarts saneKind)
+    → NonceStartsExist saneKind starts ≡ ((key nonce tag : List ℕ) → (r : SaneResult) × (tag′ : List ℕ) × starts key nonce tag r tag′)
+starts-exist-says starts = refl
+
+-- and of one call, of any record and of the record of a history
+module _ (p : Promises saneKind) (s : SaneSession) (i : CallInput) (r : SaneResult) (out tag : List ℕ) where
+  pub any-wrap-says : AnyCallOf saneKind sane p → p .wraps s i r out tag → AnyWrap sane incremental (stateOf s) i (callResult r out tag)
+  any-wrap-says c = c .wraps s i r out tag
+
+  pub any-unwrap-says : AnyCallOf saneKind sane p → p .unwraps s i r out tag → AnyUnwrap sane incremental (stateOf s) i (callResult r out tag)
+  any-unwrap-says c = c .unwraps s i r out tag
+
+  pub one-wrap-says : OneCallOf saneKind sanePaper p → (key : List ℕ) (h : List Str) (e : Bool) → stateOf s ≡ sessionOf key h e → p .wraps s i r out tag
+      → WrapClaim sanePaper key h e i (callResult r out tag)
+  one-wrap-says c key h e = c .wraps key h e s i r out tag
+
+  pub one-unwrap-says : OneCallOf saneKind sanePaper p → (key : List ℕ) (h : List Str) (e : Bool) → stateOf s ≡ sessionOf key h e → p .unwraps s i r out tag
+      → UnwrapClaim sanePaper key h e i (callResult r out tag)
+  one-unwrap-says c key h e = c .unwraps key h e s i r out tag
+
+-- ---- the demands
+
+-- each promise is just the call's equation with the rules
+program : ByRules sane promises
+program = record { wraps = wrap-is; unwraps = unwrap-is }
+
+-- demand 1: every start, and every call of any record
+pub one-start : NonceStartOf saneKind StartPromise
+one-start = nonce-start-of saneKind StartPromise start-is
+
+pub any-call : AnyCallOf saneKind sane promises
+any-call = any-call-of program
+
+-- demands 1 and 2: one call of the record of a history
+pub one-call : OneCallOf saneKind sanePaper promises
+one-call = one-call-of program sane-follows
+
+-- demand 3, one claim about the whole list
+pub demand-3 : SaneDemand3Of saneKind StartPromise promises
+demand-3 = sane-demand-3-of start-is program
+
+-- ---- what they speak of is there
+
+-- every number, count and session is some result's
+pub whole : Whole saneKind
+whole =
+    record {
+      made = λ n c s.
+          let d = s .history in
+          record {
+            number = n;
+            count = c;
+            session = record { acc = d .acc; mask = d .mask; index = d .index; toggle = s .toggle; opened = s .opened };
+          };
+      same = λ n c s. refl;
+    }
+
+-- whatever a call is handed, there are arguments and a result of which the function's `ensures` holds
+pub start-exists : NonceStartsExist saneKind StartPromise
+start-exists = nonce-starts-exist whole StartPromise start-is
+
+pub run-exists : RunsExist saneKind promises
+run-exists = runs-exist (kept whole program)

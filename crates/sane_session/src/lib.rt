@@ -1,0 +1,57 @@
+// Xoofff-SANE over a lent record: start, wrap and unwrap call the functions by value and store the session that they give. Held alone; the office's
+// table has no such records.
+ghost use Rattle.sane.specs.Session.{handed};
+ghost use Rattle.sane_session.specs.Lent.{Started, Wrapped, Unwrapped};
+use sane::SaneSession;
+use session::Answer;
+
+// Opens a session in the place of the record, under a key of 16 to 47 bytes and with a nonce of up to 16,384 bytes that was not used under this
+// key before. The tag of the start fills `tag`, which has 16 bytes. Checks 4, 6 and 7; a refused start closes the record and keeps `tag`.
+pub fn start(s: &mut SaneSession, key: &[u8], nonce: &[u8], tag: &mut [u8]) -> Answer
+    ensures { λ r. ⌜ Started (now (key .entry)) (now (nonce .entry)) (now (tag .entry)) r (now (s .exit)) (now (tag .exit)) ⌝ }
+{
+    let r = sane::start(key, nonce, tag);
+    *s = r.session;
+    Answer {
+        number: r.number,
+        count: r.count,
+    }
+}
+
+// Wraps a message: the cryptogram goes to the start of `out`, and the tag fills `tag`. Checks 5 to 9.
+pub fn wrap(
+    s: &mut SaneSession,
+    metadata: &[u8],
+    message: &[u8],
+    out: &mut [u8],
+    tag: &mut [u8],
+) -> Answer
+    ensures { λ r. ⌜ Wrapped (now (s .entry)) (handed (now (metadata .entry)) (now (message .entry)) (now (out .entry)) (now (tag .entry)))
+        r (now (s .exit)) (now (out .exit)) (now (tag .exit)) ⌝ }
+{
+    let r = sane::wrap(*s, metadata, message, out, tag);
+    *s = r.session;
+    Answer {
+        number: r.number,
+        count: r.count,
+    }
+}
+
+// Unwraps a cryptogram: the message goes to the start of `out`. Checks 5 to 9 and 11.
+pub fn unwrap(
+    s: &mut SaneSession,
+    metadata: &[u8],
+    cryptogram: &[u8],
+    tag: &[u8],
+    out: &mut [u8],
+) -> Answer
+    ensures { λ r. ⌜ Unwrapped (now (s .entry)) (handed (now (metadata .entry)) (now (cryptogram .entry)) (now (out .entry)) (now (tag .entry)))
+        r (now (s .exit)) (now (out .exit)) (now (tag .entry)) ⌝ }
+{
+    let r = sane::unwrap(*s, metadata, cryptogram, tag, out);
+    *s = r.session;
+    Answer {
+        number: r.number,
+        count: r.count,
+    }
+}
