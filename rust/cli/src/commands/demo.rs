@@ -182,7 +182,7 @@ impl Folder {
     /// Runs a command that is to be refused, or to find a mismatch, and prints why.
     fn refused(&self, out: &mut dyn Write, words: &[&str], state: &str) -> Result<(), Failure> {
         match self.play(words, state) {
-            Err(failure @ (Failure::Refused(_) | Failure::OtherGroup { .. } | Failure::Mismatch { .. })) => {
+            Err(failure @ (Failure::Refused(..) | Failure::OtherGroup { .. } | Failure::Mismatch { .. })) => {
                 print(out, &format!("      {failure}\n"))
             }
             Err(failure) => Err(failure),
