@@ -164,14 +164,7 @@ impl fmt::Display for Failure {
             Failure::OtherLetter(Letter::S) => f.write_str(OF_SANSE),
             Failure::OtherLetter(Letter::N) => f.write_str(OF_SANE),
             Failure::UsedKey => f.write_str(USED_KEY),
-            Failure::UsedNonce(Some((counter, last))) => write!(
-                f,
-                "The counter {counter} is not above {last}, the last one under this key in this state file. {SHARED} Take a \
-                 higher one."
-            ),
-            Failure::UsedNonce(None) => {
-                write!(f, "This nonce was used under this key in this state file before. {SHARED} Take another one.")
-            }
+            Failure::UsedNonce(counters) => used_nonce(f, *counters),
             Failure::LongNonce => write!(f, "{} The nonce has more than 16,384 bytes.", number(Number::TooLong)),
             Failure::OtherTag => f.write_str(OTHER_TAG),
             Failure::Mismatch { group, packet, index } => mismatch(f, *group, *packet, *index),
@@ -215,6 +208,18 @@ const OF_SANE: &str =
 /// Why a nonce is not used twice.
 const SHARED: &str = "Under one key and one nonce two messages would share keystream, and whoever sees both envelopes learns \
 how the messages differ.";
+
+/// The sentences of a nonce that was used before.
+fn used_nonce(f: &mut fmt::Formatter<'_>, counters: Option<(u64, u64)>) -> fmt::Result {
+    match counters {
+        Some((counter, last)) => write!(
+            f,
+            "The counter {counter} is not above {last}, the last one under this key in this state file. {SHARED} Take a \
+             higher one."
+        ),
+        None => write!(f, "This nonce was used under this key in this state file before. {SHARED} Take another one."),
+    }
+}
 
 /// What is said of a start with another tag than the expected one.
 const OTHER_TAG: &str = "\
