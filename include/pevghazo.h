@@ -1,24 +1,26 @@
-/* Pevghazo: sessions of Xoofff-SANSE, the office's table of sessions, message envelopes, and codes for packets.
+/* Pevghazo: sessions in Xoofff-SANSE and Xoofff-SANE, the office's table of sessions, message envelopes, and codes for packets.
  *
- *     pevghazo/session.h    a lone session
+ *     pevghazo/session.h    a lone session in SANSE
+ *     pevghazo/sane.h       a lone session in SANE, for groups that keep a counter; a nonce must not repeat under one key
  *     pevghazo/table.h      the office's table of 32 sessions, and its day
  *     pevghazo/envelope.h   the bytes in which a message travels
  *     pevghazo/codes.h      codes for packets of rings
- *     pevghazo/stored.h     a session as bytes, for storing it
+ *     pevghazo/stored.h     a session of either mode as bytes, for storing it
  *     pevghazo/memory.h     setting secrets in memory to zero
  *     pevghazo/numbers.h    the numbers of refusals, with a sentence for each, and limits; the others include it
  *     pevghazo/version.h    the version
  *     pevghazo/language.h   what differs between old C, later C and C++
  *
- * Proved for all bytes are the functions of session.h, table.h, envelope.h and codes.h. The others are plain C, which is tested only:
- * pevghazo_store_session, pevghazo_load_session, pevghazo_wipe, pevghazo_wipe_stack, pevghazo_number_text and pevghazo_version.
+ * Proved for all bytes are the functions of session.h, sane.h, table.h, envelope.h and codes.h. The others are plain C, which is tested only:
+ * pevghazo_store_session, pevghazo_load_session, pevghazo_store_sane_session, pevghazo_load_sane_session, pevghazo_wipe, pevghazo_wipe_stack,
+ * pevghazo_number_text and pevghazo_version.
  *
  * Every proved function takes any bytes and returns. Its number is 0 where the call was accepted, and otherwise the number of the first check
  * that it met (PEVGHAZO_* in numbers.h). A refusal has count 0 and leaves sessions, buffers and the day's count as they were, but for two:
  *
- *   - A refused pevghazo_start closes the record that it was lent. The session that the record held is lost with all that it could still
- *     seal or open; no call gives it back. Who wants to keep it until the new one has started hands over another record. (A refused
- *     pevghazo_open_group leaves the group's session.)
+ *   - A refused pevghazo_start or pevghazo_sane_start closes the record that it was lent. The session that the record held is lost with all
+ *     that it could still seal or open; no call gives it back. Who wants to keep it until the new one has started hands over another record.
+ *     (A refused pevghazo_open_group leaves the group's session.)
  *   - Number 11 returns the real count, adds it to the day's count in the table, and sets the first bytes of the output buffer, as many as
  *     the cryptogram has, to zero. The session stays as it was.
  *
@@ -40,6 +42,7 @@
 #include "pevghazo/envelope.h"
 #include "pevghazo/memory.h"
 #include "pevghazo/numbers.h"
+#include "pevghazo/sane.h"
 #include "pevghazo/session.h"
 #include "pevghazo/stored.h"
 #include "pevghazo/table.h"

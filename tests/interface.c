@@ -113,13 +113,17 @@ static void both_ways(void) {
 
     /* It travels in an envelope. */
     uint8_t envelope[PEVGHAZO_HEADER_MAX + sizeof metadata + sizeof message + PEVGHAZO_TAG_LENGTH];
-    pevghazo_written written = pevghazo_write_envelope(7, metadata, metadata_len, cryptogram, message_len, tag, sizeof tag, envelope, sizeof envelope);
+    pevghazo_written written = pevghazo_write_envelope(PEVGHAZO_LETTER_S, 7, metadata, metadata_len, cryptogram, message_len, tag, sizeof tag,
+                                                       envelope, sizeof envelope);
     check("writing an envelope", written.number, PEVGHAZO_ACCEPTED);
     check("the envelope's header", (uint32_t)memcmp(envelope, "S,7,6,11,size C", 15), 0);
     pevghazo_parts parts = pevghazo_read_envelope(envelope, written.len);
     check("reading an envelope", parts.number, PEVGHAZO_ACCEPTED);
+    check("the envelope's letter", parts.letter, PEVGHAZO_LETTER_S);
     check("the envelope's group", parts.group, 7);
-    check("reading half an envelope", pevghazo_read_envelope(envelope, written.len - 1).number, PEVGHAZO_TOO_FEW_BYTES);
+    pevghazo_parts half = pevghazo_read_envelope(envelope, written.len - 1);
+    check("reading half an envelope", half.number, PEVGHAZO_TOO_FEW_BYTES);
+    check("its letter", half.letter, 0);
 
     /* The group unwraps it once, and a second time it is refused. */
     uint8_t out[sizeof message];

@@ -33,5 +33,5 @@ for made in target/lib/libpevghazo.a rust/target/release/pevghazo; do
   [ $made -nt $library ] || rm -f $made
 done
 
-for part in install headers exports programs ignored project command uninstall; do . tests/interface/$part.sh; done
+for part in install headers exports programs ignored modes project command uninstall; do . tests/interface/$part.sh; done
 echo "interface: $version is installed, used from C, C++, Rust and the shell, and uninstalled"

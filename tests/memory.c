@@ -11,8 +11,9 @@ enum { BELOW = 3 * PEVGHAZO_STACK_BYTES };
 
 static int memory;
 static pevghazo_session office[PEVGHAZO_GROUPS], lone;
+static pevghazo_sane_session sane;
 static const uint8_t key[] = "a key for the memory's test", metadata[] = "size C";
-static uint8_t message[300], out[300], tag[PEVGHAZO_TAG_LENGTH];
+static uint8_t message[300], out[300], tag[PEVGHAZO_TAG_LENGTH], sane_tag[PEVGHAZO_SANE_TAG_LENGTH];
 
 static void fail(const char *what, const char *when) {
     fprintf(stderr, "memory: %s: %s\n", when, what);
@@ -23,22 +24,23 @@ static void look(uintptr_t from, void *to, size_t n) {
     if (pread(memory, to, n, (off_t)from) != (ssize_t)n) fail("/proc/self/mem cannot be read", "look");
 }
 
-/* The words below this function's frame that are a lane of this session. */
-__attribute__((noinline)) static unsigned lanes_below(const pevghazo_session *session) {
+/* The words below this function's frame that are a lane of this accumulator or this mask. */
+__attribute__((noinline)) static unsigned lanes_below(const uint32_t acc[12], const uint32_t mask[12]) {
     static uint32_t words[BELOW / 4];
     unsigned found = 0;
     uintptr_t here = (uintptr_t)__builtin_frame_address(0) & ~(uintptr_t)15;
     look(here - sizeof words, words, sizeof words);
     for (size_t i = 0; i < BELOW / 4; i++)
         for (int k = 0; k < 12; k++)
-            found += (session->acc[k] != 0 && words[i] == session->acc[k]) || (session->mask[k] != 0 && words[i] == session->mask[k]);
+            found += (acc[k] != 0 && words[i] == acc[k]) || (mask[k] != 0 && words[i] == mask[k]);
     memset(words, 0, sizeof words);
     return found;
 }
 
 /* The calls that leave something behind. */
-enum { START, WRAP, UNWRAP, CODE, OPEN_GROUP, WRAP_GROUP, UNWRAP_GROUP, CALLS };
-static const char *const names[CALLS] = {"start", "wrap", "unwrap", "code", "open a group", "wrap for a group", "unwrap for a group"};
+enum { START, WRAP, UNWRAP, CODE, OPEN_GROUP, WRAP_GROUP, UNWRAP_GROUP, SANE_START, SANE_WRAP, SANE_UNWRAP, CALLS };
+static const char *const names[CALLS] = {"start", "wrap", "unwrap", "code", "open a group", "wrap for a group", "unwrap for a group",
+                                         "start in SANE", "wrap in SANE", "unwrap in SANE"};
 
 static uint32_t call(int which, size_t n) {
     pevghazo_day day = pevghazo_start_day(UINT32_MAX);
@@ -50,8 +52,11 @@ static uint32_t call(int which, size_t n) {
     case OPEN_GROUP: return pevghazo_open_group(office, PEVGHAZO_GROUPS, 7, day, key, sizeof key).number;
     case WRAP_GROUP:
         return pevghazo_wrap_group(office, PEVGHAZO_GROUPS, 7, day, metadata, sizeof metadata, message, n, out, n, tag, sizeof tag).number;
-    default:
+    case UNWRAP_GROUP:
         return pevghazo_unwrap_group(office, PEVGHAZO_GROUPS, 7, day, metadata, sizeof metadata, out, n, tag, sizeof tag, message, n).number;
+    case SANE_START: return pevghazo_sane_start(&sane, key, sizeof key, message, n, sane_tag, sizeof sane_tag).number;
+    case SANE_WRAP: return pevghazo_sane_wrap(&sane, metadata, sizeof metadata, message, n, out, n, sane_tag, sizeof sane_tag).number;
+    default: return pevghazo_sane_unwrap(&sane, metadata, sizeof metadata, out, n, sane_tag, sizeof sane_tag, message, n).number;
     }
 }
 
@@ -62,12 +67,17 @@ __attribute__((noinline)) static uint32_t called(int which, size_t n, int wiped)
     return number;
 }
 
-static void on_the_stack(int which, size_t n) {
+/* The lanes on the stack of the record that a call works on. */
+static unsigned lanes_of(int which) {
     const pevghazo_session *session = which < OPEN_GROUP ? &lone : &office[7];
+    return which < SANE_START ? lanes_below(session->acc, session->mask) : lanes_below(sane.acc, sane.mask);
+}
+
+static void on_the_stack(int which, size_t n) {
     (void)called(which, n, 0);
-    if (lanes_below(session) == 0) fail("no lane is found on the stack, so this test sees nothing", names[which]);
+    if (lanes_of(which) == 0) fail("no lane is found on the stack, so this test sees nothing", names[which]);
     (void)called(which, n, 1);
-    if (lanes_below(session) != 0) fail("lanes are left on the stack", names[which]);
+    if (lanes_of(which) != 0) fail("lanes are left on the stack", names[which]);
 }
 
 /* A secret that nobody reads after the wipe: a compiler that looked at all files at once would see that. */

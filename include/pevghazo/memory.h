@@ -4,7 +4,7 @@
  * called them, lanes of mask and accumulator stay behind: pevghazo_wipe_stack takes them away. What a program still has to see to:
  *
  *   - keys, records, stored bytes and messages: pevghazo_wipe, before their memory is given back;
- *   - copies: assigning a pevghazo_session makes a second one, and a buffer that is grown may leave the old one behind;
+ *   - copies: assigning a record makes a second one, and a buffer that is grown may leave the old one behind;
  *   - what the system writes elsewhere: swapped pages and core dumps (mlock and setrlimit help against these). */
 #ifndef PEVGHAZO_MEMORY_H
 #define PEVGHAZO_MEMORY_H
@@ -22,8 +22,7 @@ enum { PEVGHAZO_STACK_BYTES = 8192 };
 void pevghazo_wipe(void *memory, size_t len);
 
 /* Overwrites the stack that calls of this library used, and the registers xmm0 to xmm15; wider ones, which the C library may have used to copy
- * a message, stay. The function that made the calls calls it, after the last
- * one and before it returns. */
+ * a message, stay. The function that made the calls calls it, after the last one and before it returns. */
 void pevghazo_wipe_stack(void);
 
 #ifdef __cplusplus

@@ -1,4 +1,5 @@
-/* Pevghazo: a lone session, one record that is lent to each call and altered by it. What all functions share is said in pevghazo.h. */
+/* Pevghazo: a lone session in Xoofff-SANSE, one record that is lent to each call and altered by it. What all functions share is said in
+ * pevghazo.h. */
 #ifndef PEVGHAZO_SESSION_H
 #define PEVGHAZO_SESSION_H
 

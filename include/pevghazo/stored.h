@@ -1,11 +1,15 @@
-/* Pevghazo: a session as bytes, for storing it. These functions are plain C and not proved. A table is stored session by session.
+/* Pevghazo: a session of either mode as bytes, for storing it. These functions are plain C and not proved. A table is stored session by
+ * session.
  *
  * The bytes have one layout on every machine: the twelve lanes of the accumulator, the twelve of the mask, and the index, 32 bits each with the
  * lowest byte first; then a byte for the toggle and a byte for openness, each 0 or 1. They are as secret as the session: pevghazo_wipe sets
- * them to zero. A session that is stored must not be used again until it is read back, and only the newest stored one may be read. */
+ * them to zero. A session that is stored must not be used again until it is read back, and only the newest stored one may be read; in SANE
+ * an older one would wrap with keystream that was used before. The bytes do not tell the mode: who stores sessions of both keeps them
+ * apart. */
 #ifndef PEVGHAZO_STORED_H
 #define PEVGHAZO_STORED_H
 
+#include "sane.h"
 #include "session.h"
 
 #ifdef __cplusplus
@@ -28,6 +32,10 @@ PEVGHAZO_MUST_USE uint32_t pevghazo_store_session(const pevghazo_session *sessio
 
 /* Reads a session from its bytes. Its number is 0, or one of those above, and then the record stays as it was. */
 PEVGHAZO_MUST_USE uint32_t pevghazo_load_session(pevghazo_session *session, const uint8_t *bytes, size_t bytes_len);
+
+/* The same for a session in SANE. */
+PEVGHAZO_MUST_USE uint32_t pevghazo_store_sane_session(const pevghazo_sane_session *session, uint8_t *bytes, size_t bytes_len);
+PEVGHAZO_MUST_USE uint32_t pevghazo_load_sane_session(pevghazo_sane_session *session, const uint8_t *bytes, size_t bytes_len);
 
 #ifdef __cplusplus
 }

@@ -1,11 +1,13 @@
-/* A program that ignores what CALL gives; it must not compile where warnings are errors. With USED it looks at it, and must. */
+/* A program that ignores what CALL gives; it must not compile where warnings are errors. With USED it looks at it, and must, but where CALL
+ * hands over a record of the wrong mode. */
 #include <pevghazo.h>
 
 int main(void) {
     static pevghazo_session s[PEVGHAZO_GROUPS];
+    static pevghazo_sane_session n[PEVGHAZO_GROUPS];
     static pevghazo_day d;
     static uint8_t a[200], b[200], c[200];
-    (void)s, (void)d, (void)a, (void)b, (void)c;
+    (void)s, (void)n, (void)d, (void)a, (void)b, (void)c;
 #ifdef USED
     return sizeof(CALL) == 0;
 #else

@@ -1,5 +1,5 @@
-/* The functions in plain C beside the proved ones, in old C: texts, version, and sessions as bytes. `print` as an argument prints what the Rust
- * crate must print, too: the sentences, and a session's bytes and codes. */
+/* The functions in plain C beside the proved ones, in old C: texts, version, and sessions of either mode as bytes. `print` as an argument prints
+ * what the Rust crate must print, too: the sentences, and the sessions' bytes and codes. */
 #include <pevghazo.h>
 #include <stdio.h>
 #include <stdlib.h>
@@ -13,7 +13,8 @@ static void check(const char *what, int holds) {
 
 static const uint8_t key[] = "a key for the stored bytes", metadata[] = "size C", message[] = "12001-12100";
 static pevghazo_session session, zero;
-static uint8_t stored[PEVGHAZO_SESSION_BYTES];
+static pevghazo_sane_session sane_session;
+static uint8_t stored[PEVGHAZO_SESSION_BYTES], sane_stored[PEVGHAZO_SESSION_BYTES];
 
 static void texts(void) {
     const char *none = pevghazo_number_text(100);
@@ -32,16 +33,25 @@ static void texts(void) {
     check("the highest number has a text", strcmp(pevghazo_number_text(0xFFFFFFFF), none) == 0);
 }
 
-/* The record and the bytes stay where a call is refused. */
+/* The record and the bytes stay where a call is refused, in either mode: the two kinds of record have one layout. */
 static void refused(uint32_t number, const pevghazo_session *bad, const uint8_t *bytes, size_t bytes_len) {
     static uint8_t out[300], before[300];
     pevghazo_session record = session;
+    pevghazo_sane_session bad_sane, sane = sane_session;
     memset(out, 0xA5, sizeof out);
     memcpy(before, out, sizeof out);
-    if (bad != NULL) check("storing gives another number", pevghazo_store_session(bad, out, bytes_len) == number);
+    if (bad != NULL) {
+        memcpy(&bad_sane, bad, sizeof bad_sane);
+        check("storing gives another number", pevghazo_store_session(bad, out, bytes_len) == number);
+        check("storing in SANE gives another number", pevghazo_store_sane_session(&bad_sane, out, bytes_len) == number);
+    }
     check("a refused storing alters the bytes", memcmp(out, before, sizeof out) == 0);
-    if (bytes != NULL) check("loading gives another number", pevghazo_load_session(&record, bytes, bytes_len) == number);
+    if (bytes != NULL) {
+        check("loading gives another number", pevghazo_load_session(&record, bytes, bytes_len) == number);
+        check("loading in SANE gives another number", pevghazo_load_sane_session(&sane, bytes, bytes_len) == number);
+    }
     check("a refused loading alters the record", memcmp(&record, &session, sizeof record) == 0);
+    check("a refused loading in SANE alters the record", memcmp(&sane, &sane_session, sizeof sane) == 0);
 }
 
 /* A session with one byte of its record and of its stored bytes altered; the two stand at the same place. */
@@ -52,6 +62,23 @@ static void altered(uint32_t number, const pevghazo_session *from, const uint8_t
     bytes[place] = (uint8_t)value;
     ((uint8_t *)&bad)[place] = (uint8_t)value;
     refused(number, &bad, bytes, sizeof bytes);
+}
+
+/* A session in SANE, stored and loaded. */
+static void sane_sessions(void) {
+    static uint8_t out[sizeof message], tag[PEVGHAZO_SANE_TAG_LENGTH];
+    pevghazo_sane_session back;
+    check("starting in SANE is refused",
+          pevghazo_sane_start(&sane_session, key, sizeof key - 1, metadata, sizeof metadata - 1, tag, sizeof tag).number == PEVGHAZO_ACCEPTED);
+    check("wrapping in SANE is refused",
+          pevghazo_sane_wrap(&sane_session, metadata, sizeof metadata - 1, message, sizeof message - 1, out, sizeof out, tag, sizeof tag).number
+              == PEVGHAZO_ACCEPTED);
+    check("storing in SANE is refused", pevghazo_store_sane_session(&sane_session, sane_stored, sizeof sane_stored) == PEVGHAZO_ACCEPTED);
+    memset(&back, 0, sizeof back);
+    check("loading in SANE is refused", pevghazo_load_sane_session(&back, sane_stored, sizeof sane_stored) == PEVGHAZO_ACCEPTED);
+    check("another session in SANE comes back", memcmp(back.acc, sane_session.acc, sizeof back.acc) == 0
+          && memcmp(back.mask, sane_session.mask, sizeof back.mask) == 0 && back.index == sane_session.index && back.toggle == sane_session.toggle
+          && back.opened == sane_session.opened);
 }
 
 static void sessions(void) {
@@ -111,19 +138,25 @@ static void print_code(uint32_t packet) {
     putchar('\n');
 }
 
+static void print_bytes(const uint8_t *bytes) {
+    size_t i;
+    for (i = 0; i < PEVGHAZO_SESSION_BYTES; i++) printf("%02x", bytes[i]);
+    putchar('\n');
+}
+
 static void print(void) {
     uint32_t number;
-    size_t i;
     for (number = PEVGHAZO_BAD_HEADER; number <= PEVGHAZO_NO_CODE; number++) puts(pevghazo_number_text(number));
     for (number = PEVGHAZO_STORED_FLAG; number <= PEVGHAZO_STORED_CLOSED; number++) puts(pevghazo_number_text(number));
-    for (i = 0; i < sizeof stored; i++) printf("%02x", stored[i]);
-    putchar('\n');
+    print_bytes(stored);
+    print_bytes(sane_stored);
     print_code(0);
     print_code(PEVGHAZO_PACKET_MAX);
 }
 
 int main(int argc, char **argv) {
     texts();
+    sane_sessions();
     sessions();
     wiped();
     if (argc == 2 && strcmp(argv[1], "print") == 0) print();

@@ -1,7 +1,11 @@
-//! A program outside the repository, over the installed library: prints the sentences of the numbers, and a session's stored bytes and
-//! codes, which must be those that the C functions give.
+//! A program outside the repository, over the installed library: prints the sentences of the numbers, and the stored bytes and codes of
+//! sessions of either mode, which must be those that the C functions give.
 
-use pevghazo::{BadBytes, Number, PACKET_MAX, Plain, Refusal, Session, Table};
+use pevghazo::{BadBytes, Number, PACKET_MAX, Plain, Refusal, SaneSession, Secret, Session, Table};
+
+fn digits(bytes: &Secret) -> String {
+    bytes.iter().map(|byte| format!("{byte:02x}")).collect()
+}
 
 fn main() -> Result<(), Refusal> {
     let key = b"a key for the stored bytes";
@@ -12,13 +16,18 @@ fn main() -> Result<(), Refusal> {
     office.open_group(7, key)?;
     let sealed = office.seal(7, &plain)?;
     assert_eq!(session.open(&sealed.envelope)?.message, plain.message);
+    let (mut here, tag, _) = SaneSession::start(key, b"size C")?;
+    let (mut there, same_tag, _) = SaneSession::start(key, b"size C")?;
+    let sealed = here.seal(7, &plain)?;
+    assert_eq!((tag, &there.open(&sealed.envelope)?.message[..]), (same_tag, plain.message));
     for number in Number::ALL {
         println!("{}", number.sentence());
     }
     for bad in [BadBytes::Flag, BadBytes::Index, BadBytes::Closed] {
         println!("{bad}");
     }
-    println!("{}", session.to_bytes().iter().map(|byte| format!("{byte:02x}")).collect::<String>());
+    println!("{}", digits(&session.to_bytes()));
+    println!("{}", digits(&there.to_bytes()));
     for packet in [0, PACKET_MAX] {
         let (code, count) = session.code(packet)?;
         assert_eq!((office.code(7, packet)?, code.to_string().parse()), ((code, count), Ok(code)));

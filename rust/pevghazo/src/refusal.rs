@@ -22,7 +22,7 @@ use std::fmt;
 pub enum Number {
     /// 1: the envelope's header does not follow the layout.
     BadHeader = 1,
-    /// 2: fewer bytes follow the header than its lengths and the tag's 32 together.
+    /// 2: fewer bytes follow the header than its lengths and the tag's together; a tag has 32 bytes, or 16 with the letter N.
     TooFewBytes = 2,
     /// 3: the group is above 31.
     BadGroup = 3,
@@ -30,9 +30,10 @@ pub enum Number {
     BadKey = 4,
     /// 5: the session is not open.
     NotOpen = 5,
-    /// 6: metadata or message has more than 16,384 bytes.
+    /// 6: metadata, message or nonce has more than 16,384 bytes.
     TooLong = 6,
-    /// 7: the tag does not have 32 bytes. The types of this crate rule it out.
+    /// 7: the tag does not have 32 bytes, or 16 in SANE. The types of this crate rule it out, but for an envelope that is opened
+    /// by a session of the other mode, and for one that is written.
     BadTagLength = 7,
     /// 8: the output buffer is too short.
     NoRoom = 8,
@@ -76,10 +77,10 @@ impl Number {
             Number::BadGroup => "There is no such group: groups are numbered 0 to 31.",
             Number::BadKey => "The key must have 16 to 47 bytes.",
             Number::NotOpen => "The session is not open.",
-            Number::TooLong => "The metadata or the message has more than 16,384 bytes.",
-            Number::BadTagLength => "The tag must have 32 bytes.",
+            Number::TooLong => "The metadata, the message or the nonce has more than 16,384 bytes.",
+            Number::BadTagLength => "The tag must have 32 bytes in SANSE (letter S), and 16 in SANE (letter N).",
             Number::NoRoom => "The output buffer is too short.",
-            Number::IndexFull => "The session is full: start a new one with a new key.",
+            Number::IndexFull => "The session is full: start a new one with a new key, or in SANE with a new nonce.",
             Number::Allowance => "The day's allowance does not cover this call.",
             Number::WrongTag => {
                 "The tag is wrong: the arrival is damaged, repeated, out of order or not meant for this session."
@@ -97,7 +98,8 @@ impl fmt::Display for Number {
 
 /// A refused call. Sessions, buffers and the day's count are as they were before it, but for [`Number::WrongTag`]: there the
 /// day's count has grown by `count`, and the part of the output buffer that the message would have taken is zero. That holds
-/// of this crate's types; [`raw::start`](crate::raw::start) closes the record that it is lent where it is refused.
+/// of this crate's types; [`raw::start`](crate::raw::start) and [`raw::sane_start`](crate::raw::sane_start) close the record that
+/// they are lent where they are refused.
 ///
 /// ```
 /// use pevghazo::{Number, Session};

@@ -1,8 +1,8 @@
 //! The safe types: stored bytes, refusals, and what is shown.
 
 use pevghazo::{
-    Arrival, BadBytes, Code, Day, GROUPS, INDEX_MAX, Number, PACKET_MAX, Plain, Refusal, Session, TEXT_MAX, Table,
-    Wrapped, envelope, raw, wipe,
+    Arrival, BadBytes, Code, Day, GROUPS, INDEX_MAX, Letter, Number, PACKET_MAX, Plain, Refusal, SANE_TAG_LENGTH,
+    Session, TAG_LENGTH, TEXT_MAX, Table, Wrapped, envelope, raw, wipe,
 };
 use pevghazo_reference::session::Session as Reference;
 
@@ -326,7 +326,8 @@ fn envelopes_of_a_session_and_of_a_table() {
         let plain = Plain { metadata: b"size C", message: &text };
         let sealed = office.seal(7, &plain).unwrap();
         let wrapped = by_hand.wrap(&plain).unwrap();
-        assert_eq!(sealed.envelope, envelope::write(7, b"size C", &wrapped.cryptogram, &wrapped.tag).unwrap());
+        let written = envelope::write(Letter::S, 7, b"size C", &wrapped.cryptogram, &wrapped.tag).unwrap();
+        assert_eq!(sealed.envelope, written);
         assert_eq!((sealed.count, office.day().spent), (wrapped.count, wrapped.count));
         let followed = [&sealed.envelope[..], b"more"].concat();
         let opened = group.open(&followed).unwrap();
@@ -371,12 +372,14 @@ fn envelopes_in_a_row() {
     let mut bytes = Vec::new();
     for group in 0..32 {
         let text = vec![group as u8; group as usize * 10];
-        bytes.extend(envelope::write(group, &text, &text, &[group as u8; 32]).unwrap());
+        let letter = if group % 3 == 0 { Letter::N } else { Letter::S };
+        bytes.extend(envelope::write(letter, group, &text, &text, &vec![group as u8; letter.tag_length()]).unwrap());
     }
     let mut rest = &bytes[..];
     for group in 0..32 {
         let envelope = envelope::read(rest).unwrap();
-        assert_eq!((envelope.group, envelope.tag), (group, &[group as u8; 32]));
+        assert_eq!((envelope.letter == Letter::N, envelope.group), (group % 3 == 0, group));
+        assert_eq!(envelope.tag, vec![group as u8; envelope.letter.tag_length()]);
         assert_eq!(envelope.metadata, vec![group as u8; group as usize * 10]);
         assert_eq!(envelope.cryptogram, envelope.metadata);
         assert_eq!(rest.len(), envelope.place + envelope.rest.len());
@@ -384,10 +387,49 @@ fn envelopes_in_a_row() {
     }
     assert_eq!(envelope::read(rest).unwrap_err().number, Number::BadHeader);
     assert_eq!(envelope::read(b"S,7,20,48,").unwrap_err().number, Number::TooFewBytes);
-    assert_eq!(envelope::write(32, b"", b"", &[0; 32]).unwrap_err().number, Number::BadGroup);
-    assert_eq!(envelope::write(0, &[0; 16_385], b"", &[0; 32]).unwrap_err().number, Number::TooLong);
-    assert_eq!(envelope::write_to(0, b"", b"", &[0; 32], &mut [0; 39]).unwrap_err().number, Number::NoRoom);
-    assert_eq!(envelope::write_to(0, b"", b"", &[0; 32], &mut [0; 40]), Ok(40));
+}
+
+/// The checks of writing, in their order; each letter has a tag of its own length.
+#[test]
+fn envelopes_that_are_not_written() {
+    for letter in [Letter::S, Letter::N] {
+        let length = letter.tag_length();
+        let (tag, long) = (vec![0; length], [0; TEXT_MAX + 1]);
+        let whole = 8 + length;
+        let refused = |number| Err(Refusal { number, count: 0 });
+        assert_eq!(envelope::write(letter, 32, &long, b"", &[]), refused(Number::BadGroup));
+        assert_eq!(envelope::write(letter, 0, &long, b"", &[]), refused(Number::TooLong));
+        assert_eq!(envelope::write(letter, 0, b"", &long, &[]), refused(Number::TooLong));
+        for other in (0..64).filter(|other| *other != length) {
+            assert_eq!(envelope::write(letter, 0, b"", b"", &vec![0; other]), refused(Number::BadTagLength));
+            let written = envelope::write_to(letter, 0, b"", b"", &vec![0; other], &mut []);
+            assert_eq!(written.unwrap_err().number, Number::BadTagLength);
+        }
+        let written = envelope::write_to(letter, 0, b"", b"", &tag, &mut vec![0; whole - 1]);
+        assert_eq!(written.unwrap_err().number, Number::NoRoom);
+        assert_eq!(envelope::write_to(letter, 0, b"", b"", &tag, &mut vec![0; whole]), Ok(whole));
+    }
+    for letter in (0..=u8::MAX).filter(|letter| !b"SN".contains(letter)) {
+        let written = raw::write_envelope(letter, 32, &[0; TEXT_MAX + 1], b"", b"", &mut []);
+        assert_eq!(written, raw::Written { number: 1, len: 0 }, "letter {letter}");
+    }
+}
+
+/// What is unwrapped of an envelope has a tag of its letter's length, and no other.
+#[test]
+fn arrivals_of_envelopes() {
+    let refused = Refusal { number: Number::BadTagLength, count: 0 };
+    let bytes = envelope::write(Letter::S, 7, b"size C", b"12001", &[9; 32]).unwrap();
+    let arrived = envelope::read(&bytes).unwrap();
+    assert_eq!(arrived.arrival(), Ok(Arrival { metadata: b"size C", cryptogram: b"12001", tag: &[9; TAG_LENGTH] }));
+    assert_eq!(arrived.arrival::<SANE_TAG_LENGTH>(), Err(refused));
+    let bytes = envelope::write(Letter::N, 7, b"size C", b"12001", &[9; 16]).unwrap();
+    let arrived = envelope::read(&bytes).unwrap();
+    assert_eq!(
+        arrived.arrival(),
+        Ok(Arrival { metadata: b"size C", cryptogram: b"12001", tag: &[9; SANE_TAG_LENGTH] })
+    );
+    assert_eq!(arrived.arrival::<TAG_LENGTH>(), Err(refused));
 }
 
 #[test]
