@@ -17,7 +17,14 @@ pub struct Record {
 
 impl Record {
     fn session(&self) -> Session {
-        Session { accumulator: self.acc, mask: self.mask, index: self.index, toggle: self.toggle, open: self.opened }
+        Session {
+            accumulator: self.acc,
+            mask: self.mask,
+            index: self.index,
+            toggle: self.toggle,
+            open: self.opened,
+            ..Session::CLOSED
+        }
     }
 
     fn set(&mut self, session: Session) {

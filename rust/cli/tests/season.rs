@@ -136,7 +136,7 @@ fn the_independent_implementation_understands_it() {
 
         let (mut cryptogram, mut tag, mut bytes) = (vec![0; length], [0; 32], vec![0; length + 100]);
         other.wrap(b"back", &message, &mut cryptogram, &mut tag).unwrap();
-        let length = envelope::write(17, b"back", &cryptogram, &tag, &mut bytes).unwrap();
+        let length = envelope::write(b'S', 17, b"back", &cryptogram, &tag, &mut bytes).unwrap();
         folder.write("envelope", &bytes[..length]);
         folder.done_anew("office --state office open --in envelope --out opened");
         assert_eq!(folder.read("opened").unwrap(), message);

@@ -1,9 +1,9 @@
-//! The envelope: the bytes in which a sealed message travels (document 01, "Envelope").
+//! The envelope: the bytes in which a sealed message travels (document 01, "Envelope"; document 02 for the letter).
 //!
-//! `S,group,A length,M length,` in decimal, then the metadata, the cryptogram and the tag. More bytes may follow, so several
-//! envelopes can stand one after the other.
+//! `S,group,A length,M length,` in decimal, then the metadata, the cryptogram and the tag. The letter is that of the mode: S for
+//! SANSE, N for SANE; the tag's length goes by it. More bytes may follow, so several envelopes can stand one after the other.
 
-use crate::limits::{LENGTH_MAX, TAG, check_lengths};
+use crate::limits::{LENGTH_MAX, SANE_TAG, TAG, check_lengths};
 use crate::refusal::Number;
 
 /// The highest number of a group.
@@ -11,9 +11,17 @@ pub const GROUP_MAX: u32 = 31;
 /// The most bytes of a header.
 pub const HEADER_MAX: usize = 17;
 
-/// What reading an envelope hands out. The default is what a refused reading hands out: empty parts, group 0 and place 0.
+/// The letter of SANSE.
+pub const SANSE_LETTER: u8 = b'S';
+/// The letter of SANE.
+pub const SANE_LETTER: u8 = b'N';
+
+/// What reading an envelope hands out. The default is what a refused reading hands out: a zero byte as letter, empty parts,
+/// group 0 and place 0.
 #[derive(Clone, Copy, Debug, Default, PartialEq, Eq)]
 pub struct Parts<'a> {
+    /// The letter.
+    pub letter: u8,
     /// The group.
     pub group: u32,
     /// The metadata's bytes within the envelope.
@@ -38,40 +46,70 @@ fn number(bytes: &[u8], max: usize) -> Option<(usize, &[u8])> {
     if value > max as u64 { None } else { Some((value as usize, &bytes[comma + 1..])) }
 }
 
-/// Reads a header, and gives group, metadata's length, message's length, and the bytes that follow.
-fn header(bytes: &[u8]) -> Option<(u32, usize, usize, &[u8])> {
-    let rest = bytes.strip_prefix(b"S,")?;
+/// The bytes of a tag in an envelope with this letter, if there is such a letter.
+pub fn tag_length(letter: u8) -> Option<usize> {
+    match letter {
+        SANSE_LETTER => Some(TAG),
+        SANE_LETTER => Some(SANE_TAG),
+        _ => None,
+    }
+}
+
+/// What a header says.
+struct Header {
+    letter: u8,
+    tag: usize,
+    group: u32,
+    metadata: usize,
+    message: usize,
+}
+
+/// Reads a header, and gives it with the bytes that follow.
+fn header(bytes: &[u8]) -> Option<(Header, &[u8])> {
+    let (letter, rest) = bytes.split_first()?;
+    let tag = tag_length(*letter)?;
+    let rest = rest.strip_prefix(b",")?;
     let (group, rest) = number(rest, GROUP_MAX as usize)?;
     let (metadata, rest) = number(rest, LENGTH_MAX)?;
     let (message, rest) = number(rest, LENGTH_MAX)?;
-    Some((group as u32, metadata, message, rest))
+    Some((Header { letter: *letter, tag, group: group as u32, metadata, message }, rest))
 }
 
 /// Reads the envelope at the start of `bytes`. Meets 1 and 2, which go with [`Parts::default`].
 pub fn read(bytes: &[u8]) -> Result<Parts<'_>, Number> {
-    let (group, a, m, rest) = header(bytes).ok_or(Number::Header)?;
-    if rest.len() < a + m + TAG {
+    let (header, rest) = header(bytes).ok_or(Number::Header)?;
+    if rest.len() < header.metadata + header.message + header.tag {
         return Err(Number::Truncated);
     }
-    let (metadata, after) = rest.split_at(a);
-    let (cryptogram, after) = after.split_at(m);
-    let (tag, after) = after.split_at(TAG);
-    Ok(Parts { group, metadata, cryptogram, tag, place: bytes.len() - after.len() })
+    let (metadata, after) = rest.split_at(header.metadata);
+    let (cryptogram, after) = after.split_at(header.message);
+    let (tag, after) = after.split_at(header.tag);
+    let place = bytes.len() - after.len();
+    Ok(Parts { letter: header.letter, group: header.group, metadata, cryptogram, tag, place })
 }
 
 /// The header of an envelope.
-pub fn header_bytes(group: u32, metadata: usize, message: usize) -> Vec<u8> {
-    format!("S,{group},{metadata},{message},").into_bytes()
+pub fn header_bytes(letter: u8, group: u32, metadata: usize, message: usize) -> Vec<u8> {
+    [&[letter][..], format!(",{group},{metadata},{message},").as_bytes()].concat()
 }
 
 /// Writes an envelope to the start of `buffer`, whose other bytes keep their content, and gives the number of its bytes.
-/// Meets 3 for the group, 6, 7, and 8 for a buffer shorter than the envelope, with the buffer left as it was.
-pub fn write(group: u32, metadata: &[u8], cryptogram: &[u8], tag: &[u8], buffer: &mut [u8]) -> Result<usize, Number> {
+/// Meets 1 for a letter that there is not, 3 for the group, 6, 7 by the letter, and 8 for a buffer shorter than the envelope,
+/// with the buffer left as it was.
+pub fn write(
+    letter: u8,
+    group: u32,
+    metadata: &[u8],
+    cryptogram: &[u8],
+    tag: &[u8],
+    buffer: &mut [u8],
+) -> Result<usize, Number> {
+    let tag_length = tag_length(letter).ok_or(Number::Header)?;
     if group > GROUP_MAX {
         return Err(Number::Group);
     }
-    check_lengths(metadata.len(), cryptogram.len(), tag.len())?;
-    let header = header_bytes(group, metadata.len(), cryptogram.len());
+    check_lengths(&[metadata.len(), cryptogram.len()], tag.len(), tag_length)?;
+    let header = header_bytes(letter, group, metadata.len(), cryptogram.len());
     let envelope = [&header, metadata, cryptogram, tag].concat();
     let start = buffer.get_mut(..envelope.len()).ok_or(Number::Buffer)?;
     start.copy_from_slice(&envelope);

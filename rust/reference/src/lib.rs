@@ -3,10 +3,10 @@
 //! Nothing that is delivered links this crate. It exists so that the proved code has something to be compared with that
 //! was written by reading the papers only:
 //!
-//! * the Xoodoo cookbook: the permutation (section 2), Xoofff (section 3) and Xoofff-SANSE (section 5);
+//! * the Xoodoo cookbook: the permutation (section 2), Xoofff (section 3), Xoofff-SANE (section 4) and Xoofff-SANSE (section 5);
 //! * the Farfalle paper, section 3: the construction that makes a deck function from a permutation;
 //! * the scope document, number 01: limits, counts, what a refusal leaves behind, the envelope and the office's table;
-//! * document 02: the codes for packets.
+//! * document 02: the codes for packets; counts, limits and the envelope's letter of SANE.
 //!
 //! # The layers
 //!
@@ -17,11 +17,12 @@
 //! | [`deck`] | Xoofff: a keyed function from a *history* (a sequence of strings) to as many bytes as one asks for |
 //! | [`bits`] | permutation, padding, rolling and deck function once more, literally, on strings of bits |
 //! | [`limits`] | the limits of keys, texts, tags and indexes |
-//! | [`session`] | the record that is carried along from call to call, and its start |
-//! | [`sanse`] | wrap and unwrap of a session by Xoofff-SANSE, their counts and checks |
+//! | [`session`] | the record that is carried along from call to call, and the checks, wrap and unwrap that all modes share |
+//! | [`sanse`] | the steps and counts of Xoofff-SANSE, and the start of its sessions |
+//! | [`sane`] | the same of Xoofff-SANE, whose sessions start with a nonce |
 //! | [`codes`] | the codes for packets that a session gives |
-//! | [`ledger`] | the same session kept as key and full history, with the deck function worked out afresh at each call |
-//! | [`envelope`] | the bytes in which a sealed message travels |
+//! | [`ledger`] | the same sessions kept as key and full history, with the deck function worked out afresh at each call |
+//! | [`envelope`] | the bytes in which a sealed message travels, with a letter for its mode |
 //! | [`table`] | the office's table of 32 sessions with one allowance of permutations for the day |
 //! | [`refusal`] | the numbers under which a call is refused |
 //! | [`random`] | a small deterministic generator of test data |
@@ -54,6 +55,7 @@ pub mod limits;
 pub mod random;
 pub mod refusal;
 pub mod rolling;
+pub mod sane;
 pub mod sanse;
 pub mod session;
 pub mod table;

@@ -1,4 +1,4 @@
-//! The limits of keys, texts, tags and indexes (document 01, "Counts and limits").
+//! The limits of keys, texts, tags and indexes (document 01, "Counts and limits"; document 02 for those of SANE).
 
 use crate::refusal::Number;
 
@@ -6,19 +6,27 @@ use crate::refusal::Number;
 pub const KEY_MIN: usize = 16;
 /// The most bytes of a key.
 pub const KEY_MAX: usize = 47;
-/// The bytes of a tag.
+/// The bytes of a tag of SANSE.
 pub const TAG: usize = 32;
-/// The most bytes of metadata, and of a message.
+/// The bytes of a tag of SANE.
+pub const SANE_TAG: usize = 16;
+/// The most bytes of metadata, of a message, and of a nonce.
 pub const LENGTH_MAX: usize = 16_384;
 /// The highest index that a session may reach.
 pub const INDEX_MAX: u32 = 1_048_576;
 
-/// The checks 6 and 7, which sessions and envelopes share.
-pub(crate) fn check_lengths(metadata: usize, message: usize, tag: usize) -> Result<(), Number> {
-    if metadata > LENGTH_MAX || message > LENGTH_MAX {
+/// Check 4.
+pub(crate) fn check_key(key: &[u8]) -> Result<(), Number> {
+    if (KEY_MIN..=KEY_MAX).contains(&key.len()) { Ok(()) } else { Err(Number::Key) }
+}
+
+/// The checks 6 and 7, which sessions and envelopes share: of texts with these lengths, and of a tag that must have
+/// `tag_length` bytes.
+pub(crate) fn check_lengths(texts: &[usize], tag: usize, tag_length: usize) -> Result<(), Number> {
+    if texts.iter().any(|length| *length > LENGTH_MAX) {
         return Err(Number::TooLong);
     }
-    if tag != TAG {
+    if tag != tag_length {
         return Err(Number::TagLength);
     }
     Ok(())

@@ -7,7 +7,7 @@ use std::fmt;
 #[derive(Clone, Copy, Debug, PartialEq, Eq, PartialOrd, Ord, Hash)]
 #[repr(u8)]
 pub enum Number {
-    /// 1: the envelope's header does not follow the layout.
+    /// 1: the envelope's header does not follow the layout; in writing, there is no such letter.
     Header = 1,
     /// 2: fewer bytes follow the header than its two lengths and the tag need.
     Truncated = 2,
@@ -17,9 +17,9 @@ pub enum Number {
     Key = 4,
     /// 5: the session is not open.
     Closed = 5,
-    /// 6: metadata or message is longer than 16,384 bytes.
+    /// 6: metadata, message or nonce is longer than 16,384 bytes.
     TooLong = 6,
-    /// 7: the tag, or the buffer for it, is not 32 bytes.
+    /// 7: the tag, or the buffer for it, has not the length of the mode's tags: 32 bytes, in SANE 16.
     TagLength = 7,
     /// 8: the output buffer is too short.
     Buffer = 8,
@@ -47,8 +47,8 @@ impl Number {
             Number::Group => "There is no such group: groups are 0 to 31, in a table of 32.",
             Number::Key => "The key must have 16 to 47 bytes.",
             Number::Closed => "The session is not open.",
-            Number::TooLong => "Metadata or message has more than 16,384 bytes.",
-            Number::TagLength => "The tag must have 32 bytes.",
+            Number::TooLong => "Metadata, message or nonce has more than 16,384 bytes.",
+            Number::TagLength => "The tag must have 32 bytes, in SANE 16.",
             Number::Buffer => "The output buffer is too short.",
             Number::Full => "The session is full: start a new one with a new key.",
             Number::Allowance => "The day's allowance does not cover this call.",

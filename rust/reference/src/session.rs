@@ -1,15 +1,30 @@
-//! The record of a session, which is carried along from call to call (document 01, "SANSE" and "Counts and limits").
+//! The record of a session, which is carried along from call to call, and what all modes of sessions share (document 01, "SANSE",
+//! "Counts and limits" and "What stops a call, in checking order").
 //!
-//! A *session* is what two ends hold under one key. What a call puts in its history is the mode's: see [`crate::sanse`].
+//! A *session* is what two ends hold under one key. *Wrapping* turns *metadata*, which travels in the clear, and a *message* into
+//! a *cryptogram* of the message's length and a *tag*. *Unwrapping* turns them back, or refuses. Every tag covers all messages of
+//! the session so far, those of both directions. What a call puts in the history, and where tag and keystream come from, is the
+//! mode's: see [`crate::sanse`] and [`crate::sane`].
 
-use crate::deck::Deck;
-use crate::limits::{KEY_MAX, KEY_MIN};
-use crate::refusal::Number;
+use std::fmt;
+use std::marker::PhantomData;
+
+use crate::deck::{Deck, blocks};
+use crate::limits::{INDEX_MAX, check_lengths};
+use crate::refusal::{Number, Refusal};
+use crate::sane::Sane;
+use crate::sanse::Sanse;
 use crate::xoodoo::State;
 
-/// The record of a session. Its fields are open so that tests can make any record, also one that no calls leave behind.
+/// A session of SANSE.
+pub type Session = Record<Sanse>;
+
+/// A session of SANE.
+pub type SaneSession = Record<Sane>;
+
+/// The record of a session in a mode. Its fields are open so that tests can make any record, also one that no calls leave behind.
 #[derive(Clone, Debug, PartialEq, Eq)]
-pub struct Session {
+pub struct Record<M> {
     /// The accumulator of the history; the lane at x of plane y is element x + 4y.
     pub accumulator: State,
     /// The key's mask, rolled `index` times.
@@ -20,23 +35,81 @@ pub struct Session {
     pub toggle: bool,
     /// Whether the session is open.
     pub open: bool,
+    /// The mode, so that the records of one are not taken for those of another.
+    pub mode: PhantomData<M>,
 }
 
-impl Session {
+/// What a mode of sessions settles.
+pub trait Mode: Clone + fmt::Debug + Eq {
+    /// The bytes of a tag.
+    const TAG: usize;
+
+    /// The permutations of a call with metadata and message of these lengths.
+    fn count(metadata: usize, message: usize) -> u32;
+
+    /// The steps of wrap from this history and toggle on. They fill `cryptogram`, which has the message's length, and `tag`, and
+    /// give the history that they leave.
+    fn wrap(
+        history: Deck,
+        toggle: bool,
+        metadata: &[u8],
+        message: &[u8],
+        cryptogram: &mut [u8],
+        tag: &mut [u8],
+    ) -> Deck;
+
+    /// The steps of unwrap from this history and toggle on, up to the tag. They fill `message`, which has the cryptogram's
+    /// length, and give the history that they leave; the tag is the start of its output.
+    fn unwrap(history: Deck, toggle: bool, metadata: &[u8], cryptogram: &[u8], tag: &[u8], message: &mut [u8]) -> Deck;
+}
+
+/// The frame bits after metadata.
+pub fn metadata_frame(toggle: bool) -> [bool; 2] {
+    [false, toggle]
+}
+
+/// Whether metadata of this length is put in the history before a message of that length.
+pub fn takes_metadata(metadata: usize, message: usize) -> bool {
+    metadata > 0 || message == 0
+}
+
+/// By how much a call with metadata and message of these lengths raises the index.
+pub fn growth(metadata: usize, message: usize) -> u32 {
+    let mut growth = 0;
+    if takes_metadata(metadata, message) {
+        growth += blocks(metadata) + 1;
+    }
+    if message > 0 {
+        growth += blocks(message) + 1;
+    }
+    u32::try_from(growth).expect("lengths within their limits")
+}
+
+/// The history gains the metadata, unless they are empty and a message follows.
+pub(crate) fn compress_metadata(history: &mut Deck, toggle: bool, metadata: &[u8], message: usize) {
+    if takes_metadata(metadata.len(), message) {
+        history.compress(metadata, &metadata_frame(toggle));
+    }
+}
+
+/// Puts the sum of `input` and the deck function's output from byte `offset` on into `output`, which has the same length.
+pub(crate) fn add_keystream(deck: &Deck, offset: usize, input: &[u8], output: &mut [u8]) {
+    deck.output(offset, output);
+    for (out, byte) in output.iter_mut().zip(input) {
+        *out ^= byte;
+    }
+}
+
+impl<M> Record<M> {
     /// A closed record: zero in all its numbers.
-    pub const CLOSED: Session = Session { accumulator: [0; 12], mask: [0; 12], index: 0, toggle: false, open: false };
+    pub const CLOSED: Record<M> =
+        Record { accumulator: [0; 12], mask: [0; 12], index: 0, toggle: false, open: false, mode: PhantomData };
 
-    /// The permutations of an accepted start.
-    pub const START_COUNT: u32 = 1;
-
-    /// Starts a session under a key. Meets 4; a refused start gives a closed record, so a caller that lent one holds
-    /// [`Session::CLOSED`] afterwards.
-    pub fn start(key: &[u8]) -> Result<Session, Number> {
-        if !(KEY_MIN..=KEY_MAX).contains(&key.len()) {
-            return Err(Number::Key);
-        }
-        let Deck { accumulator, mask, .. } = Deck::start(key);
-        Ok(Session { accumulator, mask, index: 0, toggle: false, open: true })
+    /// The open record of a session that starts with this history.
+    pub(crate) fn opened(history: Deck) -> Record<M> {
+        let mut record = Record { open: true, ..Record::CLOSED };
+        record.set(history);
+        record
     }
 
     /// The deck function's state in this record.
@@ -44,11 +117,100 @@ impl Session {
         Deck { accumulator: self.accumulator, mask: self.mask, index: u64::from(self.index) }
     }
 
-    /// Takes in the history of an accepted message.
-    pub(crate) fn accept(&mut self, history: Deck) {
+    /// Takes in a history.
+    fn set(&mut self, history: Deck) {
         self.accumulator = history.accumulator;
         self.mask = history.mask;
         self.index = u32::try_from(history.index).expect("the index was checked");
+    }
+
+    /// Takes in the history of an accepted message.
+    fn accept(&mut self, history: Deck) {
+        self.set(history);
         self.toggle = !self.toggle;
+    }
+}
+
+impl<M: Mode> Record<M> {
+    /// The checks 5 to 9 of a call with these lengths. Gives the call's count where none is met.
+    pub fn check(&self, metadata: usize, message: usize, tag: usize, output: usize) -> Result<u32, Number> {
+        if !self.open {
+            return Err(Number::Closed);
+        }
+        check_lengths(&[metadata, message], tag, M::TAG)?;
+        if output < message {
+            return Err(Number::Buffer);
+        }
+        if u64::from(self.index) + u64::from(growth(metadata, message)) > u64::from(INDEX_MAX) {
+            return Err(Number::Full);
+        }
+        Ok(M::count(metadata, message))
+    }
+
+    /// Wraps a message: the cryptogram goes to the start of `cryptogram`, whose other bytes keep their content, and the tag
+    /// to `tag`. Gives the count of permutations. Meets 5 to 9, with everything left as it was.
+    pub fn wrap(
+        &mut self,
+        metadata: &[u8],
+        message: &[u8],
+        cryptogram: &mut [u8],
+        tag: &mut [u8],
+    ) -> Result<u32, Refusal> {
+        let count = self.check(metadata.len(), message.len(), tag.len(), cryptogram.len())?;
+        let cryptogram = &mut cryptogram[..message.len()];
+        let history = M::wrap(self.deck(), self.toggle, metadata, message, cryptogram, tag);
+        self.accept(history);
+        Ok(count)
+    }
+
+    /// Unwraps an arrival: the message goes to the start of `message`, whose other bytes keep their content. Gives the count
+    /// of permutations. Meets 5 to 9, with everything left as it was, and 11, which leaves the session as it was, sets the
+    /// first bytes of `message`, as many as the cryptogram has, to zero, and has the count of an accepted call.
+    pub fn unwrap(
+        &mut self,
+        metadata: &[u8],
+        cryptogram: &[u8],
+        tag: &[u8],
+        message: &mut [u8],
+    ) -> Result<u32, Refusal> {
+        let count = self.check(metadata.len(), cryptogram.len(), tag.len(), message.len())?;
+        let message = &mut message[..cryptogram.len()];
+        let history = M::unwrap(self.deck(), self.toggle, metadata, cryptogram, tag, message);
+        let mut found = vec![0; M::TAG];
+        history.output(0, &mut found);
+        if found != tag {
+            message.fill(0);
+            return Err(Refusal { number: Number::Tag, count });
+        }
+        self.accept(history);
+        Ok(count)
+    }
+}
+
+#[cfg(test)]
+pub(crate) mod tests {
+    use super::*;
+    use crate::deck::tests::counted;
+
+    /// Wraps, unwraps and refuses at the edges from this session on: counts are the permutations made, and the index grows by
+    /// its formula.
+    pub(crate) fn check_counts<M: Mode>(session: &Record<M>) {
+        let edges = [0, 1, 20, 31, 32, 33, 47, 48, 49, 79, 80, 81, 95, 96, 97, 1_000, 16_383, 16_384];
+        for a in edges {
+            for m in edges {
+                let (mut here, mut there, mut wrong) = (session.clone(), session.clone(), session.clone());
+                let (metadata, message) = (vec![1; a], vec![2; m]);
+                let (mut cryptogram, mut tag, mut back) = (vec![0; m], vec![0; M::TAG], vec![0; m]);
+                let (answer, made) = counted(|| here.wrap(&metadata, &message, &mut cryptogram, &mut tag));
+                assert_eq!(answer, Ok(made), "wrap of {a} and {m} bytes");
+                let (answer, made) = counted(|| there.unwrap(&metadata, &cryptogram, &tag, &mut back));
+                assert_eq!(answer, Ok(made), "unwrap of {a} and {m} bytes");
+                assert_eq!(back, message);
+                assert_eq!(here.index, session.index + growth(a, m));
+                tag[0] ^= 1;
+                let (answer, made) = counted(|| wrong.unwrap(&metadata, &cryptogram, &tag, &mut back));
+                assert_eq!(answer, Err(Refusal { number: Number::Tag, count: made }), "wrong tag, {a} and {m} bytes");
+            }
+        }
     }
 }

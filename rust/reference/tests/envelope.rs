@@ -1,42 +1,79 @@
-//! The envelope at its edges.
+//! The envelope at its edges, with either letter.
 
-use pevghazo_reference::envelope::{HEADER_MAX, Parts, header_bytes, read, write};
+use pevghazo_reference::envelope::{HEADER_MAX, Parts, header_bytes, read, tag_length, write};
 use pevghazo_reference::limits::LENGTH_MAX;
 use pevghazo_reference::random::Random;
 use pevghazo_reference::refusal::Number;
 
+/// The letters, each with the bytes of its tag.
+const LETTERS: [(u8, usize); 2] = [(b'S', 32), (b'N', 16)];
+
+#[test]
+fn letters_have_their_tags() {
+    for letter in 0..=u8::MAX {
+        let expected = LETTERS.iter().find(|(known, _)| *known == letter).map(|(_, length)| *length);
+        assert_eq!(tag_length(letter), expected, "{letter}");
+    }
+}
+
+/// Writes an envelope to a buffer that is one byte short, and to one with some bytes more; then it is read.
+fn written_and_read(random: &mut Random, letter: u8, tag: usize) {
+    let lengths = [0, 1, 9, 10, 99, 100, 999, 1_000, 9_999, 10_000, 16_383, 16_384];
+    let (a, c) = (random.pick(&lengths), random.pick(&lengths));
+    let group = random.below(32) as u32;
+    let (a, c, t) = (random.bytes(a), random.bytes(c), random.bytes(tag));
+    let needed = header_bytes(letter, group, a.len(), c.len()).len() + a.len() + c.len() + tag;
+    let mut buffer = random.bytes(needed + random.clone().below(3));
+    let before = buffer.clone();
+    assert_eq!(write(letter, group, &a, &c, &t, &mut buffer[..needed - 1]), Err(Number::Buffer));
+    assert_eq!(buffer, before);
+    assert_eq!(write(letter, group, &a, &c, &t, &mut buffer), Ok(needed));
+    assert_eq!(buffer[needed..], before[needed..]);
+    let parts = Parts { letter, group, metadata: &a, cryptogram: &c, tag: &t, place: needed };
+    assert_eq!(read(&buffer), Ok(parts));
+    assert_eq!(read(&buffer[..needed]), Ok(parts));
+    assert_eq!(read(&buffer[..needed - 1]), Err(Number::Truncated));
+}
+
 #[test]
 fn what_is_written_is_read() {
     let mut random = Random::new(11);
-    for _ in 0..300 {
-        let lengths = [0, 1, 9, 10, 99, 100, 999, 1_000, 9_999, 10_000, 16_383, 16_384];
-        let (a, c) = (random.pick(&lengths), random.pick(&lengths));
-        let group = random.below(32) as u32;
-        let (a, c, t) = (random.bytes(a), random.bytes(c), random.bytes(32));
-        let needed = header_bytes(group, a.len(), c.len()).len() + a.len() + c.len() + 32;
-        let mut buffer = random.bytes(needed + random.clone().below(3));
-        let before = buffer.clone();
-        assert_eq!(write(group, &a, &c, &t, &mut buffer[..needed - 1]), Err(Number::Buffer));
-        assert_eq!(buffer, before);
-        assert_eq!(write(group, &a, &c, &t, &mut buffer), Ok(needed));
-        assert_eq!(buffer[needed..], before[needed..]);
-        let parts = Parts { group, metadata: &a, cryptogram: &c, tag: &t, place: needed };
-        assert_eq!(read(&buffer), Ok(parts));
-        assert_eq!(read(&buffer[..needed]), Ok(parts));
-        assert_eq!(read(&buffer[..needed - 1]), Err(Number::Truncated));
+    for (letter, tag) in LETTERS {
+        for _ in 0..300 {
+            written_and_read(&mut random, letter, tag);
+        }
+        assert_eq!(header_bytes(letter, 31, LENGTH_MAX, LENGTH_MAX).len(), HEADER_MAX);
     }
-    assert_eq!(header_bytes(31, LENGTH_MAX, LENGTH_MAX).len(), HEADER_MAX);
-    assert_eq!(Parts::default(), Parts { group: 0, metadata: &[], cryptogram: &[], tag: &[], place: 0 });
+    let refused = Parts { letter: 0, group: 0, metadata: &[], cryptogram: &[], tag: &[], place: 0 };
+    assert_eq!(Parts::default(), refused);
+}
+
+/// The same bytes, but for the letter, end 16 bytes earlier with N.
+#[test]
+fn the_other_letters_tag_length() {
+    let mut bytes = b"S,7,20,48,".to_vec();
+    bytes.extend(Random::new(12).bytes(100));
+    assert_eq!(read(&bytes).map(|parts| (parts.letter, parts.tag, parts.place)), Ok((b'S', &bytes[78..110], 110)));
+    assert_eq!(read(&bytes[..109]), Err(Number::Truncated));
+    assert_eq!(read(&bytes[..94]), Err(Number::Truncated));
+    bytes[0] = b'N';
+    assert_eq!(read(&bytes).map(|parts| (parts.letter, parts.tag, parts.place)), Ok((b'N', &bytes[78..94], 94)));
+    assert_eq!(read(&bytes[..94]).map(|parts| parts.place), Ok(94));
+    assert_eq!(read(&bytes[..93]), Err(Number::Truncated));
+}
+
+/// A header with some bytes after it.
+fn with_room(header: &str) -> Vec<u8> {
+    let mut bytes = header.as_bytes().to_vec();
+    bytes.resize(bytes.len() + 100, b'x');
+    bytes
 }
 
 #[test]
 fn headers_of_every_kind() {
-    let with_room = |header: &str| {
-        let mut bytes = header.as_bytes().to_vec();
-        bytes.resize(bytes.len() + 100, b'x');
-        bytes
-    };
-    for good in ["S,7,20,48,", "S,0,0,0,", "S,31,0,68,", "S,10,68,0,", "S,9,9,9,"] {
+    for good in
+        ["S,7,20,48,", "N,7,20,48,", "S,0,0,0,", "N,0,0,0,", "S,31,0,68,", "N,31,0,84,", "S,10,68,0,", "S,9,9,9,"]
+    {
         let bytes = with_room(good);
         assert!(read(&bytes).is_ok(), "{good}");
         let header = good.len();
@@ -45,13 +82,13 @@ fn headers_of_every_kind() {
         }
         assert_eq!(read(&bytes[..header]), Err(Number::Truncated), "{good} alone");
     }
-    let bytes = with_room("S,7,20,48,");
-    assert_eq!(read(&bytes).unwrap().place, 110);
-    assert_eq!(read(&bytes[..109]), Err(Number::Truncated));
     for bad in [
         "",
         "s,7,20,48,",
-        "N,7,20,48,",
+        "n,7,20,48,",
+        "F,7,20,48,",
+        "\0,7,20,48,",
+        ",7,20,48,",
         "S;7,20,48,",
         "S 7,20,48,",
         "S,,20,48,",
@@ -83,23 +120,38 @@ fn headers_of_every_kind() {
         "S,7,18446744073709551636,48,",
         "S,0000000000000000000000000007,20,48,",
         "SS,7,20,48,",
+        "SN,7,20,48,",
+        "N;7,20,48,",
+        "N,07,20,48,",
+        "N,32,20,48,",
+        "N,7,16385,48,",
     ] {
         assert_eq!(read(&with_room(bad)), Err(Number::Header), "{bad}");
     }
     // The limits themselves are good, and only too few bytes follow.
     assert_eq!(read(&with_room("S,31,16384,16384,")), Err(Number::Truncated));
+    assert_eq!(read(&with_room("N,31,16384,16384,")), Err(Number::Truncated));
 }
 
 #[test]
 fn writing_is_refused_in_order() {
     let long = vec![0; LENGTH_MAX + 1];
     let mut buffer = vec![7; 20];
-    assert_eq!(write(32, &long, &[], &[0; 31], &mut buffer), Err(Number::Group));
-    assert_eq!(write(u32::MAX, &[], &[], &[0; 32], &mut buffer), Err(Number::Group));
-    assert_eq!(write(31, &long, &[], &[0; 31], &mut buffer), Err(Number::TooLong));
-    assert_eq!(write(31, &[], &long, &[0; 32], &mut buffer), Err(Number::TooLong));
-    assert_eq!(write(31, &[], &[], &[0; 31], &mut buffer), Err(Number::TagLength));
-    assert_eq!(write(31, &[], &[], &[0; 33], &mut buffer), Err(Number::TagLength));
-    assert_eq!(write(31, &[], &[], &[0; 32], &mut buffer), Err(Number::Buffer));
+    for letter in [0, b's', b'n', b'F', b',', 0xFF] {
+        assert_eq!(write(letter, 32, &long, &[], &[0; 31], &mut buffer), Err(Number::Header), "{letter}");
+        assert_eq!(write(letter, 7, &[], &[], &[0; 32], &mut [0; 100]), Err(Number::Header), "{letter}");
+        assert_eq!(write(letter, 7, &[], &[], &[0; 16], &mut [0; 100]), Err(Number::Header), "{letter}");
+    }
+    for ((letter, tag), (_, other)) in LETTERS.into_iter().zip(LETTERS.into_iter().rev()) {
+        let tag = vec![0; tag];
+        assert_eq!(write(letter, 32, &long, &[], &tag[1..], &mut buffer), Err(Number::Group));
+        assert_eq!(write(letter, u32::MAX, &[], &[], &tag, &mut buffer), Err(Number::Group));
+        assert_eq!(write(letter, 31, &long, &[], &tag[1..], &mut buffer), Err(Number::TooLong));
+        assert_eq!(write(letter, 31, &[], &long, &tag, &mut buffer), Err(Number::TooLong));
+        for length in [0, tag.len() - 1, tag.len() + 1, other] {
+            assert_eq!(write(letter, 31, &[], &[], &vec![0; length], &mut buffer), Err(Number::TagLength));
+        }
+        assert_eq!(write(letter, 31, &[], &[], &tag, &mut buffer), Err(Number::Buffer));
+    }
     assert_eq!(buffer, vec![7; 20]);
 }

@@ -1,0 +1,156 @@
+//! One end of a session kept as key and full history (document 01, "The two ends of demand 3").
+//!
+//! A *ledger* is document 01's word for this: it is fed what each call at its end is handed beside the record, and works the
+//! deck function out from the first string on at each call. Nothing is carried along but the key, the history and the toggle,
+//! and the steps of each mode are written as in the cookbook's algorithm, so it says what a record's answers should have been.
+
+mod sane;
+mod sanse;
+
+use std::marker::PhantomData;
+
+use crate::deck::{Deck, Text};
+use crate::limits::{INDEX_MAX, check_lengths};
+use crate::refusal::{Number, Refusal};
+use crate::sane::Sane;
+use crate::sanse::Sanse;
+use crate::session::{Mode, Record, metadata_frame};
+
+/// A deck function of key, history, offset and length, all in bytes: [`crate::deck::xoofff`] or [`crate::bits::xoofff`].
+pub type DeckFunction = fn(&[u8], &[Text], usize, usize) -> Vec<u8>;
+
+/// The ledger of a session of SANSE.
+pub type Ledger = LedgerOf<Sanse>;
+
+/// The ledger of a session of SANE, whose history opens with the nonce.
+pub type SaneLedger = LedgerOf<Sane>;
+
+/// Key, history and toggle of one end, in a mode.
+#[derive(Clone, Debug)]
+pub struct LedgerOf<M> {
+    /// The key.
+    pub key: Vec<u8>,
+    /// The strings that start and accepted messages have left so far, the oldest first.
+    pub history: Vec<Text>,
+    /// The toggle e.
+    pub toggle: bool,
+    /// What the steps ask for tags, keystream and codes.
+    deck: DeckFunction,
+    mode: PhantomData<M>,
+}
+
+/// What a call gives that meets no check before the tag's.
+pub struct Steps {
+    /// The cryptogram, or the message.
+    pub output: Vec<u8>,
+    /// The tag that the steps find.
+    pub tag: Vec<u8>,
+    /// The history afterwards.
+    pub history: Vec<Text>,
+}
+
+/// A mode's algorithm as the cookbook prints it, over the full history.
+pub trait Algorithm: Mode {
+    /// The steps of wrap.
+    fn wrap_steps(ledger: &LedgerOf<Self>, metadata: &[u8], message: &[u8]) -> Steps;
+
+    /// The steps of unwrap, with the tag that arrived.
+    fn unwrap_steps(ledger: &LedgerOf<Self>, metadata: &[u8], cryptogram: &[u8], arrived: &[u8]) -> Steps;
+}
+
+/// The sum of two strings of one length.
+fn sum(a: &[u8], b: &[u8]) -> Vec<u8> {
+    a.iter().zip(b).map(|(a, b)| a ^ b).collect()
+}
+
+/// The index after a history: each string counts its blocks and one more.
+fn index(history: &[Text]) -> usize {
+    history.iter().map(|text| text.bytes.len() / 48 + 2).sum()
+}
+
+impl<M> LedgerOf<M> {
+    /// The ledger that opens with this history.
+    fn opened(key: &[u8], history: Vec<Text>, deck: DeckFunction) -> LedgerOf<M> {
+        LedgerOf { key: key.to_vec(), history, toggle: false, deck, mode: PhantomData }
+    }
+
+    /// The record that a session with this key and history must have.
+    pub fn record(&self) -> Record<M> {
+        let deck = Deck::of(&self.key, &self.history);
+        Record {
+            accumulator: deck.accumulator,
+            mask: deck.mask,
+            index: u32::try_from(index(&self.history)).expect("an index within its limit"),
+            toggle: self.toggle,
+            open: true,
+            mode: PhantomData,
+        }
+    }
+
+    /// The deck function of a history under this key.
+    fn output(&self, history: &[Text], offset: usize, length: usize) -> Vec<u8> {
+        (self.deck)(&self.key, history, offset, length)
+    }
+
+    /// The history after the metadata's step.
+    fn after_metadata(&self, metadata: &[u8], message: usize) -> Vec<Text> {
+        let mut history = self.history.clone();
+        if !metadata.is_empty() || message == 0 {
+            history.push(Text::new(metadata, &metadata_frame(self.toggle)));
+        }
+        history
+    }
+}
+
+impl<M: Algorithm> LedgerOf<M> {
+    /// The checks 6 to 9; a ledger's session is always open.
+    fn check(&self, metadata: &[u8], message: &[u8], tag: &[u8], output: &[u8]) -> Result<(), Number> {
+        check_lengths(&[metadata.len(), message.len()], tag.len(), M::TAG)?;
+        if output.len() < message.len() {
+            return Err(Number::Buffer);
+        }
+        let mut history = self.after_metadata(metadata, message.len());
+        if !message.is_empty() {
+            history.push(Text::new(message, &[]));
+        }
+        if index(&history) > INDEX_MAX as usize { Err(Number::Full) } else { Ok(()) }
+    }
+
+    /// Wraps; the arguments and answers are those of [`Record::wrap`].
+    pub fn wrap(
+        &mut self,
+        metadata: &[u8],
+        message: &[u8],
+        cryptogram: &mut [u8],
+        tag: &mut [u8],
+    ) -> Result<u32, Refusal> {
+        self.check(metadata, message, tag, cryptogram)?;
+        let steps = M::wrap_steps(self, metadata, message);
+        cryptogram[..message.len()].copy_from_slice(&steps.output);
+        tag.copy_from_slice(&steps.tag);
+        self.history = steps.history;
+        self.toggle = !self.toggle;
+        Ok(M::count(metadata.len(), message.len()))
+    }
+
+    /// Unwraps; the arguments and answers are those of [`Record::unwrap`].
+    pub fn unwrap(
+        &mut self,
+        metadata: &[u8],
+        cryptogram: &[u8],
+        tag: &[u8],
+        message: &mut [u8],
+    ) -> Result<u32, Refusal> {
+        self.check(metadata, cryptogram, tag, message)?;
+        let steps = M::unwrap_steps(self, metadata, cryptogram, tag);
+        let count = M::count(metadata.len(), cryptogram.len());
+        if steps.tag != tag {
+            message[..cryptogram.len()].fill(0);
+            return Err(Refusal { number: Number::Tag, count });
+        }
+        message[..cryptogram.len()].copy_from_slice(&steps.output);
+        self.history = steps.history;
+        self.toggle = !self.toggle;
+        Ok(count)
+    }
+}
