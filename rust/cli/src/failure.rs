@@ -59,8 +59,6 @@ pub enum Failure {
     UsedKey,
     /// The nonce was used under this key before; a counter, with the last one.
     UsedNonce(Option<(u64, u64)>),
-    /// A nonce of too many bytes.
-    LongNonce,
     /// The tag of a start is not the expected one.
     OtherTag,
     /// A code that was read off a packet is not the packet's.
@@ -120,7 +118,6 @@ impl Failure {
             Failure::UsedKey | Failure::UsedNonce(_) => 7,
             Failure::Mismatch { .. } | Failure::OtherTag => 9,
             Failure::Refused(refusal, _) => 10 + refusal.number.number(),
-            Failure::LongNonce => 10 + Number::TooLong.number(),
             Failure::Kept { source, .. } => source.status(),
         }
     }
@@ -165,7 +162,6 @@ impl fmt::Display for Failure {
             Failure::OtherLetter(Letter::N) => f.write_str(OF_SANE),
             Failure::UsedKey => f.write_str(USED_KEY),
             Failure::UsedNonce(counters) => used_nonce(f, *counters),
-            Failure::LongNonce => write!(f, "{} The nonce has more than 16,384 bytes.", number(Number::TooLong)),
             Failure::OtherTag => f.write_str(OTHER_TAG),
             Failure::Mismatch { group, packet, index } => mismatch(f, *group, *packet, *index),
             Failure::Refused(refusal, letter) => refused(f, refusal, *letter),
@@ -235,27 +231,18 @@ const WRONG_SANE_TAG: &str = "\
 Or both ends have sealed at once: then neither envelope can be opened, whoever sees both learns how their messages differ, and \
 the session is replaced under another nonce.";
 
-/// What is said of a session in SANE that is full.
-const SANE_FULL: &str = "In SANE another nonce is enough.";
-
 /// What is said of a refusal besides its sentence.
 fn hint(number: Number, letter: Letter) -> Option<&'static str> {
     match (number, letter) {
         (Number::WrongTag, Letter::S) => Some(WRONG_TAG),
         (Number::WrongTag, Letter::N) => Some(WRONG_SANE_TAG),
-        (Number::IndexFull, Letter::N) => Some(SANE_FULL),
         _ => None,
     }
 }
 
-/// The start of the sentence of a refusal.
-fn number(number: Number) -> String {
-    format!("Refused, number {}:", number.number())
-}
-
 /// The sentence of a refusal with its number.
 fn refused(f: &mut fmt::Formatter<'_>, refusal: &Refusal, letter: Letter) -> fmt::Result {
-    write!(f, "{} {}", number(refusal.number), refusal.number.sentence())?;
+    write!(f, "Refused, number {}: {}", refusal.number.number(), refusal.number.sentence())?;
     hint(refusal.number, letter).map_or(Ok(()), |hint| write!(f, " {hint}"))
 }
 

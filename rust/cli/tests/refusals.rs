@@ -15,8 +15,8 @@ const SENTENCES: [(i32, &str); 10] = [
     (3, "There is no such group: groups are numbered 0 to 31."),
     (4, "The key must have 16 to 47 bytes."),
     (5, "The session is not open."),
-    (6, "The metadata or the message has more than 16,384 bytes."),
-    (9, "The session is full: start a new one with a new key."),
+    (6, "The metadata, the message or the nonce has more than 16,384 bytes."),
+    (9, "The session is full: start a new one with a new key, or in SANE with a new nonce."),
     (10, "The day's allowance does not cover this call."),
     (
         11,

@@ -3,7 +3,7 @@
 use std::ffi::OsStr;
 use std::io::Write;
 
-use pevghazo::{Number, Refusal, SaneSession, Session, envelope};
+use pevghazo::{SaneSession, Session, envelope};
 
 use super::messages::{again, kept, typed};
 use crate::arguments::Arguments;
@@ -33,7 +33,7 @@ pub fn sane(arguments: &Arguments, out: &mut dyn Write) -> Result<(), Failure> {
     check_standard()?;
     let nonce = input::nonce(arguments)?;
     let key = input::key(arguments)?;
-    let (session, tag, _) = SaneSession::start(&key, nonce.bytes()).map_err(not_started)?;
+    let (session, tag, _) = SaneSession::start(&key, nonce.bytes())?;
     let shown = StartTag::from(tag);
     // Compared in constant time.
     if expected.is_some_and(|expected| expected != shown) {
@@ -57,11 +57,6 @@ fn read_tag(text: &OsStr) -> Result<StartTag, Failure> {
 const NO_TAG: &str = "\
 The value of --expect is no tag. A tag of a start has 32 hexadecimal digits, and between its groups of four there may be spaces \
 and hyphens.";
-
-/// A refused start. What is too long there is the nonce.
-fn not_started(refusal: Refusal) -> Failure {
-    if refusal.number == Number::TooLong { Failure::LongNonce } else { refusal.into() }
-}
 
 /// The group that a session is started for, once the options were found to go together.
 fn checked_group<S: Mode>(arguments: &Arguments) -> Result<u32, Failure> {
