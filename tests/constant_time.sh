@@ -1,7 +1,7 @@
 #!/usr/bin/env bash
-# Runs tests/constant_time.c under valgrind, for lone sessions and for a group. It fails where a branch or an address depends on a secret,
-# but for the verdict on the tag, which is a single branch. Leaks planted in long messages only must be seen, too. Then the same for codes as
-# the Rust crate compares them (rust/pevghazo/examples/constant_time.rs).
+# Runs tests/constant_time.c under valgrind, for lone sessions, for a group and for sessions in SANE. It fails where a branch or an address depends
+# on a secret, but for the verdict on the tag, which is a single branch. Leaks planted in long messages only must be seen, too. Then the same
+# for what the Rust crate adds: how it compares codes, and its type of sessions in SANE (rust/pevghazo/examples/constant_time.rs).
 set -eu
 cd "$(dirname "$0")/.."
 lib=${PEVGHAZO_LIB_DIR:-target/staticlib}
@@ -21,15 +21,17 @@ followed() { # LOG PROGRAM WORDS ..
   valgrind --quiet --expensive-definedness-checks=yes --error-limit=no --num-callers=1 --log-file="$1" "${@:2}"
 }
 run() { followed "$1" "$out/constant_time" "${@:2}"; } # LOG WORDS ..
-# Leaks made on purpose in messages above a length.
-for above in 1024 16383; do
-  if run "$out/planted" lone $above >"$out/said" 2>&1; then fail "a leak in messages above $above bytes was not seen"; fi
-  grep -q 'wrap, .* bytes: a branch or an address depends on a secret' "$out/said" || {
-    cat "$out/said" >&2
-    fail "with a leak in messages above $above bytes another thing failed"
-  }
+# Leaks made on purpose in messages above a length: a branch while they are wrapped, a comparison with an early end while they are unwrapped.
+for who in lone sane; do
+  for leak in "wrap 1024" "wrap 16383" "unwrap early 1024" "unwrap early 16383"; do
+    if run "$out/planted" $who ${leak#* } >"$out/said" 2>&1; then fail "$who: a leak was not seen: $leak"; fi
+    grep -q ": ${leak%% *}, .* bytes: a branch or an address depends on a secret" "$out/said" || {
+      cat "$out/said" >&2
+      fail "$who: with a leak ($leak) another thing failed"
+    }
+  done
 done
-for who in lone group; do
+for who in lone group sane; do
   run "$out/$who" "$who" || {
     tail -n 3 "$out/$who" >&2
     fail "failed; all reports are in $out/$who, the last one is the one that it stopped at"
@@ -44,4 +46,4 @@ for who in lone group; do
   fi
 done
 cargo build --manifest-path rust/Cargo.toml --locked --offline --quiet --release --package pevghazo --example constant_time
-followed "$out/compared" rust/target/release/examples/constant_time || fail "comparing codes failed; all reports are in $out/compared"
+followed "$out/compared" rust/target/release/examples/constant_time || fail "the Rust crate failed; all reports are in $out/compared"

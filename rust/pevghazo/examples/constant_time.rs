@@ -1,12 +1,14 @@
-//! Constant time: does a branch or an address of comparing two codes depend on one of them?
+//! Constant time: does a branch or an address of comparing two codes depend on one of them? And does one depend on the key or
+//! the message where a session of either mode is started, wraps, is stored, loaded and dropped?
 //!
 //! `tests/constant_time.sh` runs this under valgrind's memcheck, which follows every bit that was never set and reports a branch
-//! or an address that depends on one. One of the codes is marked so here.
+//! or an address that depends on one. The secrets are marked so here. Unwrapping, whose verdict everybody may know, is looked at
+//! in `tests/constant_time.c` alone.
 
 use std::hint::black_box;
 use std::process::exit;
 
-use pevghazo::Code;
+use pevghazo::{Code, Plain, SaneSession, Session};
 
 /// The requests to valgrind, as `valgrind.h` and `memcheck.h` number them.
 mod request {
@@ -42,6 +44,11 @@ fn ask_of<T>(request: usize, value: &T) -> usize {
     ask(request, &raw const *value as usize, size_of::<T>())
 }
 
+/// How many reports there are.
+fn errors() -> usize {
+    ask(request::COUNT_ERRORS, 0, 0)
+}
+
 /// What is seen of a comparison.
 struct Seen {
     /// Its verdict.
@@ -54,7 +61,6 @@ struct Seen {
 
 /// Compares two codes, of which the first is the secret.
 fn compare(secret: Code, guess: Code, equal: fn(&Code, &Code) -> bool) -> Seen {
-    let errors = || ask(request::COUNT_ERRORS, 0, 0);
     let secret = black_box(secret);
     ask_of(request::MAKE_MEM_UNDEFINED, &secret);
     let before = errors();
@@ -71,9 +77,9 @@ fn early_end(one: &Code, other: &Code) -> bool {
     one.bytes().iter().zip(other.bytes()).all(|(one, other)| black_box(*one) == other)
 }
 
-fn check(holds: bool, what: &str) {
+fn check(holds: bool, doing: &str, what: &str) {
     if !holds {
-        eprintln!("constant time: comparing codes: {what}");
+        eprintln!("constant time: {doing}: {what}");
         exit(1);
     }
 }
@@ -83,6 +89,54 @@ fn main() {
         eprintln!("constant time: run tests/constant_time.sh, which runs this under valgrind");
         exit(2);
     }
+    codes();
+    sessions(
+        "a session in SANSE",
+        |key| Session::start(key).expect("a good key").0,
+        |session, plain| session.wrap(plain).expect("there is room").cryptogram,
+        |session| Session::from_bytes(&session.to_bytes()).expect("its own bytes"),
+    );
+    sessions(
+        "a session in SANE",
+        |key| SaneSession::start(key, b"41").expect("a good key").0,
+        |session, plain| session.wrap(plain).expect("there is room").cryptogram,
+        |session| SaneSession::from_bytes(&session.to_bytes()).expect("its own bytes"),
+    );
+    println!("constant time, comparing codes and the types of sessions: nothing seen");
+}
+
+/// Sessions of a type, from start to end, with key and message as secrets.
+fn sessions<S>(
+    doing: &str,
+    start: fn(&[u8]) -> S,
+    wrap: fn(&mut S, &Plain<'_>) -> Vec<u8>,
+    store_and_load: fn(S) -> S,
+) {
+    let (key, message) = (black_box([0x35_u8; 32]), black_box([0x36_u8; 100]));
+    ask_of(request::MAKE_MEM_UNDEFINED, &key);
+    ask_of(request::MAKE_MEM_UNDEFINED, &message);
+    let mut before = errors();
+    let mut session = start(&key);
+    for length in [0, 1, 48, 100] {
+        let cryptogram = wrap(&mut session, &Plain { metadata: b"size C", message: &message[..length] });
+        session = store_and_load(session);
+        check(errors() == before, doing, "a branch or an address depends on a secret");
+        let followed = ask(request::CHECK_MEM_IS_DEFINED, cryptogram.as_ptr() as usize, length) != 0;
+        check(
+            followed == (length > 0),
+            doing,
+            "the cryptogram does not depend on the secrets, so this test sees nothing",
+        );
+        // The question itself gives a report.
+        before = errors();
+    }
+    drop(session);
+    check(errors() == before, doing, "a branch or an address depends on a secret");
+}
+
+/// Comparing codes.
+fn codes() {
+    let doing = "comparing codes";
     let bytes = [0x5F, 0x0C, 0x91, 0xA4, 0x00, 0x2B, 0xE7, 0x38];
     for bit in 0..=64 {
         // The last guess is right.
@@ -91,11 +145,10 @@ fn main() {
             guess[bit / 8] ^= 1 << (bit % 8);
         }
         let seen = compare(bytes.into(), guess.into(), |one, other| one == other);
-        check(seen.equal == (bit == 64), "the verdict is not the expected one");
-        check(seen.reports == 0, "a branch or an address depends on a secret");
-        check(seen.followed, "the verdict does not depend on the secret, so this test sees nothing");
+        check(seen.equal == (bit == 64), doing, "the verdict is not the expected one");
+        check(seen.reports == 0, doing, "a branch or an address depends on a secret");
+        check(seen.followed, doing, "the verdict does not depend on the secret, so this test sees nothing");
         let seen = compare(bytes.into(), guess.into(), early_end);
-        check(seen.reports > 0, "an end at the first difference was not reported");
+        check(seen.reports > 0, doing, "an end at the first difference was not reported");
     }
-    println!("constant time, comparing codes: nothing seen");
 }

@@ -1,4 +1,4 @@
-//! Envelopes through the C library, beside the independent implementation.
+//! Envelopes through the C library, beside the independent implementation, with either letter and with others.
 
 mod common;
 
@@ -7,27 +7,31 @@ use pevghazo::raw::{self, Parts, Written};
 use pevghazo_reference::envelope;
 use pevghazo_reference::random::Random;
 
+/// What a refused reading gives, but for its number.
+const REFUSED: Parts = Parts { number: 0, letter: 0, group: 0, metadata: 0, cryptogram: 0, tag: 0, place: 0 };
+
 /// Reads on both sides, and gives the number.
 fn read(bytes: &[u8]) -> u32 {
     let given = raw::read_envelope(bytes);
     let expected = match envelope::read(bytes) {
         Ok(parts) => {
-            let tag = parts.place - 32;
+            let tag = parts.place - parts.tag.len();
             let cryptogram = tag - parts.cryptogram.len();
             let metadata = cryptogram - parts.metadata.len();
-            Parts { number: 0, group: parts.group, metadata, cryptogram, tag, place: parts.place }
+            let envelope::Parts { letter, group, place, .. } = parts;
+            Parts { number: 0, letter, group, metadata, cryptogram, tag, place }
         }
-        Err(number) => Parts { number: number.number().into(), group: 0, metadata: 0, cryptogram: 0, tag: 0, place: 0 },
+        Err(number) => Parts { number: number.number().into(), ..REFUSED },
     };
     assert_eq!(given, expected, "reading {:?}", String::from_utf8_lossy(&bytes[..bytes.len().min(40)]));
     given.number
 }
 
 /// Writes on both sides, and gives what the library gave.
-fn write(group: u32, metadata: &[u8], cryptogram: &[u8], tag: &[u8], out: &mut [u8]) -> Written {
+fn write(letter: u8, group: u32, metadata: &[u8], cryptogram: &[u8], tag: &[u8], out: &mut [u8]) -> Written {
     let mut out_too = out.to_vec();
-    let given = raw::write_envelope(group, metadata, cryptogram, tag, out);
-    let expected = match envelope::write(group, metadata, cryptogram, tag, &mut out_too) {
+    let given = raw::write_envelope(letter, group, metadata, cryptogram, tag, out);
+    let expected = match envelope::write(letter, group, metadata, cryptogram, tag, &mut out_too) {
         Ok(len) => Written { number: 0, len },
         Err(number) => Written { number: number.number().into(), len: 0 },
     };
@@ -36,43 +40,120 @@ fn write(group: u32, metadata: &[u8], cryptogram: &[u8], tag: &[u8], out: &mut [
     given
 }
 
+/// What was written, cut off anywhere and damaged in the header; `whole` bytes are the envelope's.
+fn cut_and_damaged(random: &mut Random, written: &[u8], whole: usize) {
+    let header = raw::read_envelope(written).metadata;
+    let cut = random.below(whole);
+    assert_eq!(read(&written[..cut]), if cut < header { 1 } else { 2 });
+    for _ in 0..8 {
+        let mut bad = written[..whole].to_vec();
+        bad[random.below(header)] = any_byte(random);
+        read(&bad);
+    }
+}
+
 #[test]
 fn written_and_read() {
-    let mut numbers = [0; 12];
+    let (mut numbers, mut letters) = ([0; 12], [0; 2]);
     cases("written_and_read", |random| {
+        let letter = if random.once_in(10) { any_byte(random) } else { random.pick(b"SN") };
         let group = if random.once_in(10) { random.pick(&[32, 99, u32::MAX]) } else { random.below(32) as u32 };
         let (metadata, cryptogram) = (text(random), text(random));
         let (a, c) = (maybe_long(random, &metadata, 20), maybe_long(random, &cryptogram, 20));
-        let tag = random.bytes(other_length(&mut random.clone(), 32, 12));
-        let whole = envelope::header_bytes(group, a.len(), c.len()).len() + a.len() + c.len() + tag.len();
+        // Now and then a tag of the other letter's length.
+        let usual = if (letter == b'N') != random.once_in(12) { 16 } else { 32 };
+        let tag = random.bytes(other_length(&mut random.clone(), usual, 12));
+        let whole = envelope::header_bytes(letter, group, a.len(), c.len()).len() + a.len() + c.len() + tag.len();
         let room = if random.once_in(2) { whole + random.below(60) } else { other_length(random, whole, 3) };
         let mut out = random.bytes(room);
-        let written = write(group, &a, &c, &tag, &mut out);
+        let written = write(letter, group, &a, &c, &tag, &mut out);
         numbers[written.number as usize] += 1;
         if written.number == 0 {
+            letters[usize::from(letter == b'N')] += 1;
             assert_eq!((written.len, read(&out)), (whole, 0));
             let parts = raw::read_envelope(&out);
-            assert_eq!((parts.group, parts.place), (group, whole));
+            assert_eq!((parts.letter, parts.group, parts.place), (letter, group, whole));
             assert!(out[parts.metadata..parts.cryptogram] == a && out[parts.cryptogram..parts.tag] == c);
             assert!(out[parts.tag..parts.place] == tag);
-            // Cut off anywhere, and damaged in the header.
-            let cut = random.below(whole);
-            assert_eq!(read(&out[..cut]), if cut < parts.metadata { 1 } else { 2 });
-            for _ in 0..8 {
-                let mut bad = out[..whole].to_vec();
-                bad[random.below(parts.metadata)] = any_byte(random);
-                read(&bad);
-            }
+            cut_and_damaged(random, &out, whole);
         }
     });
     if is_whole_run() {
-        assert!([0, 3, 6, 7, 8].iter().all(|number| numbers[*number] > 20), "{numbers:?}");
+        assert!([0, 1, 3, 6, 7, 8].iter().all(|number| numbers[*number] > 20), "{numbers:?}");
+        assert!(letters.iter().all(|letter| *letter > 1_000), "{letters:?}");
+    }
+}
+
+/// The first number met of 1 for the letter, 3, 6, 7 by the letter, and 8; or 0.
+fn number_of_writing(letter: u8, group: u32, longest: usize, tag: usize, fits: bool) -> u32 {
+    let tag_length = match letter {
+        b'S' => 32,
+        b'N' => 16,
+        _ => return 1,
+    };
+    match (group > 31, longest > 16_384, tag != tag_length, fits) {
+        (true, _, _, _) => 3,
+        (false, true, _, _) => 6,
+        (false, false, true, _) => 7,
+        (false, false, false, false) => 8,
+        (false, false, false, true) => 0,
+    }
+}
+
+#[test]
+fn writing_at_the_edges() {
+    let bytes = [7; 16_385];
+    let texts = [(20, 48), (16_385, 48), (20, 16_385)];
+    let tags = [0, 15, 16, 17, 31, 32, 33];
+    for letter in 0..=u8::MAX {
+        for (group, (a, c)) in [0, 31, 32, u32::MAX].into_iter().flat_map(|group| texts.map(|text| (group, text))) {
+            for (tag, spare) in tags.into_iter().flat_map(|tag| [-1, 0, 3].map(|spare| (tag, spare))) {
+                let whole = format!("?,{group},{a},{c},").len() + a + c + tag;
+                let number = number_of_writing(letter, group, a.max(c), tag, spare >= 0);
+                let len = if number == 0 { whole } else { 0 };
+                let mut out = vec![0xA5; whole.saturating_add_signed(spare)];
+                let written = write(letter, group, &bytes[..a], &bytes[..c], &bytes[..tag], &mut out);
+                assert_eq!(written, Written { number, len }, "{letter} {group} {a} {c} {tag} {spare}");
+                assert!(out[len..].iter().all(|byte| *byte == 0xA5));
+            }
+        }
+    }
+}
+
+/// One layout with each letter: `S,7,20,48,` needs 100 bytes after it, and `N,7,20,48,` 84. A tag of the other letter's
+/// length makes an envelope of S too short, and leaves 16 bytes after one of N.
+#[test]
+fn the_other_letters_tag_length() {
+    for (letter, tag) in [(b'S', 32), (b'N', 16)] {
+        for after in 0..=120 {
+            let mut bytes = [&[letter], &b",7,20,48,"[..]].concat();
+            bytes.extend(Random::new(after as u64).bytes(after));
+            let whole = after >= 68 + tag;
+            assert_eq!(read(&bytes), if whole { 0 } else { 2 }, "{letter}, {after} bytes");
+            let parts = raw::read_envelope(&bytes);
+            if whole {
+                let place = 10 + 68 + tag;
+                let expected = Parts { letter, group: 7, metadata: 10, cryptogram: 30, tag: 78, place, ..REFUSED };
+                assert_eq!(parts, expected, "{after} bytes");
+            } else {
+                assert_eq!(parts, Parts { number: 2, ..REFUSED }, "{after} bytes");
+            }
+        }
+    }
+}
+
+/// The letter alone is what makes a header: every byte in its place, with enough bytes after it for either tag.
+#[test]
+fn every_letter() {
+    for letter in 0..=u8::MAX {
+        let bytes = [&[letter], &b",7,20,48,"[..], &[7; 100]].concat();
+        assert_eq!(read(&bytes), if b"SN".contains(&letter) { 0 } else { 1 }, "{letter}");
     }
 }
 
 /// A byte, often one that a header may have or nearly so.
 fn any_byte(random: &mut Random) -> u8 {
-    if random.once_in(4) { random.bits() as u8 } else { random.pick(b"00112345689,,,S /:-+sN\0") }
+    if random.once_in(4) { random.bits() as u8 } else { random.pick(b"00112345689,,,SN /:-+snF\0") }
 }
 
 /// A number as a header may or may not have it.
@@ -117,8 +198,9 @@ fn any_header() {
         let length = random.below(70);
         let (a, m) = (random.below(20), random.below(20));
         let group = random.below(32);
-        let mut bytes = Vec::new();
-        bytes.extend(random.pick(&[&b"S,"[..], b"S,", b"S,", b"S,", b"S", b"s,", b"N,", b",", b"SS,", b"S;"]));
+        let (letter, tag) = random.pick(&[(b"S,", 32), (b"N,", 16)]);
+        let odd = [&b"S"[..], b"N", b"s,", b"n,", b"F,", b",", b"SS,", b"SN,", b"S;", b"N;"];
+        let mut bytes = if random.once_in(3) { random.pick(&odd).to_vec() } else { letter.to_vec() };
         for (usual, end) in [(group, b','), (a, b','), (m, b',')] {
             bytes.extend(any_number(random, usual).bytes());
             bytes.push(if random.once_in(30) { any_byte(random) } else { end });
@@ -131,7 +213,7 @@ fn any_header() {
         numbers[read(&bytes) as usize] += 1;
         // Exactly as many bytes as this header needs, and one less.
         bytes.truncate(header);
-        bytes.extend(random.bytes(a + m + 32));
+        bytes.extend(random.bytes(a + m + tag));
         numbers[read(&bytes) as usize] += 1;
         bytes.pop();
         numbers[read(&bytes) as usize] += 1;
@@ -149,9 +231,9 @@ fn any_header() {
 fn every_short_header() {
     // Every string of up to five bytes after the first comma, over the bytes that matter.
     let alphabet = b"S,019/:";
-    for length in 0..=5 {
+    for (length, letter) in (0..=5).flat_map(|length| [(length, b'S'), (length, b'N')]) {
         for number in 0..alphabet.len().pow(length) {
-            let mut bytes = b"S,".to_vec();
+            let mut bytes = vec![letter, b','];
             let mut n = number;
             for _ in 0..length {
                 bytes.push(alphabet[n % alphabet.len()]);
@@ -165,9 +247,12 @@ fn every_short_header() {
     }
     for group in 0..100 {
         for length in (0..200).chain(16_300..16_400).chain([99_999, 100_000]) {
-            let mut bytes = format!("S,{group},{length},0,").into_bytes();
-            bytes.resize(bytes.len() + 231, 7);
-            read(&bytes);
+            // Too few bytes from a length of 200 on, for either letter.
+            for (letter, after) in [('S', 231), ('N', 215)] {
+                let mut bytes = format!("{letter},{group},{length},0,").into_bytes();
+                bytes.resize(bytes.len() + after, 7);
+                read(&bytes);
+            }
         }
     }
 }

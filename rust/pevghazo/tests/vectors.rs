@@ -1,145 +1,199 @@
-//! The sessions and codes of the repository's vectors through the C library: each end as a lone session, and as a group's session
-//! in a table.
+//! The sessions and codes of the repository's vectors through the C library: each end of SANSE as a lone session, and as a
+//! group's session in a table; each end of SANE as a lone session.
 
+mod common;
 #[path = "../../reference/tests/common/mod.rs"]
 mod vectors;
 
 use std::collections::HashMap;
 
-use pevghazo::raw::{self, Answer, Day, GroupAnswer, Record};
+use common::Library;
+use pevghazo::raw::{self, Answer, Day, GroupAnswer, Record, SaneRecord};
+use pevghazo_reference::session::{Mode, Session};
 use vectors::{Record as Vector, records};
 
-/// One end, kept as a lone session and in a table.
-struct End {
-    key: Vec<u8>,
-    lone: Record,
+/// One end of a session, wherever its record stands.
+trait End {
+    /// The kind of record.
+    type Record: Library;
+
+    /// The record; whatever stands beside it is as it should be.
+    fn record(&self) -> &Self::Record;
+
+    /// Wraps.
+    fn wrap(&mut self, metadata: &[u8], message: &[u8], out: &mut [u8], tag: &mut [u8]) -> Answer;
+
+    /// Unwraps.
+    fn unwrap(&mut self, metadata: &[u8], cryptogram: &[u8], tag: &[u8], out: &mut [u8]) -> Answer;
+}
+
+/// A lone session.
+struct Lone<R>(R);
+
+impl<R: Library> End for Lone<R> {
+    type Record = R;
+
+    fn record(&self) -> &R {
+        &self.0
+    }
+
+    fn wrap(&mut self, metadata: &[u8], message: &[u8], out: &mut [u8], tag: &mut [u8]) -> Answer {
+        self.0.wrap(metadata, message, out, tag)
+    }
+
+    fn unwrap(&mut self, metadata: &[u8], cryptogram: &[u8], tag: &[u8], out: &mut [u8]) -> Answer {
+        self.0.unwrap(metadata, cryptogram, tag, out)
+    }
+}
+
+/// A group's session in a table, and the day.
+struct InTable {
     table: Vec<Record>,
     group: u32,
     day: Day,
 }
 
-impl End {
-    /// Starts both under this key.
-    fn start(session: usize, vector: &Vector) -> End {
-        let key = vector.bytes("key");
-        let mut end = End {
-            lone: Record::closed(),
-            table: (0..32).map(|_| Record::closed()).collect(),
-            group: session as u32 % 32,
-            day: raw::start_day(1_000_000),
-            key,
-        };
-        let answer = raw::start(&mut end.lone, &end.key);
-        let given = raw::open_group(&mut end.table, end.group, end.day, &end.key);
-        end.check(vector, answer, given, 0);
-        end
-    }
-
-    /// Number, count, day and record are those of the vector.
-    fn check(&mut self, vector: &Vector, answer: Answer, given: GroupAnswer, number: u32) {
-        let line = vector.line;
-        let count = vector.number("count") as u32;
-        assert_eq!(answer, Answer { number, count }, "line {line}");
-        let day = Day { spent: self.day.spent + count, ..self.day };
-        assert_eq!(given, GroupAnswer { number, count, day }, "line {line}");
+impl InTable {
+    /// Takes in the day, which has grown by the count.
+    fn take(&mut self, GroupAnswer { number, count, day }: GroupAnswer) -> Answer {
+        assert_eq!(day, Day { spent: self.day.spent + count, ..self.day });
         self.day = day;
-        for (place, record) in self.records() {
-            assert_eq!(usize::from(record.toggle), vector.number("e"), "{place}: e, line {line}");
-        }
-        self.check_history(vector);
-    }
-
-    /// The two records, with their places.
-    fn records(&self) -> [(&str, &Record); 2] {
-        [("lone", &self.lone), ("table", &self.table[self.group as usize])]
-    }
-
-    /// What the history has left behind is the vector's, and the other groups are closed.
-    fn check_history(&self, vector: &Vector) {
-        let line = vector.line;
-        for (place, record) in self.records() {
-            assert!(record.opened, "{place}, line {line}");
-            assert_eq!(record.index as usize, vector.number("index"), "{place}: index, line {line}");
-            assert_eq!(record.acc, vector.state("acc"), "{place}: acc, line {line}");
-            assert_eq!(record.mask, vector.state("mask"), "{place}: mask, line {line}");
-        }
-        let closed = self
-            .table
-            .iter()
-            .filter(|record| record.acc == [0; 12] && record.mask == [0; 12] && !record.opened)
-            .count();
-        assert_eq!(closed, 31, "the other groups, line {line}");
-    }
-
-    fn wrap(&mut self, vector: &Vector) {
-        let (metadata, message) = (vector.bytes("A"), vector.bytes("M"));
-        let mut out = [vec![0xA5; message.len() + 3], vec![0xA5; message.len() + 3]];
-        let mut tag = [[0; 32]; 2];
-        let answer = raw::wrap(&mut self.lone, &metadata, &message, &mut out[0], &mut tag[0]);
-        let given =
-            raw::wrap_group(&mut self.table, self.group, self.day, &metadata, &message, &mut out[1], &mut tag[1]);
-        self.check(vector, answer, given, 0);
-        for (out, tag) in out.iter().zip(tag) {
-            assert_eq!(out[..message.len()], vector.bytes("C"), "C, line {}", vector.line);
-            assert_eq!(out[message.len()..], [0xA5; 3], "line {}", vector.line);
-            assert_eq!(tag.as_slice(), vector.bytes("T"), "T, line {}", vector.line);
-        }
-    }
-
-    /// Unwraps, and gives whether it was accepted.
-    fn unwrap(&mut self, vector: &Vector) -> bool {
-        let (metadata, cryptogram, tag) = (vector.bytes("A"), vector.bytes("C"), vector.bytes("T"));
-        let accepted = match vector.text("result") {
-            "ok" => true,
-            "tag" => false,
-            result => panic!("line {}: what is {result}?", vector.line),
-        };
-        let message = if accepted { vector.bytes("M") } else { vec![0; cryptogram.len()] };
-        let mut out = [vec![0xA5; message.len() + 3], vec![0xA5; message.len() + 3]];
-        let answer = raw::unwrap(&mut self.lone, &metadata, &cryptogram, &tag, &mut out[0]);
-        let given = raw::unwrap_group(&mut self.table, self.group, self.day, &metadata, &cryptogram, &tag, &mut out[1]);
-        self.check(vector, answer, given, if accepted { 0 } else { 11 });
-        for out in out {
-            assert_eq!(out[..message.len()], message, "M, line {}", vector.line);
-            assert_eq!(out[message.len()..], [0xA5; 3], "line {}", vector.line);
-        }
-        accepted
+        Answer { number, count }
     }
 }
 
-/// What was played of the sessions: end a of each after its last record, and the wraps, the accepted unwraps and the refused
-/// ones.
-#[derive(Default)]
-struct Played {
-    ends: HashMap<usize, End>,
+impl End for InTable {
+    type Record = Record;
+
+    fn record(&self) -> &Record {
+        let closed = self.table.iter().filter(|record| record.reference() == Session::CLOSED).count();
+        assert_eq!((self.table.len(), closed), (32, 31), "the other groups");
+        &self.table[self.group as usize]
+    }
+
+    fn wrap(&mut self, metadata: &[u8], message: &[u8], out: &mut [u8], tag: &mut [u8]) -> Answer {
+        let given = raw::wrap_group(&mut self.table, self.group, self.day, metadata, message, out, tag);
+        self.take(given)
+    }
+
+    fn unwrap(&mut self, metadata: &[u8], cryptogram: &[u8], tag: &[u8], out: &mut [u8]) -> Answer {
+        let given = raw::unwrap_group(&mut self.table, self.group, self.day, metadata, cryptogram, tag, out);
+        self.take(given)
+    }
+}
+
+/// Starts a lone session.
+fn lone(vector: &Vector) -> (Lone<Record>, Answer) {
+    let mut record = Record::closed();
+    let answer = raw::start(&mut record, &vector.bytes("key"));
+    (Lone(record), answer)
+}
+
+/// Opens a group.
+fn in_table(vector: &Vector) -> (InTable, Answer) {
+    let table = (0..32).map(|_| Record::closed()).collect();
+    let mut end = InTable { table, group: vector.number("session") as u32 % 32, day: raw::start_day(1_000_000) };
+    let given = raw::open_group(&mut end.table, end.group, end.day, &vector.bytes("key"));
+    let answer = end.take(given);
+    (end, answer)
+}
+
+/// Starts a lone session of SANE.
+fn sane(vector: &Vector) -> (Lone<SaneRecord>, Answer) {
+    let (mut record, mut tag) = (SaneRecord::closed(), [0; 16]);
+    let answer = raw::sane_start(&mut record, &vector.bytes("key"), &vector.bytes("nonce"), &mut tag);
+    assert_eq!(tag[..], vector.bytes("T"), "T, line {}", vector.line);
+    (Lone(record), answer)
+}
+
+/// What stands in an output buffer behind the text, and must stay.
+const REST: [u8; 3] = [0xA5; 3];
+
+/// An output buffer for a text of this length, with some bytes more.
+fn buffer(length: usize) -> Vec<u8> {
+    vec![0xA5; length + REST.len()]
+}
+
+/// What the history has left behind is the vector's.
+fn check_history<E: End>(end: &E, vector: &Vector) {
+    let (record, line) = (end.record().reference(), vector.line);
+    assert!(record.open, "line {line}");
+    assert_eq!(record.index as usize, vector.number("index"), "index, line {line}");
+    assert_eq!(record.accumulator, vector.state("acc"), "acc, line {line}");
+    assert_eq!(record.mask, vector.state("mask"), "mask, line {line}");
+}
+
+/// Number, count and record are those of the vector.
+fn check<E: End>(end: &E, vector: &Vector, answer: Answer, number: u32) {
+    let (line, count) = (vector.line, vector.number("count") as u32);
+    assert_eq!(answer, Answer { number, count }, "line {line}");
+    assert_eq!(usize::from(end.record().reference().toggle), vector.number("e"), "e, line {line}");
+    check_history(end, vector);
+}
+
+/// Wraps.
+fn wrap<E: End>(end: &mut E, vector: &Vector) {
+    let (metadata, message) = (vector.bytes("A"), vector.bytes("M"));
+    let mut out = buffer(message.len());
+    let mut tag = vec![0; <E::Record as Library>::Mode::TAG];
+    let answer = end.wrap(&metadata, &message, &mut out, &mut tag);
+    check(end, vector, answer, 0);
+    assert_eq!(out, [&vector.bytes("C")[..], &REST].concat(), "C, line {}", vector.line);
+    assert_eq!(tag, vector.bytes("T"), "T, line {}", vector.line);
+}
+
+/// Unwraps, and gives whether it was accepted.
+fn unwrap<E: End>(end: &mut E, vector: &Vector) -> bool {
+    let (metadata, cryptogram, tag) = (vector.bytes("A"), vector.bytes("C"), vector.bytes("T"));
+    let (number, message) = match vector.text("result") {
+        "ok" => (0, vector.bytes("M")),
+        "tag" => (11, vec![0; cryptogram.len()]),
+        result => panic!("line {}: what is {result}?", vector.line),
+    };
+    let mut out = buffer(message.len());
+    let answer = end.unwrap(&metadata, &cryptogram, &tag, &mut out);
+    check(end, vector, answer, number);
+    assert_eq!(out, [&message[..], &REST].concat(), "M, line {}", vector.line);
+    number == 0
+}
+
+/// What was played of the sessions: end a of each after its last record, with its key, and the wraps, the accepted unwraps and
+/// the refused ones.
+struct Played<E> {
+    ends: HashMap<usize, (Vec<u8>, E)>,
     wraps: u32,
     accepted: u32,
     refused: u32,
 }
 
-/// Plays the sessions at both ends, with every field of every record checked.
-fn play() -> Played {
-    let mut played = Played::default();
+/// Plays the sessions of a file at both ends, with every field of every record checked.
+fn play<E: End>(file: &str, start: impl Fn(&Vector) -> (E, Answer)) -> Played<E> {
+    let mut played = Played { ends: HashMap::new(), wraps: 0, accepted: 0, refused: 0 };
     let mut end_b = None;
-    for vector in &records("sanse.txt") {
+    for vector in &records(file) {
         let session = vector.number("session");
         if vector.text("op") == "start" {
-            played.ends.insert(session, End::start(session, vector));
-            end_b = Some(End::start(session, vector));
+            let [end_a, other] = [(); 2].map(|()| {
+                let (end, answer) = start(vector);
+                check(&end, vector, answer, 0);
+                end
+            });
+            played.ends.insert(session, (vector.bytes("key"), end_a));
+            end_b = Some(other);
             continue;
         }
         let end = match vector.text("end") {
-            "a" => played.ends.get_mut(&session),
+            "a" => played.ends.get_mut(&session).map(|(_, end)| end),
             "b" => end_b.as_mut(),
             end => panic!("line {}: which end is {end}?", vector.line),
         };
         let end = end.expect("a session that was started");
         match vector.text("op") {
             "wrap" => {
-                end.wrap(vector);
+                wrap(end, vector);
                 played.wraps += 1;
             }
-            "unwrap" if end.unwrap(vector) => played.accepted += 1,
+            "unwrap" if unwrap(end, vector) => played.accepted += 1,
             "unwrap" => played.refused += 1,
             op => panic!("line {}: what is {op}?", vector.line),
         }
@@ -147,27 +201,50 @@ fn play() -> Played {
     played
 }
 
+/// A file's sessions, wraps, accepted unwraps and refused ones, counted by its fields.
+fn counted(file: &str) -> [usize; 4] {
+    let all = records(file);
+    let count = |name: &str, value: &str| all.iter().filter(|v| v.has(name) && v.text(name) == value).count();
+    [count("op", "start"), count("op", "wrap"), count("result", "ok"), count("result", "tag")]
+}
+
+impl<E> Played<E> {
+    /// All records of the file were played.
+    fn check(&self, file: &str) {
+        let played = [self.wraps, self.accepted, self.refused].map(|n| n as usize);
+        assert_eq!([&[self.ends.len()], &played[..]].concat(), counted(file));
+        assert!(counted(file).iter().all(|n| *n > 0));
+    }
+}
+
 #[test]
 fn sessions() {
-    let played = play();
-    assert!(played.wraps > 0 && played.accepted > 0 && played.refused > 0);
+    play("sanse.txt", lone).check("sanse.txt");
+    play("sanse.txt", in_table).check("sanse.txt");
+}
+
+#[test]
+fn sane_sessions() {
+    play("sane.txt", sane).check("sane.txt");
+}
+
+/// The codes of sessions that were played.
+fn check_codes<E: End<Record = Record>>(played: &Played<E>) {
+    for vector in &records("codes.txt") {
+        let line = vector.line;
+        let (key, end) = &played.ends[&vector.number("session")];
+        assert_eq!(*key, vector.bytes("key"), "key, line {line}");
+        check_history(end, vector);
+        let mut out = buffer(8);
+        let answer = raw::code(end.record(), vector.number("p") as u32, &mut out);
+        assert_eq!(answer, Answer { number: 0, count: vector.number("count") as u32 }, "line {line}");
+        assert_eq!(out, [&vector.bytes("code")[..], &REST].concat(), "code, line {line}");
+        check_history(end, vector);
+    }
 }
 
 #[test]
 fn codes() {
-    let ends = play().ends;
-    for vector in &records("codes.txt") {
-        let line = vector.line;
-        let end = &ends[&vector.number("session")];
-        assert_eq!(end.key, vector.bytes("key"), "key, line {line}");
-        end.check_history(vector);
-        let (packet, count) = (vector.number("p") as u32, vector.number("count") as u32);
-        for (place, record) in end.records() {
-            let mut out = [0xA5; 11];
-            assert_eq!(raw::code(record, packet, &mut out), Answer { number: 0, count }, "{place}, line {line}");
-            assert_eq!(out[..8], vector.bytes("code"), "{place}: code, line {line}");
-            assert_eq!(out[8..], [0xA5; 3], "{place}, line {line}");
-        }
-        end.check_history(vector);
-    }
+    check_codes(&play("sanse.txt", lone));
+    check_codes(&play("sanse.txt", in_table));
 }

@@ -1,7 +1,8 @@
 //! The envelope: the bytes in which a sealed message travels (document 01, "Envelope"; document 02 for the letter).
 //!
-//! `S,group,A length,M length,` in decimal, then the metadata, the cryptogram and the tag. The letter is that of the mode: S for
-//! SANSE, N for SANE; the tag's length goes by it. More bytes may follow, so several envelopes can stand one after the other.
+//! `S,group,A length,M length,` in decimal, then the metadata, the cryptogram and the tag. The letter is that of the mode: S
+//! for SANSE, N for SANE; the tag's length goes by it. More bytes may follow, so several envelopes can stand one after the
+//! other.
 
 use crate::limits::{LENGTH_MAX, SANE_TAG, TAG, check_lengths};
 use crate::refusal::Number;

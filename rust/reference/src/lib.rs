@@ -3,7 +3,8 @@
 //! Nothing that is delivered links this crate. It exists so that the proved code has something to be compared with that
 //! was written by reading the papers only:
 //!
-//! * the Xoodoo cookbook: the permutation (section 2), Xoofff (section 3), Xoofff-SANE (section 4) and Xoofff-SANSE (section 5);
+//! * the Xoodoo cookbook: the permutation (section 2), Xoofff (section 3), Xoofff-SANE (section 4) and Xoofff-SANSE
+//!   (section 5);
 //! * the Farfalle paper, section 3: the construction that makes a deck function from a permutation;
 //! * the scope document, number 01: limits, counts, what a refusal leaves behind, the envelope and the office's table;
 //! * document 02: the codes for packets; counts, limits and the envelope's letter of SANE.

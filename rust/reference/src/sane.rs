@@ -1,8 +1,8 @@
 //! Xoofff-SANE: start, wrap and unwrap of a session (Xoodoo cookbook, section 4; counts, limits and refusals of document 02).
 //!
-//! The tag has 16 bytes. A session starts with a *nonce*, the first string of its history, and with a tag. The keystream comes from
-//! the history **before** the message, behind the bytes that were its last tag, and the history gains the cryptogram: one pass over
-//! a message is enough, but no two sessions under one key may start with one nonce.
+//! The tag has 16 bytes. A session starts with a *nonce*, the first string of its history, and with a tag. The keystream comes
+//! from the history before the message, behind the bytes that were its last tag, and the history gains the cryptogram: one
+//! pass over a message is enough, but no two sessions under one key may start with one nonce.
 
 use crate::deck::{Deck, blocks};
 use crate::limits::{SANE_TAG, check_key, check_lengths};
@@ -92,9 +92,9 @@ impl Mode for Sane {
 }
 
 impl SaneSession {
-    /// Starts a session under a key with a nonce: its tag goes to `tag`. Gives the session and the count of permutations. Meets 4,
-    /// 6 for the nonce, and 7, with `tag` left as it was; a refused start gives a closed record, so a caller that lent one holds
-    /// [`SaneSession::CLOSED`](crate::session::Record::CLOSED) afterwards.
+    /// Starts a session under a key with a nonce: its tag goes to `tag`. Gives the session and the count of permutations.
+    /// Meets 4, 6 for the nonce, and 7, with `tag` left as it was; a refused start gives a closed record, so a caller that
+    /// lent one holds [`SaneSession::CLOSED`](crate::session::Record::CLOSED) afterwards.
     pub fn start(key: &[u8], nonce: &[u8], tag: &mut [u8]) -> Result<(SaneSession, u32), Number> {
         check_key(key)?;
         check_lengths(&[nonce.len()], tag.len(), SANE_TAG)?;

@@ -1,10 +1,10 @@
-//! The record of a session, which is carried along from call to call, and what all modes of sessions share (document 01, "SANSE",
-//! "Counts and limits" and "What stops a call, in checking order").
+//! The record of a session, which is carried along from call to call, and what all modes of sessions share (document 01,
+//! "SANSE", "Counts and limits" and "What stops a call, in checking order").
 //!
-//! A *session* is what two ends hold under one key. *Wrapping* turns *metadata*, which travels in the clear, and a *message* into
-//! a *cryptogram* of the message's length and a *tag*. *Unwrapping* turns them back, or refuses. Every tag covers all messages of
-//! the session so far, those of both directions. What a call puts in the history, and where tag and keystream come from, is the
-//! mode's: see [`crate::sanse`] and [`crate::sane`].
+//! A *session* is what two ends hold under one key. *Wrapping* turns *metadata*, which travels in the clear, and a *message*
+//! into a *cryptogram* of the message's length and a *tag*. *Unwrapping* turns them back, or refuses. Every tag covers all
+//! messages of the session so far, those of both directions. What a call puts in the history, and where tag and keystream
+//! come from, is the mode's: see [`crate::sanse`] and [`crate::sane`].
 
 use std::fmt;
 use std::marker::PhantomData;
@@ -22,7 +22,8 @@ pub type Session = Record<Sanse>;
 /// A session of SANE.
 pub type SaneSession = Record<Sane>;
 
-/// The record of a session in a mode. Its fields are open so that tests can make any record, also one that no calls leave behind.
+/// The record of a session in a mode. Its fields are open so that tests can make any record, also one that no calls leave
+/// behind.
 #[derive(Clone, Debug, PartialEq, Eq)]
 pub struct Record<M> {
     /// The accumulator of the history; the lane at x of plane y is element x + 4y.
@@ -47,8 +48,8 @@ pub trait Mode: Clone + fmt::Debug + Eq {
     /// The permutations of a call with metadata and message of these lengths.
     fn count(metadata: usize, message: usize) -> u32;
 
-    /// The steps of wrap from this history and toggle on. They fill `cryptogram`, which has the message's length, and `tag`, and
-    /// give the history that they leave.
+    /// The steps of wrap from this history and toggle on. They fill `cryptogram`, which has the message's length, and `tag`,
+    /// and give the history that they leave.
     fn wrap(
         history: Deck,
         toggle: bool,

@@ -1,5 +1,5 @@
-//! The repository's vectors of permutation, rolling and deck function: every field of every record but `outie` (Xoofffie), which
-//! this crate does not have.
+//! The repository's vectors of permutation, rolling and deck function: every field of every record but `outie` (Xoofffie),
+//! which this crate does not have.
 
 mod common;
 

@@ -49,8 +49,8 @@ fn clear_registers() {}
 #[cfg(test)]
 mod tests {
     use super::*;
-    use crate::raw::{Record, codes, session, table};
-    use crate::{CODE_LENGTH, GROUPS, KEY_MAX, PACKET_MAX, TAG_LENGTH, TEXT_MAX};
+    use crate::raw::{Record, SaneRecord, codes, sane, session, table};
+    use crate::{CODE_LENGTH, GROUPS, KEY_MAX, NONCE_MAX, PACKET_MAX, SANE_TAG_LENGTH, TAG_LENGTH, TEXT_MAX};
     use std::fs::File;
     use std::os::unix::fs::FileExt;
 
@@ -85,40 +85,63 @@ mod tests {
         bytes.len() - bytes.iter().position(|byte| *byte != PAINT).expect("the call takes some stack")
     }
 
-    /// The library's functions themselves, without the clearing, at their longest.
+    const N: usize = TEXT_MAX;
+
+    /// What the calls work on, at its longest.
+    struct Arguments {
+        key: [u8; KEY_MAX],
+        text: Vec<u8>,
+        out: Vec<u8>,
+        tag: [u8; TAG_LENGTH],
+        lone: Record,
+        table: Vec<Record>,
+        sane: SaneRecord,
+    }
+
+    impl Arguments {
+        fn new() -> Arguments {
+            Arguments {
+                key: [7; KEY_MAX],
+                text: vec![1; N],
+                out: vec![0; N],
+                tag: [0; TAG_LENGTH],
+                lone: Record::closed(),
+                table: (0..GROUPS).map(|_| Record::closed()).collect(),
+                sane: SaneRecord::closed(),
+            }
+        }
+
+        /// One of the library's functions itself, without the clearing, and its number. Each third call unwraps what was not
+        /// wrapped so.
+        fn call(&mut self, call: usize) -> u32 {
+            let day = table::start_day(u32::MAX);
+            let (k, t, s, a) = (self.key.as_ptr(), self.text.as_ptr(), &mut self.lone, self.table.as_mut_ptr());
+            let (out, tag, n) = (self.out.as_mut_ptr(), self.tag.as_mut_ptr(), &mut self.sane);
+            // SAFETY: pointers and lengths are those of the fields.
+            unsafe {
+                match call {
+                    0 => session::pevghazo_start(s, k, KEY_MAX).number,
+                    1 => session::pevghazo_wrap(s, t, N, t, N, out, N, tag, TAG_LENGTH).number,
+                    2 => session::pevghazo_unwrap(s, t, N, t, N, tag, TAG_LENGTH, out, N).number,
+                    3 => table::pevghazo_open_group(a, GROUPS, 7, day, k, KEY_MAX).number,
+                    4 => table::pevghazo_wrap_group(a, GROUPS, 7, day, t, N, t, N, out, N, tag, TAG_LENGTH).number,
+                    5 => table::pevghazo_unwrap_group(a, GROUPS, 7, day, t, N, t, N, tag, TAG_LENGTH, out, N).number,
+                    6 => sane::pevghazo_sane_start(n, k, KEY_MAX, t, NONCE_MAX, tag, SANE_TAG_LENGTH).number,
+                    7 => sane::pevghazo_sane_wrap(n, t, N, t, N, out, N, tag, SANE_TAG_LENGTH).number,
+                    8 => sane::pevghazo_sane_unwrap(n, t, N, t, N, tag, SANE_TAG_LENGTH, out, N).number,
+                    _ => codes::pevghazo_code(s, PACKET_MAX, out, CODE_LENGTH).number,
+                }
+            }
+        }
+    }
+
     #[test]
     fn the_deepest_call_is_covered() {
-        let (key, text) = ([7_u8; KEY_MAX], vec![1_u8; TEXT_MAX]);
-        let (mut out, mut tag) = (vec![0_u8; TEXT_MAX], [0_u8; TAG_LENGTH]);
-        let mut lone = Record::closed();
-        let mut all: Vec<Record> = (0..GROUPS).map(|_| Record::closed()).collect();
-        let day = table::start_day(u32::MAX);
+        let mut arguments = Arguments::new();
         let mut deepest = 0;
         // The first turn may look up functions of the C library.
-        for call in (0..7).chain(0..7) {
-            let depth = depth(&mut || {
-                let (k, t, n) = (key.as_ptr(), text.as_ptr(), TEXT_MAX);
-                let (out, tag) = (out.as_mut_ptr(), tag.as_mut_ptr());
-                let all = all.as_mut_ptr();
-                // SAFETY: pointers and lengths are those of the slices and arrays above.
-                let number = unsafe {
-                    match call {
-                        0 => session::pevghazo_start(&mut lone, k, KEY_MAX).number,
-                        1 => session::pevghazo_wrap(&mut lone, t, n, t, n, out, n, tag, TAG_LENGTH).number,
-                        2 => session::pevghazo_unwrap(&mut lone, t, n, t, n, tag, TAG_LENGTH, out, n).number,
-                        3 => table::pevghazo_open_group(all, GROUPS, 7, day, k, KEY_MAX).number,
-                        4 => {
-                            table::pevghazo_wrap_group(all, GROUPS, 7, day, t, n, t, n, out, n, tag, TAG_LENGTH).number
-                        }
-                        5 => {
-                            table::pevghazo_unwrap_group(all, GROUPS, 7, day, t, n, t, n, tag, TAG_LENGTH, out, n)
-                                .number
-                        }
-                        _ => codes::pevghazo_code(&lone, PACKET_MAX, out, CODE_LENGTH).number,
-                    }
-                };
-                assert_eq!(number, if call % 3 == 2 { 11 } else { 0 });
-            });
+        for call in (0..10).chain(0..10) {
+            let depth = depth(&mut || assert_eq!(arguments.call(call), if call % 3 == 2 { 11 } else { 0 }));
             println!("call {call}: {depth} bytes of stack");
             deepest = deepest.max(depth);
         }

@@ -2,12 +2,13 @@
 //!
 //! Each test runs `PEVGHAZO_CASES` cases, 10,000 by default, each from a seed of its own. A failure names the seed, and
 //! `PEVGHAZO_SEED` runs that case alone.
-#![allow(dead_code)]
+#![allow(dead_code, unused_imports)]
 
-use pevghazo::raw::{self, Answer, Record};
+mod both;
+pub mod play;
+
+pub use both::{Both, BothOf, Library, SaneBoth, answer_of, any_session, copy, record_of, same};
 use pevghazo_reference::random::Random;
-use pevghazo_reference::refusal::Refusal;
-use pevghazo_reference::session::Session;
 
 /// The lengths at which something changes.
 pub const EDGES: [usize; 10] = [0, 1, 47, 48, 49, 95, 96, 97, 16_383, 16_384];
@@ -117,132 +118,6 @@ pub fn damaged(random: &mut Random, bytes: &[u8]) -> Vec<u8> {
     bad
 }
 
-/// A second record with the same content. Only tests do this.
-pub fn copy(record: &Record) -> Record {
-    Record { acc: record.acc, mask: record.mask, index: record.index, toggle: record.toggle, opened: record.opened }
-}
-
-/// Whether two records have the same content. Only tests compare them.
-pub fn same(a: &Record, b: &Record) -> bool {
-    (a.acc, a.mask, a.index, a.toggle, a.opened) == (b.acc, b.mask, b.index, b.toggle, b.opened)
-}
-
-/// The library's record for one of the reference.
-pub fn record_of(session: &Session) -> Record {
-    Record {
-        acc: session.accumulator,
-        mask: session.mask,
-        index: session.index,
-        toggle: session.toggle,
-        opened: session.open,
-    }
-}
-
-/// A reference's answer as the library gives it.
-pub fn answer_of(answer: Result<u32, Refusal>) -> Answer {
-    match answer {
-        Ok(count) => Answer { number: 0, count },
-        Err(refusal) => Answer { number: refusal.number.number().into(), count: refusal.count },
-    }
-}
-
-/// A record with any numbers, also ones that no calls leave behind.
-pub fn any_session(random: &mut Random) -> Session {
-    let index = match random.below(4) {
-        0 => random.bits() as u32,
-        1 => 1_048_576 - random.below(800) as u32,
-        2 => 1_048_577 + random.below(3) as u32,
-        _ => random.below(1_048_577) as u32,
-    };
-    Session {
-        accumulator: random.state(),
-        mask: random.state(),
-        index,
-        toggle: random.once_in(2),
-        open: !random.once_in(6),
-    }
-}
-
-/// A session held twice: by the library, and by the reference. Each call is made on both with buffers of the same content,
-/// and answers, whole buffers and records must be the same.
-pub struct Both {
-    pub library: Record,
-    pub reference: Session,
-}
-
-impl Both {
-    /// The same record on both sides.
-    pub fn of(reference: Session) -> Both {
-        Both { library: record_of(&reference), reference }
-    }
-
-    /// Starts, over a record with any numbers.
-    pub fn start(random: &mut Random, key: &[u8]) -> (Both, Answer) {
-        let mut library = record_of(&any_session(random));
-        let given = raw::start(&mut library, key);
-        let (reference, answer) = match Session::start(key) {
-            Ok(session) => (session, Ok(Session::START_COUNT)),
-            Err(number) => (Session::CLOSED, Err(number.into())),
-        };
-        assert_eq!(given, answer_of(answer));
-        let both = Both { library, reference };
-        both.check();
-        (both, given)
-    }
-
-    /// Both sides have one record.
-    pub fn check(&self) {
-        let (library, reference) = (&self.library, &self.reference);
-        assert_eq!(library.acc, reference.accumulator, "accumulator");
-        assert_eq!(library.mask, reference.mask, "mask");
-        assert_eq!(
-            (library.index, library.toggle, library.opened),
-            (reference.index, reference.toggle, reference.open),
-            "index, toggle, open"
-        );
-    }
-
-    /// Wraps into these buffers.
-    pub fn wrap(&mut self, metadata: &[u8], message: &[u8], out: &mut [u8], tag: &mut [u8]) -> Answer {
-        let (mut out_too, mut tag_too) = (out.to_vec(), tag.to_vec());
-        let given = raw::wrap(&mut self.library, metadata, message, out, tag);
-        let answer = self.reference.wrap(metadata, message, &mut out_too, &mut tag_too);
-        assert_eq!(given, answer_of(answer), "wrap");
-        assert!(out == out_too, "wrap: the output buffers differ");
-        assert!(tag == tag_too, "wrap: the tag buffers differ");
-        self.check();
-        given
-    }
-
-    /// Unwraps into this buffer.
-    pub fn unwrap(&mut self, metadata: &[u8], cryptogram: &[u8], tag: &[u8], out: &mut [u8]) -> Answer {
-        let mut out_too = out.to_vec();
-        let given = raw::unwrap(&mut self.library, metadata, cryptogram, tag, out);
-        let answer = self.reference.unwrap(metadata, cryptogram, tag, &mut out_too);
-        assert_eq!(given, answer_of(answer), "unwrap");
-        assert!(out == out_too, "unwrap: the output buffers differ");
-        self.check();
-        given
-    }
-
-    /// Asks for a packet's code, into this buffer.
-    pub fn code(&self, packet: u32, out: &mut [u8]) -> Answer {
-        let mut out_too = out.to_vec();
-        let given = raw::code(&self.library, packet, out);
-        let answer = self.reference.code(packet, &mut out_too);
-        assert_eq!(given, answer_of(answer), "code");
-        assert!(out == out_too, "code: the buffers differ");
-        self.check();
-        given
-    }
-
-    /// Asks for the code of some packet, now and then into a buffer that is too short.
-    pub fn any_code(&self, random: &mut Random) -> Answer {
-        let (packet, room) = (packet(random), other_length(random, 8, 4));
-        self.code(packet, &mut random.bytes(room))
-    }
-}
-
 /// What travels, with the message that it should give.
 #[derive(Clone, Debug, PartialEq, Eq)]
 pub struct Arrival {
@@ -265,7 +140,7 @@ impl Arrival {
             0 | 1 => bad.tag = damaged(random, &self.tag),
             2 | 3 => bad.cryptogram = damaged(random, &self.cryptogram),
             4 | 5 => bad.metadata = damaged(random, &self.metadata),
-            6 => bad.tag = random.bytes(32),
+            6 => bad.tag = random.bytes(self.tag.len()),
             7 => drop(bad.cryptogram.pop()),
             8 => bad.cryptogram.insert(0, 0),
             9 => drop(bad.metadata.pop()),

@@ -1,0 +1,214 @@
+//! Sessions that are held twice, by the library and by the reference, in either mode.
+
+use std::marker::PhantomData;
+
+use pevghazo::raw::{self, Answer, Record, SaneRecord};
+use pevghazo_reference::random::Random;
+use pevghazo_reference::refusal::Refusal;
+use pevghazo_reference::sane::Sane;
+use pevghazo_reference::sanse::Sanse;
+use pevghazo_reference::session::{Mode, Record as Reference, SaneSession, Session};
+
+use super::{other_length, packet};
+
+/// A record of the C library, with the calls of its mode.
+pub trait Library: Sized {
+    /// The mode in the reference.
+    type Mode: Mode;
+
+    /// The record with the content of one of the reference.
+    fn of(reference: &Reference<Self::Mode>) -> Self;
+
+    /// The reference's record with the content of this one. Only tests look at it.
+    fn reference(&self) -> Reference<Self::Mode>;
+
+    /// Wraps.
+    fn wrap(&mut self, metadata: &[u8], message: &[u8], out: &mut [u8], tag: &mut [u8]) -> Answer;
+
+    /// Unwraps.
+    fn unwrap(&mut self, metadata: &[u8], cryptogram: &[u8], tag: &[u8], out: &mut [u8]) -> Answer;
+}
+
+/// The two kinds of records have the same fields.
+macro_rules! library {
+    ($record:ident, $mode:ty, $wrap:path, $unwrap:path) => {
+        impl Library for $record {
+            type Mode = $mode;
+
+            fn of(reference: &Reference<$mode>) -> $record {
+                $record {
+                    acc: reference.accumulator,
+                    mask: reference.mask,
+                    index: reference.index,
+                    toggle: reference.toggle,
+                    opened: reference.open,
+                }
+            }
+
+            fn reference(&self) -> Reference<$mode> {
+                Reference {
+                    accumulator: self.acc,
+                    mask: self.mask,
+                    index: self.index,
+                    toggle: self.toggle,
+                    open: self.opened,
+                    mode: PhantomData,
+                }
+            }
+
+            fn wrap(&mut self, metadata: &[u8], message: &[u8], out: &mut [u8], tag: &mut [u8]) -> Answer {
+                $wrap(self, metadata, message, out, tag)
+            }
+
+            fn unwrap(&mut self, metadata: &[u8], cryptogram: &[u8], tag: &[u8], out: &mut [u8]) -> Answer {
+                $unwrap(self, metadata, cryptogram, tag, out)
+            }
+        }
+    };
+}
+
+library!(Record, Sanse, raw::wrap, raw::unwrap);
+library!(SaneRecord, Sane, raw::sane_wrap, raw::sane_unwrap);
+
+/// A second record with the same content. Only tests do this.
+pub fn copy<R: Library>(record: &R) -> R {
+    R::of(&record.reference())
+}
+
+/// Whether two records have the same content. Only tests compare them.
+pub fn same<R: Library>(a: &R, b: &R) -> bool {
+    a.reference() == b.reference()
+}
+
+/// The library's record for one of the reference.
+pub fn record_of<R: Library>(session: &Reference<R::Mode>) -> R {
+    R::of(session)
+}
+
+/// A reference's answer as the library gives it.
+pub fn answer_of(answer: Result<u32, Refusal>) -> Answer {
+    match answer {
+        Ok(count) => Answer { number: 0, count },
+        Err(refusal) => Answer { number: refusal.number.number().into(), count: refusal.count },
+    }
+}
+
+/// A record with any numbers, also ones that no calls leave behind.
+pub fn any_session<M>(random: &mut Random) -> Reference<M> {
+    let index = match random.below(4) {
+        0 => random.bits() as u32,
+        1 => 1_048_576 - random.below(800) as u32,
+        2 => 1_048_577 + random.below(3) as u32,
+        _ => random.below(1_048_577) as u32,
+    };
+    Reference {
+        accumulator: random.state(),
+        mask: random.state(),
+        index,
+        toggle: random.once_in(2),
+        open: !random.once_in(6),
+        mode: PhantomData,
+    }
+}
+
+/// A session held twice: by the library, and by the reference. Each call is made on both with buffers of the same content,
+/// and answers, whole buffers and records must be the same.
+pub struct BothOf<R: Library> {
+    pub library: R,
+    pub reference: Reference<R::Mode>,
+}
+
+/// A session of SANSE, held twice.
+pub type Both = BothOf<Record>;
+
+/// A session of SANE, held twice.
+pub type SaneBoth = BothOf<SaneRecord>;
+
+impl<R: Library> BothOf<R> {
+    /// The same record on both sides.
+    pub fn of(reference: Reference<R::Mode>) -> BothOf<R> {
+        BothOf { library: R::of(&reference), reference }
+    }
+
+    /// Both sides have one record.
+    pub fn check(&self) {
+        let (library, reference) = (self.library.reference(), &self.reference);
+        assert_eq!(library.accumulator, reference.accumulator, "accumulator");
+        assert_eq!(library.mask, reference.mask, "mask");
+        assert_eq!(library, *reference, "index, toggle, open");
+    }
+
+    /// Wraps into these buffers.
+    pub fn wrap(&mut self, metadata: &[u8], message: &[u8], out: &mut [u8], tag: &mut [u8]) -> Answer {
+        let (mut out_too, mut tag_too) = (out.to_vec(), tag.to_vec());
+        let given = self.library.wrap(metadata, message, out, tag);
+        let answer = self.reference.wrap(metadata, message, &mut out_too, &mut tag_too);
+        assert_eq!(given, answer_of(answer), "wrap");
+        assert!(out == out_too, "wrap: the output buffers differ");
+        assert!(tag == tag_too, "wrap: the tag buffers differ");
+        self.check();
+        given
+    }
+
+    /// Unwraps into this buffer.
+    pub fn unwrap(&mut self, metadata: &[u8], cryptogram: &[u8], tag: &[u8], out: &mut [u8]) -> Answer {
+        let mut out_too = out.to_vec();
+        let given = self.library.unwrap(metadata, cryptogram, tag, out);
+        let answer = self.reference.unwrap(metadata, cryptogram, tag, &mut out_too);
+        assert_eq!(given, answer_of(answer), "unwrap");
+        assert!(out == out_too, "unwrap: the output buffers differ");
+        self.check();
+        given
+    }
+}
+
+impl Both {
+    /// Starts, over a record with any numbers.
+    pub fn start(random: &mut Random, key: &[u8]) -> (Both, Answer) {
+        let mut library = record_of(&any_session(random));
+        let given = raw::start(&mut library, key);
+        let (reference, answer) = match Session::start(key) {
+            Ok(session) => (session, Ok(Session::START_COUNT)),
+            Err(number) => (Session::CLOSED, Err(number.into())),
+        };
+        assert_eq!(given, answer_of(answer));
+        let both = Both { library, reference };
+        both.check();
+        (both, given)
+    }
+
+    /// Asks for a packet's code, into this buffer.
+    pub fn code(&self, packet: u32, out: &mut [u8]) -> Answer {
+        let mut out_too = out.to_vec();
+        let given = raw::code(&self.library, packet, out);
+        let answer = self.reference.code(packet, &mut out_too);
+        assert_eq!(given, answer_of(answer), "code");
+        assert!(out == out_too, "code: the buffers differ");
+        self.check();
+        given
+    }
+
+    /// Asks for the code of some packet, now and then into a buffer that is too short.
+    pub fn any_code(&self, random: &mut Random) -> Answer {
+        let (packet, room) = (packet(random), other_length(random, 8, 4));
+        self.code(packet, &mut random.bytes(room))
+    }
+}
+
+impl SaneBoth {
+    /// Starts, over a record with any numbers, with the tag into this buffer.
+    pub fn start(random: &mut Random, key: &[u8], nonce: &[u8], tag: &mut [u8]) -> (SaneBoth, Answer) {
+        let mut tag_too = tag.to_vec();
+        let mut library = record_of(&any_session(random));
+        let given = raw::sane_start(&mut library, key, nonce, tag);
+        let (reference, answer) = match SaneSession::start(key, nonce, &mut tag_too) {
+            Ok((session, count)) => (session, Ok(count)),
+            Err(number) => (SaneSession::CLOSED, Err(number.into())),
+        };
+        assert_eq!(given, answer_of(answer));
+        assert!(tag == tag_too, "start: the tag buffers differ");
+        let both = SaneBoth { library, reference };
+        both.check();
+        (both, given)
+    }
+}

@@ -1,0 +1,236 @@
+//! Calls on sessions that are held twice, in either mode: messages between two ends, any record, and indexes near the limit.
+
+use pevghazo_reference::limits::INDEX_MAX;
+use pevghazo_reference::random::Random;
+use pevghazo_reference::session::{Mode, Record as Reference, growth};
+
+use super::{Arrival, BothOf, EDGES, Library, answer_of, any_session, copy, maybe_long, other_length, same, text};
+
+/// The bytes of a tag.
+fn tag_length<R: Library>() -> usize {
+    R::Mode::TAG
+}
+
+/// The count of a call.
+fn count<R: Library>(metadata: &[u8], message: &[u8]) -> u32 {
+    R::Mode::count(metadata.len(), message.len())
+}
+
+/// What happened: the answers of wraps and of unwraps that may be accepted, by number, and the forged arrivals.
+#[derive(Default)]
+pub struct Tally {
+    pub numbers: [u64; 12],
+    pub forged: u64,
+}
+
+/// Seals a random message at an end. On the way there may be calls that are refused; which of them are is told by the tally.
+pub fn seal<R: Library>(random: &mut Random, end: &mut BothOf<R>, tally: &mut Tally) -> Arrival {
+    let (metadata, message) = (text(random), text(random));
+    loop {
+        let (a, m) = (maybe_long(random, &metadata, 30), maybe_long(random, &message, 30));
+        let room = if random.once_in(3) { m.len() + random.below(100) } else { other_length(random, m.len(), 5) };
+        let mut out = random.bytes(room);
+        let tag_length = other_length(random, tag_length::<R>(), 10);
+        let mut tag = random.bytes(tag_length);
+        let answer = end.wrap(&a, &m, &mut out, &mut tag);
+        tally.numbers[answer.number as usize] += 1;
+        if answer.number == 0 {
+            assert_eq!(answer.count, count::<R>(&a, &m));
+            out.truncate(message.len());
+            return Arrival { metadata, cryptogram: out, tag, message };
+        }
+    }
+}
+
+/// Hands an arrival to an end that must refuse it.
+pub fn refuse<R: Library>(random: &mut Random, end: &mut BothOf<R>, forged: &Arrival, tally: &mut Tally) {
+    let room = forged.cryptogram.len() + random.below(50);
+    let before = random.bytes(room);
+    let mut out = before.clone();
+    let record = copy(&end.library);
+    let answer = end.unwrap(&forged.metadata, &forged.cryptogram, &forged.tag, &mut out);
+    assert_eq!(answer.number, 11, "a forged arrival was not refused as one");
+    assert_eq!(answer.count, count::<R>(&forged.metadata, &forged.cryptogram));
+    assert!(same(&end.library, &record), "a forged arrival has altered the session");
+    let (zeros, rest) = out.split_at(forged.cryptogram.len());
+    assert!(zeros.iter().all(|byte| *byte == 0) && *rest == before[zeros.len()..], "a forged arrival's buffer");
+    tally.forged += 1;
+}
+
+/// Hands an arrival over with lengths that are refused now and then, until it is accepted.
+pub fn accept<R: Library>(random: &mut Random, end: &mut BothOf<R>, arrival: &Arrival, tally: &mut Tally) {
+    loop {
+        let a = maybe_long(random, &arrival.metadata, 30);
+        let c = maybe_long(random, &arrival.cryptogram, 30);
+        let mut tag = arrival.tag.clone();
+        tag.resize(other_length(random, tag_length::<R>(), 10), 0);
+        let room = if random.once_in(3) { c.len() + random.below(100) } else { other_length(random, c.len(), 5) };
+        let mut out = random.bytes(room);
+        let answer = end.unwrap(&a, &c, &tag, &mut out);
+        tally.numbers[answer.number as usize] += 1;
+        if answer.number == 0 {
+            assert_eq!((&a, &c), (&arrival.metadata, &arrival.cryptogram));
+            assert_eq!(out[..c.len()], arrival.message);
+            return;
+        }
+        assert_ne!(answer.number, 11);
+    }
+}
+
+/// Two ends of one session, a session that is not theirs, and what has travelled between the ends so far.
+pub struct Ends<R: Library> {
+    pub ends: [BothOf<R>; 2],
+    pub stranger: BothOf<R>,
+    pub earlier: Vec<Arrival>,
+}
+
+impl<R: Library> Ends<R> {
+    /// Before any message.
+    pub fn of(ends: [BothOf<R>; 2], stranger: BothOf<R>) -> Ends<R> {
+        assert!(same(&ends[0].library, &ends[1].library), "the ends' records differ");
+        Ends { ends, stranger, earlier: Vec::new() }
+    }
+
+    /// What the other end must refuse in place of an arrival: damaged on the way, repeated, or meant for another session.
+    fn forged(&mut self, random: &mut Random, arrival: &Arrival, tally: &mut Tally) -> Vec<Arrival> {
+        let mut wrong: Vec<Arrival> = (0..1 + random.below(3)).map(|_| arrival.damaged(random)).collect();
+        if !self.earlier.is_empty() {
+            wrong.push(self.earlier[random.below(self.earlier.len())].clone());
+        }
+        if random.once_in(3) {
+            wrong.push(seal(random, &mut self.stranger, tally));
+        }
+        wrong.retain(|bad| !bad.travels_as(arrival));
+        wrong
+    }
+
+    /// One message from an end to the other, with forged arrivals before it and the message itself again after it. `between` is
+    /// called before, on the way and after.
+    pub fn message(
+        &mut self,
+        random: &mut Random,
+        tally: &mut Tally,
+        mut between: impl FnMut(&mut Random, &[BothOf<R>; 2]),
+    ) {
+        between(random, &self.ends);
+        let from = random.below(2);
+        let arrival = seal(random, &mut self.ends[from], tally);
+        between(random, &self.ends);
+        for bad in self.forged(random, &arrival, tally) {
+            refuse(random, &mut self.ends[1 - from], &bad, tally);
+        }
+        refuse(random, &mut self.ends[from], &arrival, tally);
+        between(random, &self.ends);
+        accept(random, &mut self.ends[1 - from], &arrival, tally);
+        assert!(same(&self.ends[0].library, &self.ends[1].library), "the ends' records differ");
+        for end in &mut self.ends {
+            refuse(random, end, &arrival, tally);
+        }
+        self.earlier.push(arrival);
+    }
+
+    /// A message that is lost: nothing after it is accepted.
+    pub fn lost(&mut self, random: &mut Random, tally: &mut Tally) {
+        let from = random.below(2);
+        seal(random, &mut self.ends[from], tally);
+        let next = seal(random, &mut self.ends[from], tally);
+        refuse(random, &mut self.ends[1 - from], &next, tally);
+        let back = seal(random, &mut self.ends[1 - from], tally);
+        refuse(random, &mut self.ends[from], &back, tally);
+    }
+}
+
+/// Messages with metadata and text of all pairs of edges, from this session on.
+pub fn every_pair_of_edges<R: Library>(random: &mut Random, mut both: BothOf<R>) {
+    for a in EDGES {
+        for m in EDGES {
+            for room in [m, m + 1] {
+                let (metadata, message) = (random.bytes(a), random.bytes(m));
+                let (mut out, mut tag) = (random.bytes(room), random.bytes(tag_length::<R>()));
+                let mut other = BothOf::<R>::of(both.reference.clone());
+                let accepted = answer_of(Ok(R::Mode::count(a, m)));
+                assert_eq!(both.wrap(&metadata, &message, &mut out, &mut tag), accepted);
+                let mut back = random.bytes(room);
+                let answer = other.unwrap(&metadata, &out[..m], &tag, &mut back);
+                assert_eq!((answer, &back[..m]), (accepted, &message[..]));
+                assert!(same(&both.library, &other.library));
+            }
+        }
+    }
+}
+
+/// One call on a record with any numbers. Gives its number.
+pub fn call_on_any_record<R: Library>(random: &mut Random) -> u32 {
+    let session: Reference<R::Mode> = any_session(random);
+    let (metadata, message) = (text(random), text(random));
+    let (a, m) = (maybe_long(random, &metadata, 20), maybe_long(random, &message, 20));
+    let room = m.len() + random.below(60);
+    let mut out = vec![0; other_length(random, room, 12)];
+    let tag_length = other_length(random, tag_length::<R>(), 12);
+    let mut tag = random.bytes(tag_length);
+    if random.once_in(2) {
+        return BothOf::<R>::of(session).wrap(&a, &m, &mut out, &mut tag).number;
+    }
+    // What a session with these lanes would seal, handed over as it is or damaged.
+    let mut sealed = Reference { index: 0, open: true, ..session.clone() };
+    let mut cryptogram = vec![0; message.len()];
+    let mut whole = vec![0; R::Mode::TAG];
+    sealed.wrap(&metadata, &message, &mut cryptogram, &mut whole).unwrap();
+    if tag.len() == whole.len() {
+        tag = whole;
+    }
+    let arrival = Arrival { metadata, cryptogram, tag, message };
+    let bad = if random.once_in(4) { arrival.damaged(random) } else { arrival.clone() };
+    let c = if m.len() > 16_384 { &m } else { &bad.cryptogram };
+    let answer = BothOf::<R>::of(session).unwrap(&bad.metadata, c, &bad.tag, &mut out);
+    assert!(answer.number != 0 || bad.travels_as(&arrival));
+    answer.number
+}
+
+/// A call that leaves an index close to the limit, or would leave one above it, at both ends.
+pub fn call_near_the_limit<R: Library>(random: &mut Random) {
+    let (metadata, message) = (text(random), text(random));
+    let full = INDEX_MAX - growth(metadata.len(), message.len());
+    let index = match random.below(6) {
+        0 => full + 1,
+        1 => full + random.below(5) as u32,
+        2 => full - random.below(5) as u32,
+        3 => u32::MAX - random.below(5) as u32,
+        _ => full,
+    };
+    let session: Reference<R::Mode> = Reference { index, open: true, ..any_session(random) };
+    let (mut out, mut tag) = (random.bytes(message.len()), random.bytes(R::Mode::TAG));
+    let mut here = BothOf::<R>::of(session.clone());
+    let answer = here.wrap(&metadata, &message, &mut out, &mut tag);
+    assert_eq!(answer.number, if index <= full { 0 } else { 9 });
+    let mut there = BothOf::<R>::of(session);
+    let mut back = random.bytes(message.len());
+    assert_eq!(there.unwrap(&metadata, &out, &tag, &mut back), answer);
+    assert!(answer.number == 9 || (back == message && same(&here.library, &there.library)));
+}
+
+/// Messages of the greatest length from this session on, until the index is full; gives how many. Every hundredth one is
+/// compared, the others are made by the library alone.
+pub fn up_to_the_limit<R: Library>(random: &mut Random, mut both: BothOf<R>) -> u32 {
+    let message = random.bytes(16_384);
+    let mut far = copy(&both.library);
+    let mut sealed = 0;
+    loop {
+        let (mut out, mut tag, mut back) = (random.bytes(16_384), vec![0; R::Mode::TAG], vec![0; 16_384]);
+        let number = if sealed % 100 == 0 {
+            both.wrap(&message, &message, &mut out, &mut tag).number
+        } else {
+            let number = both.library.wrap(&message, &message, &mut out, &mut tag).number;
+            both.reference = both.library.reference();
+            number
+        };
+        assert_eq!(far.unwrap(&message, &out, &tag, &mut back).number, number);
+        assert!(same(&far, &both.library));
+        if number != 0 {
+            assert_eq!(number, 9);
+            return sealed;
+        }
+        assert!(back == message);
+        sealed += 1;
+    }
+}

@@ -1,0 +1,176 @@
+//! Sessions of SANE through the C library, beside the independent implementation: every answer, buffer and record is the
+//! same, in random sessions and of any record, and equals what the full history gives.
+
+mod common;
+
+use common::play::{self, Ends, Tally};
+use common::{
+    Arrival, SaneBoth, answer_of, cases, is_whole_run, key, length, maybe_long, other_length, record_of, same, text,
+};
+use pevghazo::raw::{Answer, SaneRecord};
+use pevghazo_reference::deck::xoofff;
+use pevghazo_reference::ledger::SaneLedger;
+use pevghazo_reference::limits::INDEX_MAX;
+use pevghazo_reference::random::Random;
+
+/// A session that is started with good lengths.
+fn start(random: &mut Random, key: &[u8], nonce: &[u8]) -> SaneBoth {
+    let (both, answer) = SaneBoth::start(random, key, nonce, &mut [0; 16]);
+    assert_eq!(answer.number, 0);
+    both
+}
+
+#[test]
+fn messages_both_ways() {
+    let mut tally = Tally::default();
+    cases("messages_both_ways", |random| {
+        let (shared, nonce) = (key(random), text(random));
+        // Another nonce under this key, or the same under another.
+        let (other_key, other_nonce) = if random.once_in(2) {
+            (shared.clone(), [&nonce[..nonce.len().min(16_383)], b"+"].concat())
+        } else {
+            (key(random), nonce.clone())
+        };
+        let [here, there] = [(); 2].map(|()| start(random, &shared, &nonce));
+        let mut ends = Ends::of([here, there], start(random, &other_key, &other_nonce));
+        for _ in 0..1 + random.below(6) {
+            ends.message(random, &mut tally, |_, _| ());
+        }
+        if random.once_in(3) {
+            ends.lost(random, &mut tally);
+        }
+    });
+    if is_whole_run() {
+        let Tally { numbers, forged } = tally;
+        assert!(forged > 10_000, "{forged} forged arrivals");
+        assert!(numbers[0] > 5_000 && [6, 7, 8].iter().all(|number| numbers[*number] > 100), "{numbers:?}");
+    }
+}
+
+#[test]
+fn every_pair_of_edges() {
+    let mut random = Random::new(1);
+    let both = start(&mut random, &[9; 47], b"1");
+    play::every_pair_of_edges(&mut random, both);
+}
+
+#[test]
+fn any_record() {
+    let mut numbers = [0; 12];
+    cases("any_record", |random| numbers[play::call_on_any_record::<SaneRecord>(random) as usize] += 1);
+    if is_whole_run() {
+        assert!([0, 5, 6, 7, 8, 9, 11].iter().all(|number| numbers[*number] > 10), "{numbers:?}");
+    }
+}
+
+#[test]
+fn indexes_near_the_limit() {
+    cases("indexes_near_the_limit", play::call_near_the_limit::<SaneRecord>);
+}
+
+#[test]
+fn one_long_session_up_to_the_limit() {
+    // The nonce's string takes 343 of the index, and those of each message 686.
+    let mut random = Random::new(1);
+    let nonce = random.bytes(16_384);
+    let both = start(&mut random, &[1; 16], &nonce);
+    assert_eq!(play::up_to_the_limit(&mut random, both), (INDEX_MAX - 343) / 686);
+}
+
+/// One end of a session, to which each call is made on the record, by the library and the reference, and on the key and the
+/// full history, which opens with the nonce.
+struct End {
+    both: SaneBoth,
+    ledger: SaneLedger,
+}
+
+impl End {
+    fn start(random: &mut Random, key: &[u8], nonce: &[u8]) -> End {
+        let mut tags = [[0; 16], [1; 16]];
+        let (both, answer) = SaneBoth::start(random, key, nonce, &mut tags[0]);
+        let (ledger, count) = SaneLedger::start(key, nonce, &mut tags[1], xoofff).unwrap();
+        assert_eq!((answer, tags[0]), (Answer { number: 0, count }, tags[1]));
+        End { both, ledger }
+    }
+
+    /// The record is the one that the history gives.
+    fn check(&self) {
+        assert!(same(&self.both.library, &record_of(&self.ledger.record())), "the history gives another record");
+    }
+
+    /// Wraps some message, with lengths that are refused now and then, and gives what travels.
+    fn wrap(&mut self, random: &mut Random, numbers: &mut [u64; 12]) -> Option<Arrival> {
+        let (metadata, message) = (text(random), text(random));
+        let (metadata, message) = (maybe_long(random, &metadata, 30), maybe_long(random, &message, 30));
+        let (room, tag_length) = (other_length(random, message.len(), 8), other_length(random, 16, 12));
+        let (mut out, mut tag) = (random.bytes(room), random.bytes(tag_length));
+        let (mut out_too, mut tag_too) = (out.clone(), tag.clone());
+        let answer = self.both.wrap(&metadata, &message, &mut out, &mut tag);
+        assert_eq!(answer, answer_of(self.ledger.wrap(&metadata, &message, &mut out_too, &mut tag_too)));
+        assert!(out == out_too && tag == tag_too, "the history gives other buffers");
+        self.check();
+        numbers[answer.number as usize] += 1;
+        out.truncate(message.len());
+        (answer.number == 0).then_some(Arrival { metadata, cryptogram: out, tag, message })
+    }
+
+    /// Unwraps an arrival, now and then damaged or with a buffer of another length, and gives whether it was accepted.
+    fn unwrap(&mut self, random: &mut Random, arrival: &Arrival, numbers: &mut [u64; 12]) -> bool {
+        let handed = if random.once_in(3) { arrival.damaged(random) } else { arrival.clone() };
+        let room = other_length(random, handed.cryptogram.len(), 8);
+        let mut out = random.bytes(room);
+        let mut out_too = out.clone();
+        let Arrival { metadata, cryptogram, tag, .. } = &handed;
+        let answer = self.both.unwrap(metadata, cryptogram, tag, &mut out);
+        assert_eq!(answer, answer_of(self.ledger.unwrap(metadata, cryptogram, tag, &mut out_too)));
+        assert!(out == out_too, "the history gives another buffer");
+        self.check();
+        numbers[answer.number as usize] += 1;
+        answer.number == 0
+    }
+}
+
+#[test]
+fn lists_against_the_full_history() {
+    let (mut wraps, mut unwraps) = ([0; 12], [0; 12]);
+    cases("lists_against_the_full_history", |random| {
+        let (key, nonce) = (key(random), text(random));
+        let mut ends = [(); 2].map(|()| End::start(random, &key, &nonce));
+        // What travels, and the end that it is meant for.
+        let mut travels: Option<(Arrival, usize)> = None;
+        for _ in 0..1 + random.below(6) {
+            match travels.take() {
+                Some((arrival, to)) if !random.once_in(5) => {
+                    let end = if random.once_in(6) { 1 - to } else { to };
+                    if !ends[end].unwrap(random, &arrival, &mut unwraps) {
+                        travels = Some((arrival, to));
+                    }
+                }
+                _ => {
+                    let from = random.below(2);
+                    travels = ends[from].wrap(random, &mut wraps).map(|arrival| (arrival, 1 - from));
+                }
+            }
+        }
+    });
+    if is_whole_run() {
+        assert!([0, 6, 7, 8].iter().all(|number| wraps[*number] > 100), "wraps: {wraps:?}");
+        assert!([0, 8, 11].iter().all(|number| unwraps[*number] > 100), "unwraps: {unwraps:?}");
+    }
+}
+
+#[test]
+fn any_start() {
+    let mut numbers = [0; 12];
+    cases("any_start", |random| {
+        let (usual, nonce) = (16 + random.below(32), length(random));
+        let key_length = other_length(random, usual, 4);
+        let (key, nonce) = (random.bytes(key_length), random.bytes(nonce));
+        let nonce = maybe_long(random, &nonce, 6);
+        let mut tag = vec![0xA5; other_length(random, 16, 4)];
+        numbers[SaneBoth::start(random, &key, &nonce, &mut tag).1.number as usize] += 1;
+    });
+    if is_whole_run() {
+        assert!([0, 4, 6, 7].iter().all(|number| numbers[*number] > 100), "{numbers:?}");
+    }
+}
