@@ -273,6 +273,19 @@ mod tests {
     }
 
     #[test]
+    fn counters_are_digits_within_64_bits() {
+        let line = |text: &str| format!("sane start --state f --group 4 --key k --counter={text}");
+        for (text, counter) in [("0", 0), ("007", 7), ("4294967296", 1 << 32), ("18446744073709551615", u64::MAX)] {
+            assert_eq!(options(&line(text)).counter("counter").ok(), Some(Some(counter)), "{text}");
+        }
+        for text in ["", "-1", "1.5", "18446744073709551616"] {
+            let said = parsed(&line(text)).unwrap_err().to_string();
+            assert!(said.ends_with(" needs a number from 0 to 18446744073709551615, in digits."), "{said}");
+        }
+        assert_eq!(options("sane start --state f --group 4 --key k").counter("counter").ok(), Some(None));
+    }
+
+    #[test]
     fn ranges_are_one_number_or_two() {
         let line = |text: &str| format!("group codes --state f --packets={text}");
         for (text, range) in

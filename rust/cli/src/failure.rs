@@ -57,8 +57,15 @@ pub enum Failure {
     OtherLetter(Letter),
     /// The key was used in this state file before.
     UsedKey,
-    /// The nonce was used under this key before; a counter, with the last one.
-    UsedNonce(Option<(u64, u64)>),
+    /// The nonce was used under this key before.
+    UsedNonce,
+    /// The nonce is a counter, and not above the last one under this key.
+    UsedCounter {
+        /// The counter.
+        counter: u64,
+        /// The last one.
+        last: u64,
+    },
     /// The tag of a start is not the expected one.
     OtherTag,
     /// A code that was read off a packet is not the packet's.
@@ -115,7 +122,7 @@ impl Failure {
             | Failure::LargeInput(_) => 4,
             Failure::NotNow(_) => 5,
             Failure::OtherGroup { .. } | Failure::OtherLetter(_) => 6,
-            Failure::UsedKey | Failure::UsedNonce(_) => 7,
+            Failure::UsedKey | Failure::UsedNonce | Failure::UsedCounter { .. } => 7,
             Failure::Mismatch { .. } | Failure::OtherTag => 9,
             Failure::Refused(refusal, _) => 10 + refusal.number.number(),
             Failure::Kept { source, .. } => source.status(),
@@ -158,10 +165,12 @@ impl fmt::Display for Failure {
             Failure::OtherGroup { asked, own } => {
                 write!(f, "This is for group {asked}, and the state file is that of group {own}.")
             }
-            Failure::OtherLetter(Letter::S) => f.write_str(OF_SANSE),
-            Failure::OtherLetter(Letter::N) => f.write_str(OF_SANE),
+            Failure::OtherLetter(letter) => f.write_str(if *letter == Letter::S { OF_SANSE } else { OF_SANE }),
             Failure::UsedKey => f.write_str(USED_KEY),
-            Failure::UsedNonce(counters) => used_nonce(f, *counters),
+            Failure::UsedNonce => {
+                write!(f, "This nonce was used under this key in this state file before. {SHARED} Take another one.")
+            }
+            Failure::UsedCounter { counter, last } => used_counter(f, *counter, *last),
             Failure::OtherTag => f.write_str(OTHER_TAG),
             Failure::Mismatch { group, packet, index } => mismatch(f, *group, *packet, *index),
             Failure::Refused(refusal, letter) => refused(f, refusal, *letter),
@@ -205,16 +214,12 @@ const OF_SANE: &str =
 const SHARED: &str = "Under one key and one nonce two messages would share keystream, and whoever sees both envelopes learns \
 how the messages differ.";
 
-/// The sentences of a nonce that was used before.
-fn used_nonce(f: &mut fmt::Formatter<'_>, counters: Option<(u64, u64)>) -> fmt::Result {
-    match counters {
-        Some((counter, last)) => write!(
-            f,
-            "The counter {counter} is not above {last}, the last one under this key in this state file. {SHARED} Take a \
-             higher one."
-        ),
-        None => write!(f, "This nonce was used under this key in this state file before. {SHARED} Take another one."),
-    }
+/// The sentences of a counter that was used before, or may have been.
+fn used_counter(f: &mut fmt::Formatter<'_>, counter: u64, last: u64) -> fmt::Result {
+    write!(
+        f,
+        "The counter {counter} is not above {last}, the last one under this key in this state file. {SHARED} Take a higher one."
+    )
 }
 
 /// What is said of a start with another tag than the expected one.

@@ -2,7 +2,9 @@
 //!
 //! The keystream of a message in SANE comes from the key, the nonce and the messages before it. So under one key a nonce must not
 //! repeat. A state file keeps, for each key that was used in it, the last counter, which the next one has to exceed, and the
-//! nonces that were no counters. Such a nonce is known by the tag of its start: other nonces under one key have other tags.
+//! nonces that were no counters. Such a nonce is known by the tag of its start: other nonces under one key have other tags. A key is
+//! known by its [fingerprint], which is made of a history that no session in SANE has: it starts with metadata and not with a
+//! nonce, and their strings never equal each other, since metadata have frame bits.
 
 use pevghazo::SaneTag;
 use pevghazo_store::Secret;
@@ -53,8 +55,8 @@ impl Key {
     /// Whether a nonce may be used under this key.
     fn takes(&self, nonce: &Nonce, tag: &SaneTag) -> Result<(), Failure> {
         match (nonce.counter(), self.counter) {
-            (Some(counter), Some(last)) if counter <= last => Err(Failure::UsedNonce(Some((counter, last)))),
-            (None, _) if self.others.contains(tag) => Err(Failure::UsedNonce(None)),
+            (Some(counter), Some(last)) if counter <= last => Err(Failure::UsedCounter { counter, last }),
+            (None, _) if self.others.contains(tag) => Err(Failure::UsedNonce),
             _ => Ok(()),
         }
     }
