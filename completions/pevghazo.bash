@@ -19,24 +19,25 @@ _pevghazo() {
     for i in "${all[@]}"; do
         if [[ -n $skip ]]; then skip=''; continue; fi
         case $i in
-            --state|--wait|--allowance|--group|--key|--message|--metadata|--metadata-text|--out|--in|--from|--metadata-out|--mark|--packets|--format|--packet|--code) skip=1 ;;
+            --state|--wait|--allowance|--group|--key|--message|--metadata|--metadata-text|--out|--in|--from|--metadata-out|--mark|--packets|--format|--packet|--code|--counter|--nonce|--expect) skip=1 ;;
             -*) ;;
-            office|group) [[ -z $end$name ]] && end=$i || name=$i ;;
+            office|group|sane) [[ -z $end$name ]] && end=$i || name=$i ;;
             help) [[ -z $help$end$name ]] && help=1 || name=$i ;;
             *) name=$i ;;
         esac
     done
     case $before in
-        --state|--key|--message|--metadata|--out|--in|--metadata-out) compopt -o filenames; mapfile -t COMPREPLY < <(compgen -P "$prefix" -f -- "$word"); return ;;
+        --state|--key|--message|--metadata|--out|--in|--metadata-out|--nonce) compopt -o filenames; mapfile -t COMPREPLY < <(compgen -P "$prefix" -f -- "$word"); return ;;
         --format) mapfile -t COMPREPLY < <(compgen -P "$prefix" -W 'text csv html' -- "$word"); return ;;
-        --wait|--allowance|--group|--metadata-text|--from|--mark|--packets|--packet|--code) return ;;
+        --wait|--allowance|--group|--metadata-text|--from|--mark|--packets|--packet|--code|--counter|--expect) return ;;
     esac
     local words
     [[ -n $help && -n $name ]] && return
     case "$end $name" in
-        ' ') words='office group keygen demo help --help --version' ;;
+        ' ') words='office group sane keygen demo help --help --version' ;;
         'office ') words='create day open-group seal open resend reread forget nearly-full codes check-code show --help' ;;
         'group ') words='start seal open resend reread forget codes check-code show --help' ;;
+        'sane ') words='start seal open resend reread forget show --help' ;;
         'office create') words='--state --wait --help' ;;
         'office day') words='--state --allowance --wait --restore --help' ;;
         'office open-group') words='--state --group --key --replace --reuse-key --wait --restore --help' ;;
@@ -58,6 +59,13 @@ _pevghazo() {
         'group codes') words='--state --packets --format --out --wait --restore --help' ;;
         'group check-code') words='--state --packet --code --wait --restore --help' ;;
         'group show') words='--state --json --wait --restore --help' ;;
+        'sane start') words='--state --group --key --counter --nonce --expect --replace --wait --restore --help' ;;
+        'sane seal') words='--state --message --metadata --metadata-text --out --wait --restore --help' ;;
+        'sane open') words='--state --in --from --out --metadata-out --wait --restore --help' ;;
+        'sane resend') words='--state --out --wait --restore --help' ;;
+        'sane reread') words='--state --out --metadata-out --wait --restore --help' ;;
+        'sane forget') words='--state --envelope --wait --restore --help' ;;
+        'sane show') words='--state --json --wait --restore --help' ;;
         ' keygen') words='--out --help' ;;
         ' demo') words='--help' ;;
         ' help') words='--help' ;;

@@ -21,8 +21,9 @@ enum { LONGEST = PEVGHAZO_TEXT_MAX, ROOM = LONGEST + 16 };
 enum { LANES = offsetof(pevghazo_session, index), PUBLIC = offsetof(pevghazo_session, opened) + 1 - LANES, RECORD = sizeof(pevghazo_session) };
 PEVGHAZO_LAYOUT(one_layout, sizeof(pevghazo_sane_session) == RECORD && offsetof(pevghazo_sane_session, index) == LANES);
 
-/* Short lengths, of which all pairs are tried, and long ones, each with itself, none and one block; 16,320 bytes are 340 whole blocks. */
-static const size_t lengths[] = {0, 1, 16, 47, 48, 49, 95, 96, 97, 200, 1024};
+/* Short lengths, of which all pairs are tried, and long ones, each with itself, none and one block; 16,320 bytes are 340 whole blocks, and 32 bytes
+ * the first block of keystream in SANE. */
+static const size_t lengths[] = {0, 1, 16, 32, 33, 47, 48, 49, 95, 96, 97, 200, 1024};
 static const size_t long_lengths[] = {1025, 5000, 16320, LONGEST - 1, LONGEST};
 enum { LENGTHS = sizeof lengths / sizeof lengths[0], LONG_LENGTHS = sizeof long_lengths / sizeof long_lengths[0] };
 

@@ -1,7 +1,7 @@
 /* Pevghazo: a lone session in Xoofff-SANE, for groups that keep a counter. What all functions share is said in pevghazo.h.
  *
- * SANE is for an end that can promise one thing: A NONCE MUST NOT REPEAT UNDER ONE KEY. In return a message is taken in once, where SANSE
- * (session.h) takes it in twice, so long messages cost less, and a tag has 16 bytes.
+ * SANE is for ends that keep a reliable counter, since A NONCE MUST NOT REPEAT UNDER ONE KEY. Its keystream does not wait for the tag, so that
+ * one pass over a message is enough where SANSE (session.h) needs two, and its tag has 16 bytes instead of 32.
  *
  * Why: what a message is hidden with, its keystream, comes from the key, the nonce and the messages before it, and not from the message itself.
  * Two messages with one keystream give away their sum to anybody who sees the two cryptograms, and often enough both texts. One keystream is

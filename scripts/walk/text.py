@@ -57,8 +57,7 @@ def specs_module(path, crate):
 
 def citation(path):
     """The name under which a function's code knows another that it calls: code.calls-office·no-group."""
-    home, *rest = path.split('::')
-    return 'code.calls-' + '·'.join([home] + [dashed(one) for one in rest])
+    return 'code.calls-' + '·'.join(dashed(one) for one in path.split('::'))
 
 
 def unclosed(lines):

@@ -5,6 +5,7 @@
 use std::ffi::{OsStr, OsString};
 use std::ops::RangeInclusive;
 use std::os::unix::ffi::{OsStrExt, OsStringExt};
+use std::str::FromStr;
 
 use crate::completions;
 use crate::failure::Failure;
@@ -45,6 +46,15 @@ impl Arguments {
 
     /// The number that an option has as its value, if it was given.
     pub fn number(&self, name: &str) -> Result<Option<u32>, Failure> {
+        self.whole(name)
+    }
+
+    /// The counter that an option has as its value, if it was given.
+    pub fn counter(&self, name: &str) -> Result<Option<u64>, Failure> {
+        self.whole(name)
+    }
+
+    fn whole<T: FromStr>(&self, name: &str) -> Result<Option<T>, Failure> {
         let Some(value) = self.value(name) else { return Ok(None) };
         value.to_str().and_then(digits).map(Some).ok_or_else(|| {
             let highest = self.highest(name);
@@ -53,10 +63,10 @@ impl Arguments {
     }
 
     /// The highest number with a meaning that an option takes.
-    fn highest(&self, name: &str) -> u32 {
+    fn highest(&self, name: &str) -> u64 {
         match self.0.iter().find(|(known, _)| known.name == name).map(|(option, _)| option.value) {
-            Some(Value::Number(_, highest) | Value::Range(_, highest)) => highest,
-            _ => u32::MAX,
+            Some(Value::Number(_, highest) | Value::Range(_, highest)) => u64::from(highest),
+            _ => u64::MAX,
         }
     }
 
@@ -91,8 +101,8 @@ impl Arguments {
     }
 }
 
-/// A number of 32 bits in digits.
-fn digits(text: &str) -> Option<u32> {
+/// A number in digits, of as many bits as its type has.
+fn digits<T: FromStr>(text: &str) -> Option<T> {
     text.bytes().all(|byte| byte.is_ascii_digit()).then(|| text.parse().ok()).flatten()
 }
 
@@ -215,6 +225,7 @@ fn check(command: &'static Command, given: Given) -> Result<Arguments, Failure> 
         match option.value {
             Value::Number(..) => arguments.number(option.name).map(drop)?,
             Value::Range(..) => arguments.required_range(option.name).map(drop)?,
+            Value::Counter(_) => arguments.counter(option.name).map(drop)?,
             Value::Word(words) => arguments.word(option.name, words).map(drop)?,
             Value::None | Value::File | Value::Text(_) => {}
         }
@@ -259,6 +270,19 @@ mod tests {
             let line = format!("office day --state f --allowance={text}");
             assert_eq!(parsed(&line).unwrap_err().status(), 2, "{text}");
         }
+    }
+
+    #[test]
+    fn counters_are_digits_within_64_bits() {
+        let line = |text: &str| format!("sane start --state f --group 4 --key k --counter={text}");
+        for (text, counter) in [("0", 0), ("007", 7), ("4294967296", 1 << 32), ("18446744073709551615", u64::MAX)] {
+            assert_eq!(options(&line(text)).counter("counter").ok(), Some(Some(counter)), "{text}");
+        }
+        for text in ["", "-1", "1.5", "18446744073709551616"] {
+            let said = parsed(&line(text)).unwrap_err().to_string();
+            assert!(said.ends_with(" needs a number from 0 to 18446744073709551615, in digits."), "{said}");
+        }
+        assert_eq!(options("sane start --state f --group 4 --key k").counter("counter").ok(), Some(None));
     }
 
     #[test]

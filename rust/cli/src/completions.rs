@@ -4,7 +4,7 @@
 use std::fmt::Write;
 
 use crate::failure::Failure;
-use crate::table::{COMMANDS, COMMON, Command, ENDS, Opt, Value};
+use crate::table::{ABOUT_ENDS, COMMANDS, COMMON, Command, ENDS, Opt, Value};
 
 /// The shells.
 pub const SHELLS: [&str; 3] = ["bash", "zsh", "fish"];
@@ -30,7 +30,7 @@ pub fn unknown() -> Failure {
 
 /// The words that may come first: the ends, and the commands of neither.
 fn first_words() -> impl Iterator<Item = (&'static str, String)> {
-    let ends = ENDS.iter().map(|end| (*end, format!("the commands of the {end}")));
+    let ends = ENDS.into_iter().zip(ABOUT_ENDS.map(str::to_string));
     ends.chain(of_end("").map(|command| (command.name, command.about.to_string())))
 }
 

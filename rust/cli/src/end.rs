@@ -1,17 +1,19 @@
-//! The two ends of sessions, for the commands that both have: sealing, opening and codes by the proved library.
+//! The ends of sessions, for the commands that all have: sealing, opening and codes by the proved library.
 
-use pevghazo::{Code, Envelope, Plain, Refusal};
+use pevghazo::{Code, Envelope, Letter, Plain, Refusal};
 use pevghazo_store::Secret;
 
 use crate::arguments::Arguments;
 use crate::failure::Failure;
-use crate::state::{Group, Kept, Office, State};
+use crate::state::{Group, Kept, Lone, Mode, Office, State};
 use crate::table::ENDS;
 
-/// An end of sessions: the office with its table, or a group.
+/// An end of sessions: the office with its table, or an end with one session.
 pub trait End: State {
     /// The word that this end's commands start with.
     const NAME: &'static str;
+    /// The letter of its envelopes.
+    const LETTER: Letter;
     /// The group that a command is about.
     fn group(&self, arguments: &Arguments) -> Result<u32, Failure>;
     /// Whether an envelope for this group may be opened here.
@@ -24,12 +26,17 @@ pub trait End: State {
     fn kept(&mut self, group: u32) -> Result<&mut Kept, Refusal>;
     /// The index of a group's session.
     fn index(&self, group: u32) -> u32;
+}
+
+/// An end whose sessions give codes of packets.
+pub trait Codes: End {
     /// The code of a packet of a group.
     fn code(&self, group: u32, packet: u32) -> Result<Code, Refusal>;
 }
 
 impl End for Office {
     const NAME: &'static str = ENDS[0];
+    const LETTER: Letter = Letter::S;
 
     fn group(&self, arguments: &Arguments) -> Result<u32, Failure> {
         arguments.required_number("group")
@@ -44,7 +51,7 @@ impl End for Office {
     }
 
     fn open(&mut self, arrival: &Envelope) -> Result<Secret, Refusal> {
-        Ok(Secret::from(self.table.unwrap(arrival.group, &arrival.arrival())?.message))
+        Ok(Secret::from(self.table.unwrap(arrival.group, &arrival.arrival()?)?.message))
     }
 
     fn kept(&mut self, group: u32) -> Result<&mut Kept, Refusal> {
@@ -54,14 +61,17 @@ impl End for Office {
     fn index(&self, group: u32) -> u32 {
         self.table.group(group).map_or(0, |group| group.index)
     }
+}
 
+impl Codes for Office {
     fn code(&self, group: u32, packet: u32) -> Result<Code, Refusal> {
         Ok(self.table.code(group, packet)?.0)
     }
 }
 
-impl End for Group {
-    const NAME: &'static str = ENDS[1];
+impl<S: Mode> End for Lone<S> {
+    const NAME: &'static str = S::NAME;
+    const LETTER: Letter = S::LETTER;
 
     fn group(&self, _: &Arguments) -> Result<u32, Failure> {
         Ok(self.group)
@@ -76,7 +86,7 @@ impl End for Group {
     }
 
     fn open(&mut self, arrival: &Envelope) -> Result<Secret, Refusal> {
-        Ok(Secret::from(self.session.unwrap(&arrival.arrival())?.message))
+        Ok(Secret::from(self.session.unwrap(arrival)?.message))
     }
 
     fn kept(&mut self, _: u32) -> Result<&mut Kept, Refusal> {
@@ -86,7 +96,9 @@ impl End for Group {
     fn index(&self, _: u32) -> u32 {
         self.session.index()
     }
+}
 
+impl Codes for Group {
     fn code(&self, _: u32, packet: u32) -> Result<Code, Refusal> {
         Ok(self.session.code(packet)?.0)
     }

@@ -3,8 +3,10 @@
 use std::path::{Path, PathBuf};
 use std::{fmt, io};
 
-use pevghazo::{Number, Refusal};
+use pevghazo::{Letter, Number, Refusal};
 use pevghazo_store::{self as store, shown};
+
+use crate::state::Bad;
 
 /// Why a command failed. The display is one or more plain sentences.
 #[derive(Debug)]
@@ -18,7 +20,7 @@ pub enum Failure {
         /// The state file.
         path: PathBuf,
         /// What is wrong with it.
-        what: &'static str,
+        bad: Bad,
     },
     /// An input could not be read or an output not be written.
     File {
@@ -51,8 +53,21 @@ pub enum Failure {
         /// The group of the state file.
         own: u32,
     },
+    /// An envelope of the other mode's letter.
+    OtherLetter(Letter),
     /// The key was used in this state file before.
     UsedKey,
+    /// The nonce was used under this key before.
+    UsedNonce,
+    /// The nonce is a counter, and not above the last one under this key.
+    UsedCounter {
+        /// The counter.
+        counter: u64,
+        /// The last one.
+        last: u64,
+    },
+    /// The tag of a start is not the expected one.
+    OtherTag,
     /// A code that was read off a packet is not the packet's.
     Mismatch {
         /// The group.
@@ -62,8 +77,8 @@ pub enum Failure {
         /// The index that the session stands at.
         index: u32,
     },
-    /// The proved library refused the call.
-    Refused(Refusal),
+    /// The proved library refused the call, which was one of this letter's mode.
+    Refused(Refusal, Letter),
     /// The library found a wrong tag, and the day's count could not be committed, or not as it should.
     NotCounted(Refusal, store::Error),
     /// The call was made and is in the state file, but what belongs to it was not handed out.
@@ -88,6 +103,11 @@ impl Failure {
         move |source| Failure::File { what, path, source }
     }
 
+    /// Whether the new state was committed all the same.
+    pub fn is_committed(&self) -> bool {
+        matches!(self, Failure::State(error) if error.is_committed())
+    }
+
     /// The exit status: 10 and the number for a refusal.
     pub fn status(&self) -> u8 {
         match self {
@@ -101,10 +121,10 @@ impl Failure {
             | Failure::OutputExists(_)
             | Failure::LargeInput(_) => 4,
             Failure::NotNow(_) => 5,
-            Failure::OtherGroup { .. } => 6,
-            Failure::UsedKey => 7,
-            Failure::Mismatch { .. } => 9,
-            Failure::Refused(refusal) => 10 + refusal.number.number(),
+            Failure::OtherGroup { .. } | Failure::OtherLetter(_) => 6,
+            Failure::UsedKey | Failure::UsedNonce | Failure::UsedCounter { .. } => 7,
+            Failure::Mismatch { .. } | Failure::OtherTag => 9,
+            Failure::Refused(refusal, _) => 10 + refusal.number.number(),
             Failure::Kept { source, .. } => source.status(),
         }
     }
@@ -112,7 +132,7 @@ impl Failure {
 
 impl From<Refusal> for Failure {
     fn from(refusal: Refusal) -> Failure {
-        Failure::Refused(refusal)
+        Failure::Refused(refusal, Letter::S)
     }
 }
 
@@ -128,7 +148,7 @@ impl fmt::Display for Failure {
             Failure::Usage(sentence) | Failure::NotNow(sentence) => f.write_str(sentence),
             Failure::State(error @ store::Error::Older { .. }) => write!(f, "{error} {OLDER}"),
             Failure::State(error) => error.fmt(f),
-            Failure::Content { path, what } => write!(f, "The state file {} cannot be used: {what}.", shown(path)),
+            Failure::Content { path, bad } => write!(f, "The state file {} cannot be used: {bad}.", shown(path)),
             Failure::File { what, path, source } => write!(f, "Could not {what} {}: {source}.", shown(path)),
             Failure::NotSynced { path, source } => write!(
                 f,
@@ -145,11 +165,17 @@ impl fmt::Display for Failure {
             Failure::OtherGroup { asked, own } => {
                 write!(f, "This is for group {asked}, and the state file is that of group {own}.")
             }
+            Failure::OtherLetter(letter) => f.write_str(if *letter == Letter::S { OF_SANSE } else { OF_SANE }),
             Failure::UsedKey => f.write_str(USED_KEY),
+            Failure::UsedNonce => {
+                write!(f, "This nonce was used under this key in this state file before. {SHARED} Take another one.")
+            }
+            Failure::UsedCounter { counter, last } => used_counter(f, *counter, *last),
+            Failure::OtherTag => f.write_str(OTHER_TAG),
             Failure::Mismatch { group, packet, index } => mismatch(f, *group, *packet, *index),
-            Failure::Refused(refusal) => refused(f, refusal),
+            Failure::Refused(refusal, letter) => refused(f, refusal, *letter),
             Failure::NotCounted(refusal, error) => {
-                refused(f, refusal)?;
+                refused(f, refusal, Letter::S)?;
                 let not_added = if error.is_committed() { "" } else { "Its count could not be added to the day's: " };
                 write!(f, " {not_added}{error}")
             }
@@ -167,22 +193,62 @@ impl fmt::Display for Failure {
 
 /// What is said of an older copy besides that it is one.
 const OLDER: &str = "\
-What is sealed from it takes the place of what was sealed since: replace its sessions under new keys. `--restore` takes it \
-all the same, which is right only if nothing was sealed or opened since the copy was made.";
+What is sealed from it takes the place of what was sealed since, and in SANE also shares its keystream: replace its sessions \
+under new keys. `--restore` takes it all the same, which is right only if nothing was sealed or opened since the copy was made.";
 
 /// What is said of a key that was used before.
 const USED_KEY: &str = "\
 This key was used in this state file before: under it, old envelopes would be accepted again. Make a new one, as with \
 `pevghazo keygen`; `--reuse-key` takes it all the same.";
 
+/// What is said of an envelope that is for a group's or the office's state file.
+const OF_SANSE: &str = "\
+This envelope has the letter S, and those of a session in SANE have the letter N: `pevghazo group open`, or `pevghazo office \
+open`, is for this one.";
+
+/// What is said of an envelope that is for a session in SANE.
+const OF_SANE: &str =
+    "This envelope has the letter N: it is that of a session in SANE, and `pevghazo sane open` is for it.";
+
+/// Why a nonce is not used twice.
+const SHARED: &str = "Under one key and one nonce two messages would share keystream, and whoever sees both envelopes learns \
+how the messages differ.";
+
+/// The sentences of a counter that was used before, or may have been.
+fn used_counter(f: &mut fmt::Formatter<'_>, counter: u64, last: u64) -> fmt::Result {
+    write!(
+        f,
+        "The counter {counter} is not above {last}, the last one under this key in this state file. {SHARED} Take a higher one."
+    )
+}
+
+/// What is said of a start with another tag than the expected one.
+const OTHER_TAG: &str = "\
+This is not the tag of a start with this key and this nonce: the other end has another key, or another nonce. Nothing was \
+started, and the nonce can still be used.";
+
 /// What is said of a wrong tag besides that it is wrong.
 const WRONG_TAG: &str = "\
 Or both ends have sealed at once: then neither envelope can be opened, and the session is replaced under a new key.";
 
+/// The same in SANE.
+const WRONG_SANE_TAG: &str = "\
+Or both ends have sealed at once: then neither envelope can be opened, whoever sees both learns how their messages differ, and \
+the session is replaced under another nonce.";
+
+/// What is said of a refusal besides its sentence.
+fn hint(number: Number, letter: Letter) -> Option<&'static str> {
+    match (number, letter) {
+        (Number::WrongTag, Letter::S) => Some(WRONG_TAG),
+        (Number::WrongTag, Letter::N) => Some(WRONG_SANE_TAG),
+        _ => None,
+    }
+}
+
 /// The sentence of a refusal with its number.
-fn refused(f: &mut fmt::Formatter<'_>, refusal: &Refusal) -> fmt::Result {
+fn refused(f: &mut fmt::Formatter<'_>, refusal: &Refusal, letter: Letter) -> fmt::Result {
     write!(f, "Refused, number {}: {}", refusal.number.number(), refusal.number.sentence())?;
-    if refusal.number == Number::WrongTag { write!(f, " {WRONG_TAG}") } else { Ok(()) }
+    hint(refusal.number, letter).map_or(Ok(()), |hint| write!(f, " {hint}"))
 }
 
 /// The sentences of a code that does not match.

@@ -22,9 +22,9 @@ pub fn list(end: &str) -> String {
     }
     text.push_str("\n`--help` after a command shows its options. A file `-` is the standard input or output.\n");
     text.push_str(
-        "\nExit status: 0 done; 2 command line; 3 state file; 4 input or output; 5 not now; 6 another group's;\n",
+        "\nExit status: 0 done; 2 command line; 3 state file; 4 input or output; 5 not now; 6 another group's or mode's;\n",
     );
-    text.push_str("7 key used before; 8 state file is an older copy; 9 code does not match;\n");
+    text.push_str("7 key or nonce used before; 8 state file is an older copy; 9 code or tag does not match;\n");
     text.push_str("11 to 22 refused, 10 and the refusal's number.\n");
     text.push_str("`man pevghazo` is the manual.\n");
     text

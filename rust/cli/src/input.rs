@@ -5,18 +5,19 @@ use std::os::unix::ffi::OsStrExt;
 use std::os::unix::fs::MetadataExt;
 use std::path::Path;
 
-use pevghazo::{KEY_MAX, TEXT_MAX};
+use pevghazo::{KEY_MAX, NONCE_MAX, TEXT_MAX};
 use pevghazo_store::{Secret, shown};
 
 use crate::arguments::Arguments;
 use crate::failure::Failure;
+use crate::starts::Nonce;
 use crate::streams;
 
 /// The most bytes of a file with envelopes.
 const ENVELOPES_MAX: usize = 1 << 24;
 
 /// The options that name inputs.
-const INPUTS: [&str; 4] = ["metadata", "message", "in", "key"];
+const INPUTS: [&str; 5] = ["metadata", "message", "in", "key", "nonce"];
 
 /// Checks that at most one of the inputs is the standard input.
 pub fn check_names(arguments: &Arguments) -> Result<(), Failure> {
@@ -58,6 +59,15 @@ pub fn message(arguments: &Arguments) -> Result<Secret, Failure> {
 
 fn text(name: &Path) -> Result<Secret, Failure> {
     read(name, TEXT_MAX + 1, |_| Ok(()))
+}
+
+/// The nonce: a counter, or a file's bytes. One that is too long is cut to a length that the library refuses.
+pub fn nonce(arguments: &Arguments) -> Result<Nonce, Failure> {
+    match (arguments.counter("counter")?, arguments.value("nonce")) {
+        (Some(counter), None) => Ok(Nonce::from(counter)),
+        (None, Some(name)) => Ok(Nonce::from(read(Path::new(name), NONCE_MAX + 1, |_| Ok(()))?)),
+        _ => Err(Failure::Usage("One of --counter and --nonce is needed, and not both.".to_string())),
+    }
 }
 
 /// The bytes that an envelope is to be read from.

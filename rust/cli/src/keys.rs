@@ -5,8 +5,10 @@
 //! is as secret as the key.
 
 use pevghazo::{Plain, Refusal, Session, TAG_LENGTH};
+use pevghazo_store::Secret;
 
 use crate::failure::Failure;
+use crate::state::{Bad, Part, Reader, put_count};
 
 /// The bytes of a fingerprint.
 pub const FINGERPRINT: usize = TAG_LENGTH / 2;
@@ -18,7 +20,7 @@ pub type Fingerprint = [u8; FINGERPRINT];
 const TEXT: &[u8] = b"pevghazo: the fingerprint of a key";
 
 /// The fingerprint of a key; number 4 for one of a wrong length.
-fn fingerprint(key: &[u8]) -> Result<Fingerprint, Refusal> {
+pub fn fingerprint(key: &[u8]) -> Result<Fingerprint, Refusal> {
     let (mut session, _) = Session::start(key)?;
     let mut first = [0; FINGERPRINT];
     let wrapped = session.wrap(&Plain { metadata: TEXT, message: &[] })?;
@@ -33,11 +35,6 @@ pub struct Keys(Vec<Fingerprint>);
 impl Keys {
     /// The most keys of a state file.
     pub const MOST: usize = 1 << 16;
-
-    /// Their fingerprints.
-    pub fn fingerprints(&self) -> &[Fingerprint] {
-        &self.0
-    }
 
     /// How many they are.
     pub fn count(&self) -> usize {
@@ -60,6 +57,18 @@ impl Keys {
     }
 }
 
+impl Part for Keys {
+    fn put(&self, bytes: &mut Secret) {
+        put_count(bytes, self.0.len());
+        self.0.iter().for_each(|fingerprint| bytes.add(fingerprint));
+    }
+
+    fn read(reader: &mut Reader) -> Result<Keys, Bad> {
+        reader.list(Keys::MOST, Reader::array).map(Keys)
+    }
+}
+
+#[cfg(test)]
 impl From<Vec<Fingerprint>> for Keys {
     fn from(fingerprints: Vec<Fingerprint>) -> Keys {
         Keys(fingerprints)

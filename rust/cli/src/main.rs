@@ -11,10 +11,12 @@
 //! | [`arguments`] | the words and options of a command line, checked against the table |
 //! | [`help`], [`completions`] | the help texts, and the completions for shells |
 //! | [`commands`] | what each command does |
-//! | [`end`] | the two ends, and their sealing, opening and codes by the proved library |
+//! | [`end`] | the ends of sessions, and their sealing, opening and codes by the proved library |
 //! | [`labels`] | the codes of packets as lines, as a table and as a page to print |
 //! | [`state`] | what a state file holds, and its bytes |
 //! | [`keys`] | the keys that were used in a state file, and their fingerprints |
+//! | [`starts`] | the nonces that were used in the state file of a session in SANE, under each key |
+//! | [`tag`] | the tag of a start in SANE, as it is shown and typed |
 //! | [`state_file`] | opening, locking and committing a state file |
 //! | [`input`], [`output`] | files and standard streams; an output is written as a whole or not at all |
 //! | [`streams`] | the standard streams as the program was started with them |
@@ -31,11 +33,13 @@ mod input;
 mod keys;
 mod labels;
 mod output;
+mod starts;
 mod state;
 mod state_file;
 #[allow(unsafe_code)]
 mod streams;
 mod table;
+mod tag;
 
 use std::io::{Write, stderr};
 use std::process::ExitCode;

@@ -24,6 +24,11 @@ pub fn print(out: &mut dyn Write, text: &str) -> Result<(), Failure> {
     out.write_all(text.as_bytes()).and_then(|()| out.flush()).map_err(Failure::file("write to", Path::new(STANDARD)))
 }
 
+/// Refuses a standard output that is closed, before anything is altered.
+pub fn check_standard() -> Result<(), Failure> {
+    streams::check_output().map_err(Failure::file("write to", Path::new(STANDARD)))
+}
+
 /// Says what was done, to a person: on the standard error, where it is a terminal.
 pub fn tell(line: &str) {
     if stderr().is_terminal() {
@@ -59,7 +64,7 @@ impl Output {
     pub fn of(arguments: &Arguments, option: &str, own: impl Fn(&Path) -> bool) -> Result<Option<Output>, Failure> {
         let Some(name) = arguments.value(option).map(Path::new) else { return Ok(None) };
         if is_standard(name) {
-            streams::check_output().map_err(Failure::file("write to", Path::new(STANDARD)))?;
+            check_standard()?;
             return Ok(Some(Output::Standard));
         }
         if fs::metadata(name).is_ok_and(|metadata| !metadata.is_file() && !metadata.is_dir()) {

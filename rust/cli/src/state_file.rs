@@ -25,8 +25,8 @@ impl<S: State> Used<S> {
     pub fn open(arguments: &Arguments) -> Result<Used<S>, Failure> {
         let store = open(arguments, Presence::MustExist)?;
         let bytes = store.bytes().unwrap_or_default();
-        let content = |what| Failure::Content { path: store.path().to_path_buf(), what };
-        let state = S::decode(bytes).map_err(|bad| content(bad.0))?;
+        let content = |bad| Failure::Content { path: store.path().to_path_buf(), bad };
+        let state = S::decode(bytes).map_err(content)?;
         Ok(Used { store, state })
     }
 

@@ -5,8 +5,12 @@ use std::fmt;
 
 use pevghazo::PACKET_MAX;
 
-/// The two ends, whose commands start with these words.
-pub const ENDS: [&str; 2] = ["office", "group"];
+/// The ends of sessions, whose commands start with these words. Either end of a session in SANE has the last.
+pub const ENDS: [&str; 3] = ["office", "group", "sane"];
+
+/// What the commands of each are.
+pub const ABOUT_ENDS: [&str; 3] =
+    ["the commands of the office", "the commands of a group", "the commands of a session in SANE, at either end"];
 
 /// How codes may be given.
 pub const FORMATS: [&str; 3] = ["text", "csv", "html"];
@@ -55,6 +59,13 @@ pub enum Id {
     GroupCodes,
     GroupCheckCode,
     GroupShow,
+    SaneStart,
+    SaneSeal,
+    SaneOpen,
+    SaneResend,
+    SaneReread,
+    SaneForget,
+    SaneShow,
     Keygen,
     Demo,
     Help,
@@ -106,6 +117,8 @@ pub enum Value {
     Number(&'static str, u32),
     /// A number, or a first and a last one with a hyphen between them, of which those up to this one have a meaning.
     Range(&'static str, u32),
+    /// A number of 64 bits.
+    Counter(&'static str),
     /// One of these words.
     Word(&'static [&'static str]),
 }
@@ -115,7 +128,9 @@ impl fmt::Display for Value {
         match self {
             Value::None => Ok(()),
             Value::File => f.write_str("FILE"),
-            Value::Text(name) | Value::Number(name, _) | Value::Range(name, _) => f.write_str(name),
+            Value::Text(name) | Value::Number(name, _) | Value::Range(name, _) | Value::Counter(name) => {
+                f.write_str(name)
+            }
             Value::Word(words) => f.write_str(&words.join("|")),
         }
     }
@@ -164,6 +179,11 @@ const GROUP: Opt = required("group", Value::Number("G", 31), "the group, 0 to 31
 const KEY: Opt = required("key", Value::File, "the key: all bytes of this file, 16 to 47, closed to others");
 const REPLACE: Opt = flag("replace", "take the place of a session that is open");
 const REUSE_KEY: Opt = flag("reuse-key", "take a key that was used in this state file before");
+const COUNTER: Opt =
+    optional("counter", Value::Counter("N"), "the nonce: this number as eight bytes, the lowest first");
+const NONCE: Opt = optional("nonce", Value::File, "the nonce: all bytes of this file, at most 16384");
+const EXPECT: Opt =
+    optional("expect", Value::Text("TAG"), "start only if the tag is this one, as the other end has it");
 const MESSAGE: Opt = required("message", Value::File, "the message, at most 16384 bytes");
 const METADATA: Opt = optional("metadata", Value::File, "metadata, which travel in the clear, at most 16384 bytes");
 const METADATA_TEXT: Opt = optional("metadata-text", Value::Text("TEXT"), "metadata, here on the command line");
@@ -190,6 +210,14 @@ const KEY_OUT: Opt = required("out", Value::File, "where the key goes");
 const NEW_KEY: &str = "\
 Every session needs a key of its own: under a key that was used before, old envelopes would be accepted again. So such a
 key is refused; `--reuse-key` takes it all the same.";
+const NEW_NONCE: &str = "\
+Either `--counter` or `--nonce` is needed. A nonce must not repeat under one key: two messages would share keystream, and
+whoever sees both envelopes learns how the messages differ. So a counter that is not above the last one under this key in this
+state file is refused, and so is any nonce that was used before; no option takes it. Prints the tag of the start, which is the
+same at both ends if key and nonce are. With `--expect`, another tag is a `mismatch` with status 9, and nothing is started.";
+const IN_TURN: &str = "\
+The envelope is handed out once the state is safe, and kept in it: `resend` hands it out again. Agree on whose turn it is: two
+messages that both ends seal at once share keystream.";
 const SEALED_ONCE: &str =
     "The envelope is handed out once the state is safe, and kept in it: `resend` hands it out again.";
 const OPENED_ONCE: &str = "\
@@ -392,6 +420,69 @@ pub const COMMANDS: &[Command] = &[
         name: "show",
         words: "",
         about: "show the session",
+        options: &[STATE, JSON, WAIT, RESTORE],
+        more: "",
+    },
+    Command {
+        id: Id::SaneStart,
+        end: "sane",
+        name: "start",
+        words: "",
+        about: "start a session in SANE and its state file",
+        options: &[STATE, GROUP, KEY, COUNTER, NONCE, EXPECT, REPLACE, WAIT, RESTORE],
+        more: NEW_NONCE,
+    },
+    Command {
+        id: Id::SaneSeal,
+        end: "sane",
+        name: "seal",
+        words: "",
+        about: "seal a message for the other end into an envelope",
+        options: &[STATE, MESSAGE, METADATA, METADATA_TEXT, ENVELOPE_OUT, WAIT, RESTORE],
+        more: IN_TURN,
+    },
+    Command {
+        id: Id::SaneOpen,
+        end: "sane",
+        name: "open",
+        words: "",
+        about: "open an envelope that arrived from the other end",
+        options: &[STATE, IN, FROM, MESSAGE_OUT, METADATA_OUT, WAIT, RESTORE],
+        more: OPENED_ONCE,
+    },
+    Command {
+        id: Id::SaneResend,
+        end: "sane",
+        name: "resend",
+        words: "",
+        about: "hand out the last envelope again",
+        options: &[STATE, ENVELOPE_OUT, WAIT, RESTORE],
+        more: "",
+    },
+    Command {
+        id: Id::SaneReread,
+        end: "sane",
+        name: "reread",
+        words: "",
+        about: "hand out the last message again",
+        options: &[STATE, MESSAGE_OUT, METADATA_OUT, WAIT, RESTORE],
+        more: "",
+    },
+    Command {
+        id: Id::SaneForget,
+        end: "sane",
+        name: "forget",
+        words: "",
+        about: "remove the last message from the state file",
+        options: &[STATE, ENVELOPE, WAIT, RESTORE],
+        more: FORGOTTEN,
+    },
+    Command {
+        id: Id::SaneShow,
+        end: "sane",
+        name: "show",
+        words: "",
+        about: "show the session, its counter and its start's tag",
         options: &[STATE, JSON, WAIT, RESTORE],
         more: "",
     },

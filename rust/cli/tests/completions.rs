@@ -46,6 +46,12 @@ fn bash_offers_words_options_and_files() {
     assert_eq!(offered(&folder, &["of"]), ["office"]);
     assert_eq!(offered(&folder, &["office", "op"]), ["open-group", "open"]);
     assert_eq!(offered(&folder, &["group", "s"]), ["start", "seal", "show"]);
+    assert_eq!(offered(&folder, &["s"]), ["sane"]);
+    assert_eq!(offered(&folder, &["sane", "s"]), ["start", "seal", "show"]);
+    assert_eq!(offered(&folder, &["sane", "start", "--n"]), ["--nonce"]);
+    assert_eq!(offered(&folder, &["sane", "start", "--nonce", "of"]), ["office.state"]);
+    assert_eq!(offered(&folder, &["sane", "start", "--counter", ""]), [""; 0]);
+    assert_eq!(offered(&folder, &["sane", "--counter", "41", "sta"]), ["start"]);
     assert_eq!(offered(&folder, &["office", "seal", "--m"]), ["--message", "--metadata", "--metadata-text"]);
     assert_eq!(offered(&folder, &["office", "--state", "office.state", "da"]), ["day"]);
     assert_eq!(offered(&folder, &["office", "day", "--state", "of"]), ["office.state"]);
@@ -63,7 +69,7 @@ fn bash_offers_words_options_and_files() {
     assert_eq!(offered(&folder, &["office", "codes", "--packets", ""]), [""; 0]);
     assert_eq!(offered(&folder, &["group", "--format", "html", "co"]), ["codes"]);
     // The words of a command after `help`.
-    assert_eq!(offered(&folder, &["help", ""]), ["office", "group", "keygen", "demo", "help"]);
+    assert_eq!(offered(&folder, &["help", ""]), ["office", "group", "sane", "keygen", "demo", "help"]);
     assert_eq!(offered(&folder, &["help", "office", "op"]), ["open-group", "open"]);
     assert_eq!(offered(&folder, &["help", "office", "open", ""]), [""; 0]);
     // A value after `=`, which may be a word of its own.

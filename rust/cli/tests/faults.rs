@@ -122,6 +122,14 @@ const OFFICE_RESENDS: &str = "office --state office resend --group 5 --out envel
 const GROUP_RESENDS: &str = "group --state group resend --out envelope";
 const OFFICE_REREADS: &str = "office --state office reread --group 5 --out opened --metadata-out metadata";
 const GROUP_REREADS: &str = "group --state group reread --out opened --metadata-out metadata";
+/// The two ends of a session in SANE are the state files `sane` and `other`.
+const SANE_STARTS: &str = "sane --state sane start --group 5 --key new-key --counter 1";
+const OTHER_STARTS: &str = "sane --state other start --group 5 --key new-key --counter 1";
+const SANE_SEALS: &str = "sane --state sane seal --message text --metadata-text size --out envelope";
+const OTHER_SEALS: &str = "sane --state other seal --message text --metadata-text size --out envelope";
+const SANE_OPENS: &str = "sane --state sane open --in envelope --out opened --metadata-out metadata";
+const SANE_RESENDS: &str = "sane --state sane resend --out envelope";
+const SANE_REREADS: &str = "sane --state sane reread --out opened --metadata-out metadata";
 
 #[test]
 fn create_day_and_open() {
@@ -136,6 +144,23 @@ fn create_day_and_open() {
 fn start() {
     Case::new(&[], "new", "group --state new start --group 6 --key key").every_step();
     Case::new(&[GROUP_SEALS], "group", "group --state group start --group 5 --key new-key --replace").every_step();
+}
+
+/// A start in SANE that did not come to its end has used no counter up, and one that did has.
+#[test]
+fn sane_start() {
+    Case::new(&[], "sane", SANE_STARTS).every_step();
+    let replaces = "sane --state sane start --group 5 --key new-key --counter 2 --replace";
+    Case::new(&[SANE_STARTS, SANE_SEALS], "sane", replaces).every_step();
+}
+
+/// No message is sealed twice in SANE, where two of them would share keystream.
+#[test]
+fn sane_seal_and_open() {
+    Case::new(&[SANE_STARTS], "sane", SANE_SEALS).outputs(&["envelope"], SANE_RESENDS).every_step();
+    Case::new(&[SANE_STARTS, OTHER_STARTS, OTHER_SEALS], "sane", SANE_OPENS)
+        .outputs(&["opened", "metadata"], SANE_REREADS)
+        .every_step();
 }
 
 #[test]
@@ -175,6 +200,8 @@ fn resend_and_reread() {
         (&[], GROUP_SEALS, "group", GROUP_RESENDS, &["envelope"]),
         (&[GROUP_SEALS], OFFICE_OPENS, "office", OFFICE_REREADS, &["opened", "metadata"]),
         (&[OFFICE_SEALS], GROUP_OPENS, "group", GROUP_REREADS, &["opened", "metadata"]),
+        (&[SANE_STARTS], SANE_SEALS, "sane", SANE_RESENDS, &["envelope"]),
+        (&[SANE_STARTS, OTHER_STARTS, OTHER_SEALS], SANE_OPENS, "sane", SANE_REREADS, &["opened", "metadata"]),
     ] {
         let case = Case::new(prepare, state, line).outputs(outputs, "");
         // The step after the first commit.

@@ -17,7 +17,7 @@ fn every_command_has_a_help_text_and_a_place_in_the_manual() {
     let list = folder.done("--help");
     let lines = list.lines().filter_map(|line| line.strip_prefix("  pevghazo "));
     let titles: Vec<&str> = lines.filter_map(|line| Some(line.split_once("  ")?.0.trim())).collect();
-    assert_eq!(titles.len(), 24, "{list}");
+    assert_eq!(titles.len(), 31, "{list}");
     for title in titles {
         let help = folder.done(&format!("{title} --help"));
         assert!(help.starts_with(&format!("pevghazo {title}: ")), "{help}");
@@ -36,7 +36,7 @@ fn every_command_has_a_help_text_and_a_place_in_the_manual() {
         }
     }
     assert!(manual.contains("`--state FILE`") && manual.contains("`--wait SECONDS`"));
-    for end in ["office", "group"] {
+    for end in ["office", "group", "sane"] {
         let list = folder.done(&format!("{end} --help"));
         assert!(list.contains(&format!("pevghazo {end} seal ")), "{list}");
     }
@@ -57,7 +57,7 @@ fn the_manual_has_every_status() {
 #[test]
 fn a_wrong_command_line_says_where_help_is() {
     let folder = Folder::new();
-    for line in ["", "office", "group"] {
+    for line in ["", "office", "group", "sane"] {
         assert!(folder.fails(2, line).contains("Which command?"), "{line}");
     }
     for line in ["nothing", "office nothing", "office show --nothing", "office show --mark 3 --state f"] {

@@ -72,6 +72,8 @@ fn no_secret_is_in_memory_when_a_command_ends() {
     let message = b"the ring numbers 20001 to 20100 and others";
     folder.write("text", message);
     folder.write("new-key", b"another quite secret key of group 5");
+    folder.done("sane --state sane start --group 5 --key key --counter 1");
+    folder.done("sane --state other start --group 5 --key new-key --counter 2");
     let known = memory_at_end(&folder, "office --state office show");
     if known.is_empty() {
         eprintln!("not tried: this system does not let the test read another program's memory");
@@ -94,6 +96,14 @@ fn no_secret_is_in_memory_when_a_command_ends() {
         ("office --state office open-group --group 5 --key new-key --replace", "office", 8 + 5 * 102),
         ("group --state group start --group 5 --key new-key --replace", "group", 12),
         ("group --state group show --json", "group", 12),
+        ("sane --state sane start --group 5 --key new-key --counter 2 --replace", "sane", 12),
+        ("sane --state sane seal --message text --out to-other", "sane", 12),
+        ("sane --state other open --in to-other --out opened-there", "other", 12),
+        ("sane --state other reread --out -", "other", 12),
+        ("sane --state other seal --message text --out to-sane", "other", 12),
+        ("sane --state sane open --in to-sane --out opened-here", "sane", 12),
+        ("sane --state sane forget", "sane", 12),
+        ("sane --state sane show --json", "sane", 12),
     ] {
         let before = lanes(&folder, state, place);
         let areas = memory_at_end(&folder, line);

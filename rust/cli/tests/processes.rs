@@ -46,6 +46,21 @@ fn two_processes_seal_at_once() {
     assert_eq!(next, [EACH, EACH]);
 }
 
+/// Two processes start with one counter at the same time: one has it.
+#[test]
+fn two_processes_start_with_one_counter() {
+    let folder = Folder::new();
+    folder.write("key", b"the secret key of group 5");
+    for counter in 0..8 {
+        let replace = if counter == 0 { "" } else { " --replace" };
+        let line = format!("sane start --state sane --group 5 --key key --counter {counter}{replace}");
+        let children = [(); 2].map(|()| folder.command(&line).spawn().unwrap());
+        let mut statuses = children.map(|child| Run::from(child.wait_with_output().unwrap()).status);
+        statuses.sort();
+        assert_eq!(statuses, [0, if counter == 0 { 3 } else { 7 }], "{counter}");
+    }
+}
+
 /// An office and a group seal at the same time to one output: one says done, the other is refused, and nothing is lost.
 #[test]
 fn two_processes_seal_to_one_output() {

@@ -15,8 +15,8 @@ const SENTENCES: [(i32, &str); 10] = [
     (3, "There is no such group: groups are numbered 0 to 31."),
     (4, "The key must have 16 to 47 bytes."),
     (5, "The session is not open."),
-    (6, "The metadata or the message has more than 16,384 bytes."),
-    (9, "The session is full: start a new one with a new key."),
+    (6, "The metadata, the message or the nonce has more than 16,384 bytes."),
+    (9, "The session is full: start a new one with a new key, or in SANE with a new nonce."),
     (10, "The day's allowance does not cover this call."),
     (
         11,
@@ -319,9 +319,10 @@ fn any_content_of_a_state_file_is_taken_or_refused() {
     let state = |name: &str| {
         Store::open(folder.0.join(name), Presence::MustExist, Wait::Never).unwrap().bytes().unwrap().to_vec()
     };
-    let good = [state("group"), state("office")];
+    folder.done("sane --state sane start --group 5 --key key --counter 1");
+    let good = [state("group"), state("office"), state("sane")];
     let mut random = pevghazo_reference::random::Random::new(7);
-    for (name, good) in ["group", "office"].into_iter().zip(good) {
+    for (name, good) in ["group", "office", "sane"].into_iter().zip(good) {
         for turn in 0..30 {
             let mut bytes = good.clone();
             match turn % 3 {
@@ -338,17 +339,22 @@ fn any_content_of_a_state_file_is_taken_or_refused() {
             store.commit(&bytes).unwrap();
             drop(store);
             let group = if name == "office" { " --group 5" } else { "" };
-            for command in [
+            let mut commands = vec![
                 "show".to_string(),
                 format!("seal --message text --out /dev/null{group}"),
                 "open --in in --out /dev/null".to_string(),
                 format!("resend --out /dev/null{group}"),
                 format!("reread --out /dev/null{group}"),
-                format!("codes --packets 0-24 --format html{group}"),
-                format!("check-code --packet 7 {CODE}{group}"),
-            ] {
+            ];
+            if name == "sane" {
+                commands.push("start --group 5 --key key --counter 2 --replace".to_string());
+            } else {
+                commands.push(format!("codes --packets 0-24 --format html{group}"));
+                commands.push(format!("check-code --packet 7 {CODE}{group}"));
+            }
+            for command in commands {
                 let run = folder.run(&format!("{name} --state {name} {command}"));
-                assert!([0, 3, 5, 6, 9].contains(&run.status) || (11..=22).contains(&run.status), "{run:?}");
+                assert!([0, 3, 5, 6, 7, 9].contains(&run.status) || (11..=22).contains(&run.status), "{run:?}");
             }
         }
     }
@@ -461,9 +467,11 @@ fn keys_that_others_may_read_are_refused() {
     let folder = Folder::pair(5);
     for mode in [0o640, 0o604, 0o622, 0o644] {
         fs::set_permissions(folder.0.join("key"), Permissions::from_mode(mode)).unwrap();
-        for line in
-            ["office --state office open-group --group 6 --key key", "group --state g start --group 6 --key key"]
-        {
+        for line in [
+            "office --state office open-group --group 6 --key key",
+            "group --state g start --group 6 --key key",
+            "sane --state g start --group 6 --key key --counter 1",
+        ] {
             let said = folder.fails(4, line);
             assert_eq!(said, "pevghazo: Others may read or write the key file key: take that away with chmod 600.\n");
         }

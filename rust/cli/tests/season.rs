@@ -145,6 +145,24 @@ fn the_independent_implementation_understands_it() {
     assert!(shown.contains(&format!("group 17: index {:7}, ", other.index)), "{shown}");
 }
 
+/// The demo's session in SANE, beside the independent implementation.
+fn demo_in_sane(shown: &str) {
+    let mut tag = [0; 16];
+    let key = b"a fixed key, for the demo, of group 19";
+    let (mut session, _) = session::SaneSession::start(key, &1u64.to_le_bytes(), &mut tag).unwrap();
+    let tag = common::grouped(&tag.map(|byte| format!("{byte:02x}")).concat());
+    assert_eq!(shown.matches(&format!("  the office: tag {tag}\n")).count(), 1, "{shown}");
+    assert_eq!(shown.matches(&format!("  group 19:   tag {tag}\n")).count(), 1, "{shown}");
+    for text in ["K 801 to K 820", "K 817 to K 820"] {
+        assert_eq!(shown.matches(&format!(" is opened as \"{text}\"\n")).count(), 1, "{shown}");
+        session.wrap(b"rings", text.as_bytes(), &mut [0; 14], &mut [0; 16]).unwrap();
+    }
+    let line = format!("  group 19: open, index {:7}, toggle 0, ", session.index);
+    assert_eq!(shown.matches(&line).count(), 1, "{shown}");
+    assert!(shown.contains(&format!("  mode SANE, counter 1, tag {tag}\n")), "{shown}");
+    assert_eq!(shown.matches("The counter 1 is not above 1, ").count(), 1, "{shown}");
+}
+
 #[test]
 fn the_demo_plays_a_season() {
     let folder = Folder::new();
@@ -159,7 +177,7 @@ fn the_demo_plays_a_season() {
             assert!(line.contains(&format!("group {group:2}")), "{line}");
         }
     }
-    assert_eq!(shown.matches("Refused, number 11: ").count(), 3, "{shown}");
+    assert_eq!(shown.matches("Refused, number 11: ").count(), 4, "{shown}");
     assert_eq!(shown.matches("This is for group 4, and the state file is that of group 27.").count(), 1, "{shown}");
     // 3 openings; 6 messages and 2 refused arrivals at the office of 1 + 1 + 4 + 1 permutations each.
     assert!(shown.contains("day: count 59 of allowance 200\n"), "{shown}");
@@ -174,6 +192,7 @@ fn the_demo_plays_a_season() {
     }
     assert!(shown.contains("  the office checks the code of packet 0: match\n"), "{shown}");
     assert!(shown.contains("      This is not the code of packet 1 of group 4 at index 4. "), "{shown}");
+    demo_in_sane(&shown);
     assert_eq!(folder.done("demo"), shown, "every run prints the same");
     assert_eq!(folder.names(), [""; 0], "nothing is left behind");
 }

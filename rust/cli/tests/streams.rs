@@ -34,6 +34,8 @@ fn a_closed_standard_input_or_output_is_refused() {
         ("exec >&-", "group --state group codes --packets 7", "write to standard output"),
         ("exec >&-", "group --state group codes --packets 7 --format csv --out -", "write to standard output"),
         ("exec >&-", CHECK, "write to standard output"),
+        ("exec >&-", "sane --state new start --group 5 --key key --counter 1", "write to standard output"),
+        ("exec <&-", "sane --state new start --group 5 --key key --nonce -", "read standard input"),
         ("exec >&-", "--help", "write to standard output"),
         // Open, but not for this.
         ("exec 0>/dev/null", "group --state group seal --message - --out out", "read standard input"),
@@ -101,6 +103,7 @@ fn results_are_for_scripts_and_progress_is_for_terminals() {
             "group --state group codes --packets 0-2 --out codes",
             "Listed the codes of packets 0 to 2 of group 5 at index ",
         ),
+        ("sane --state sane start --group 5 --key key --counter 1 > tag", "A session in SANE has started for group 5."),
     ] {
         let mut command = Command::new("script");
         command.args(["-qec", &format!("{PROGRAM} {line}"), "/dev/null"]).current_dir(&folder.0);

@@ -1,10 +1,10 @@
 //! Sealing of ring numbers: safe bindings of the proved library.
 //!
 //! An office and a group share a key, and each end holds a [`Session`] under it. *Wrapping* turns *metadata*, which travel in
-//! the clear, and a *message* into a *cryptogram* of the message's length and a *tag* of 32 bytes; *unwrapping* turns them
-//! back, or refuses. Every tag covers all messages of the session so far, those of both directions, so a message that is
-//! damaged, repeated, out of order or meant for somebody else is refused, and the session goes on as it was. *Sealing* wraps a
-//! message into an *envelope*, the bytes in which it travels, and *opening* unwraps one.
+//! the clear, and a *message* into a *cryptogram* of the message's length and a *tag*; *unwrapping* turns them back, or refuses.
+//! Every tag covers all messages of the session so far, those of both directions, so a message that is damaged, repeated, out of
+//! order or meant for somebody else is refused, and the session goes on as it was. *Sealing* wraps a message into an
+//! *envelope*, the bytes in which it travels, and *opening* unwraps one.
 //!
 //! ```
 //! use pevghazo::{Plain, Session, Table};
@@ -22,6 +22,9 @@
 //! # }
 //! ```
 //!
+//! There are two modes. A [`Session`] is in Xoofff-SANSE and needs nothing but the key. A [`SaneSession`] is in Xoofff-SANE: it
+//! starts with a *nonce* that must not repeat under one key, so it is for ends that keep a counter.
+//!
 //! | what | where |
 //! |---|---|
 //! | one end of a session, as a group holds it | [`Session`] |
@@ -34,9 +37,9 @@
 //! | the C interface itself, on slices | [`raw`] |
 //!
 //! All work is done by the C library, whose functions are proved to meet their definitions for all bytes. This crate adds types:
-//! a session cannot be copied by accident, a tag has its mode's length, a table has 32 sessions. It also sees to memory: sessions, tables
-//! and their stored bytes are set to zero when they are dropped, and after each call the stack that it used is overwritten.
-//! Messages and keys are the caller's: [`wipe`] sets them to zero.
+//! a session cannot be copied by accident, a tag has its mode's length, a table has 32 sessions. It also sees to memory:
+//! sessions, tables and their stored bytes are set to zero when they are dropped, and after each call the stack that it used is
+//! overwritten. Messages and keys are the caller's: [`wipe`] sets them to zero.
 //!
 //! The build looks for the library in the folder that `PEVGHAZO_LIB_DIR` names (`libpevghazo.a` or `libcapi.a`); then in the
 //! repository that the crate stands in, where `make lib` makes it; then with `pkg-config`, which finds an installed one.

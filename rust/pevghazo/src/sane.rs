@@ -12,18 +12,24 @@ use crate::{SANE_TAG_LENGTH, SaneTag};
 
 /// One end of a session under a key and a nonce, in Xoofff-SANE.
 ///
-/// It is for groups that keep a reliable counter: a message is taken in once, where a [`Session`](crate::Session) takes it in
-/// twice, and a tag has 16 bytes. In return **a nonce must not repeat under one key**. The keystream of a message comes from
-/// key, nonce and the messages before it, not from the message itself. So two sessions that start with one key and one nonce
-/// have one keystream for their first messages, and who sees both cryptograms knows the sum of the two messages. The same
-/// happens
+/// It is for ends that keep a reliable counter, since **a nonce must not repeat under one key**. Its keystream does not wait for
+/// the tag, so that one pass over a message is enough where a [`Session`](crate::Session) needs two, and its tag has 16 bytes
+/// instead of 32.
 ///
-/// - where both ends seal at once from one state: in SANE the ends agree who seals next;
+/// Why: the keystream that hides a message comes from the key, the nonce and the messages before it, and not from the message
+/// itself. Two messages with one keystream give away their sum to anybody who sees the two cryptograms, and often enough both
+/// texts. One keystream is used twice
+///
+/// - where two sessions start with one key and one nonce: for the first message in which they differ;
+/// - where both ends seal at once, from one state: the ends have to agree on who seals next;
 /// - where a session is read back from a stored copy that is not the newest, and seals again.
 ///
-/// A nonce has 0 to 16,384 bytes and is no secret. A counter that only grows and is kept where it survives a restart will do.
+/// None of these is refused. So the nonce, of 0 to 16,384 bytes and no secret, is a counter that only grows, and that is
+/// written down before the session is used. Who has no such counter uses a [`Session`](crate::Session), where none of the three
+/// shares keystream.
 ///
-/// Apart from that its calls are those of a [`Session`](crate::Session). Its envelopes have the letter N.
+/// Its calls are those of a [`Session`](crate::Session), without codes. Its envelopes have the letter N, and it does not stand
+/// in a [`Table`](crate::Table).
 ///
 /// ```
 /// use pevghazo::{Arrival, Plain, SaneSession};
@@ -33,7 +39,7 @@ use crate::{SANE_TAG_LENGTH, SaneTag};
 /// let counter = 41_u64.to_le_bytes();
 /// let (mut office, tag, count) = SaneSession::start(key, &counter)?;
 /// let (mut group, same_tag, _) = SaneSession::start(key, &counter)?;
-/// // The start's tag shows each end that the other has the same key and nonce.
+/// // A start's tag that is the same at both ends shows that they share key and nonce.
 /// assert_eq!((tag, count), (same_tag, 4));
 ///
 /// let wrapped = office.wrap(&Plain { metadata: b"size C", message: b"12001-12100" })?;

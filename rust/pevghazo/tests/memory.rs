@@ -9,12 +9,14 @@ use std::fs::{self, File};
 use std::os::unix::fs::FileExt;
 use std::process::Command;
 
-use pevghazo::{Arrival, Plain, Session, Table};
+use pevghazo::{Arrival, Plain, SaneSession, Session, Table};
 use pevghazo_reference::deck::p;
 use pevghazo_reference::rolling::{roll_input, roll_output};
-use pevghazo_reference::session::Session as Reference;
+use pevghazo_reference::session::{SaneSession as SaneReference, Session as Reference};
+use pevghazo_reference::xoodoo::State;
 
 const KEY: &[u8] = b"a key for the memory's test";
+const NONCE: &[u8] = b"a nonce of more than one block, which is no secret: 41";
 const METADATA: &[u8] = b"size C";
 const GROUP: u32 = 7;
 const PACKET: u32 = 2;
@@ -25,24 +27,55 @@ fn messages() -> [Vec<u8>; 3] {
     [vec![], vec![0x31; 40], vec![0x32; 400]]
 }
 
-/// All lanes of mask and accumulator from the start to the last message, also those of the masks in between, and those of the
-/// states that the packet's code is made from, which would give these away.
+/// All lanes of mask and accumulator from the start to the last message in either mode, also those of the masks in between, and
+/// those of the states that outputs are made from, which would give these away.
 fn lanes() -> BTreeSet<u32> {
+    let states = sanse_states().into_iter().chain(sane_states());
+    // Small numbers and runs of one byte stand in memory for other reasons.
+    states.flatten().filter(|lane| *lane > 0xFFFF && lane.to_le_bytes() != [*lane as u8; 4]).collect()
+}
+
+/// The states in SANSE; of outputs those of the packet's code.
+fn sanse_states() -> Vec<State> {
     let mut session = Reference::start(KEY).unwrap();
-    let mut states = vec![session.mask];
+    let mut states = Vec::new();
     for message in messages() {
         session.wrap(METADATA, &message, &mut vec![0; message.len()], &mut [0; 32]).unwrap();
-        let first = p(&session.accumulator);
-        let second = roll_output(&first);
-        states.extend([session.accumulator, session.mask, first, second, p(&second)]);
+        states.push(session.accumulator);
+        states.extend(output_states(&session.accumulator, 2));
     }
-    let mut mask = states[0];
-    while mask != session.mask {
-        mask = roll_input(&mask);
-        states.push(mask);
+    states.extend(masks(&session.mask));
+    states
+}
+
+/// The states in SANE; of outputs those of tags and keystreams.
+fn sane_states() -> Vec<State> {
+    let (mut session, _) = SaneReference::start(KEY, NONCE, &mut [0; 16]).unwrap();
+    let mut states = Vec::new();
+    for message in messages() {
+        states.push(session.accumulator);
+        states.extend(output_states(&session.accumulator, (message.len() + 16).div_ceil(48)));
+        session.wrap(METADATA, &message, &mut vec![0; message.len()], &mut [0; 16]).unwrap();
     }
-    // Small numbers and runs of one byte stand in memory for other reasons.
-    states.into_iter().flatten().filter(|lane| *lane > 0xFFFF && lane.to_le_bytes() != [*lane as u8; 4]).collect()
+    states.push(session.accumulator);
+    states.extend(output_states(&session.accumulator, 1));
+    states.extend(masks(&session.mask));
+    states
+}
+
+/// The states that so many blocks of output are made from.
+fn output_states(accumulator: &State, blocks: usize) -> Vec<State> {
+    let rolled = std::iter::successors(Some(p(accumulator)), |state| Some(roll_output(state)));
+    rolled.take(blocks).flat_map(|state| [state, p(&state)]).collect()
+}
+
+/// The key's mask and those after it, up to this one.
+fn masks(last: &State) -> Vec<State> {
+    let mut masks = vec![Reference::start(KEY).unwrap().mask];
+    while masks.last() != Some(last) {
+        masks.push(roll_input(&masks[masks.len() - 1]));
+    }
+    masks
 }
 
 #[test]
@@ -131,6 +164,7 @@ fn child() {
     let mut memory = Memory::new();
     memory.nothing("before the first call");
     lone(&mut memory);
+    sane(&mut memory);
     table(&mut memory);
     println!("memory looked through");
 }
@@ -167,6 +201,39 @@ fn lone(memory: &mut Memory) {
     }
     drop(session);
     memory.nothing("after the end of a second session");
+}
+
+/// The same in SANE.
+fn sane(memory: &mut Memory) {
+    let mut sent = Vec::new();
+    let (mut session, _, _) = SaneSession::start(KEY, NONCE).unwrap();
+    memory.one_record("after start in SANE");
+    for message in messages() {
+        sent.push(session.seal(GROUP, &Plain { metadata: METADATA, message: &message }).unwrap().envelope);
+        memory.one_record("after sealing in SANE");
+    }
+    drop(session);
+    memory.nothing("after the end of a session in SANE");
+
+    let (mut session, _, _) = SaneSession::start(KEY, NONCE).unwrap();
+    for envelope in &sent {
+        let mut damaged = envelope.clone();
+        *damaged.last_mut().unwrap() ^= 1;
+        assert!(session.open(&damaged).is_err());
+        memory.one_record("after a refused opening in SANE");
+        let _ = session.open(envelope).unwrap();
+        memory.one_record("after opening in SANE");
+        let moved = Box::new(session);
+        session = *moved;
+        let bytes = session.to_bytes();
+        drop(session);
+        memory.one_record("while it is stored in SANE");
+        session = SaneSession::from_bytes(&bytes).unwrap();
+        drop(bytes);
+        memory.one_record("after storing and loading in SANE");
+    }
+    drop(session);
+    memory.nothing("after the end of a second session in SANE");
 }
 
 /// The same for a group of a table.

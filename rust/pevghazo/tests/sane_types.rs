@@ -113,7 +113,7 @@ fn refusals_of_a_session() {
     assert_eq!(closed.unwrap(&forged).unwrap_err(), refused(Number::NotOpen));
 }
 
-/// A call with an empty message counts b(A) + 2, any other a + b(M) + 3 + ceiling((M + 16) / 48), where a is b(A), or 0 for empty A.
+/// A call with empty M counts b(A) + 2, any other a + b(M) + 3 + ceiling((M + 16) / 48), where a is b(A), or 0 for empty A.
 #[test]
 fn counts_of_messages() {
     let counts = [(0, 0, 3), (48, 0, 4), (0, 1, 5), (0, 32, 5), (0, 33, 6), (20, 48, 8), (TEXT_MAX, TEXT_MAX, 1_029)];

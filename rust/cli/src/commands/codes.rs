@@ -6,7 +6,7 @@ use std::io::Write;
 use pevghazo::{BadCode, Code, Refusal};
 
 use crate::arguments::Arguments;
-use crate::end::End;
+use crate::end::Codes;
 use crate::failure::Failure;
 use crate::labels::Labels;
 use crate::output::{Output, Time, print, tell};
@@ -14,7 +14,7 @@ use crate::state_file::Used;
 use crate::table::FORMATS;
 
 /// Lists the codes of a range of packets, all or none.
-pub fn codes<E: End>(arguments: &Arguments, out: &mut dyn Write) -> Result<(), Failure> {
+pub fn codes<E: Codes>(arguments: &Arguments, out: &mut dyn Write) -> Result<(), Failure> {
     let packets = arguments.required_range("packets")?;
     let format = arguments.word("format", &FORMATS)?.unwrap_or(FORMATS[0]);
     let used = Used::<E>::open(arguments)?;
@@ -32,7 +32,7 @@ pub fn codes<E: End>(arguments: &Arguments, out: &mut dyn Write) -> Result<(), F
 }
 
 /// Checks a code that was read off a packet.
-pub fn check<E: End>(arguments: &Arguments, out: &mut dyn Write) -> Result<(), Failure> {
+pub fn check<E: Codes>(arguments: &Arguments, out: &mut dyn Write) -> Result<(), Failure> {
     let packet = arguments.required_number("packet")?;
     let read = read_code(arguments.required("code")?)?;
     let used = Used::<E>::open(arguments)?;

@@ -8,7 +8,7 @@ use std::io::{Write, stderr};
 use std::os::unix::ffi::OsStrExt;
 use std::path::Path;
 
-use pevghazo::{Number, envelope};
+use pevghazo::{Number, Refusal, envelope};
 use pevghazo_store::{Secret, shown};
 
 use crate::arguments::Arguments;
@@ -35,7 +35,7 @@ pub fn seal<E: End>(arguments: &Arguments, out: &mut dyn Write) -> Result<(), Fa
         )));
     }
     output.must_be_new()?;
-    let bytes = used.state.seal(group, &metadata, &message)?;
+    let bytes = used.state.seal(group, &metadata, &message).map_err(refused::<E>)?;
     let length = bytes.len();
     used.state.kept(group)?.envelope = Some(Held::waiting(bytes));
     used.commit().map_err(|error| kept_envelope::<E>(group, arguments, error.into()))?;
@@ -51,6 +51,9 @@ pub fn open<E: End>(arguments: &Arguments, out: &mut dyn Write) -> Result<(), Fa
     let mut used = Used::<E>::open(arguments)?;
     let outputs = message_outputs(arguments, &used)?;
     let arrival = envelope::read(&bytes)?;
+    if arrival.letter != E::LETTER {
+        return Err(Failure::OtherLetter(arrival.letter));
+    }
     let group = arrival.group;
     used.state.takes(group)?;
     if waits(&used.state.kept(group)?.message) {
@@ -65,9 +68,9 @@ pub fn open<E: End>(arguments: &Arguments, out: &mut dyn Write) -> Result<(), Fa
         Err(refusal) if refusal.number == Number::WrongTag => {
             // The office's count of the day has grown.
             used.commit_if_altered().map_err(|error| Failure::NotCounted(refusal, error))?;
-            return Err(refusal.into());
+            return Err(refused::<E>(refusal));
         }
-        Err(refusal) => return Err(refusal.into()),
+        Err(refusal) => return Err(refused::<E>(refusal)),
     };
     let length = text.len();
     let kept = used.state.kept(group)?;
@@ -86,6 +89,11 @@ pub fn open<E: End>(arguments: &Arguments, out: &mut dyn Write) -> Result<(), Fa
     }
     report(&result, outputs.are_standard(), out);
     Ok(())
+}
+
+/// A refusal by a session of this end.
+fn refused<E: End>(refusal: Refusal) -> Failure {
+    Failure::Refused(refusal, E::LETTER)
 }
 
 /// Prints what a script needs to know: on the standard output, or on the standard error where the other is taken or fails.
@@ -198,11 +206,16 @@ fn hand_out_message<E: End>(
 
 /// The command that hands something out again, as it is typed; only the output is left to choose.
 pub fn again<E: End>(command: &str, group: u32, arguments: &Arguments) -> String {
+    let option = if E::NAME == ENDS[0] { format!(" --group {group}") } else { String::new() };
+    format!("{}{option} --out FILE", typed::<E>(command, arguments))
+}
+
+/// Another command on the same state file, as it is typed.
+pub fn typed<E: End>(command: &str, arguments: &Arguments) -> String {
     let state = quoted(arguments.value("state").unwrap_or_default());
     // A name that starts with dashes would be taken for an option.
     let state = if state.starts_with('-') { format!("--state={state}") } else { format!("--state {state}") };
-    let option = if E::NAME == ENDS[0] { format!(" --group {group}") } else { String::new() };
-    format!("pevghazo {} {command} {state}{option} --out FILE", E::NAME)
+    format!("pevghazo {} {command} {state}", E::NAME)
 }
 
 /// A name as a shell takes it, without control characters.
@@ -234,7 +247,7 @@ fn kept_message<E: End>(group: u32, arguments: &Arguments, source: Failure) -> F
 }
 
 /// The failure to hand out something that is kept, unless the state that keeps it was not committed at all.
-fn kept(what: &'static str, command: String, source: Failure) -> Failure {
+pub fn kept(what: &'static str, command: String, source: Failure) -> Failure {
     match source {
         Failure::State(error) if !error.is_committed() => Failure::State(error),
         source => Failure::Kept { what, command, source: Box::new(source) },

@@ -3,11 +3,11 @@
 mod codes;
 mod demo;
 mod forget;
-mod group;
 mod keygen;
 mod messages;
 mod office;
 mod show;
+mod start;
 
 use std::io::Write;
 
@@ -15,7 +15,7 @@ use crate::arguments::Arguments;
 use crate::failure::Failure;
 use crate::help;
 use crate::output::print;
-use crate::state::{Group, Office};
+use crate::state::{Group, Office, Sane};
 use crate::table::{Command, Id};
 
 /// Runs a command; `out` is the standard output.
@@ -33,7 +33,7 @@ pub fn run(command: &Command, arguments: &Arguments, out: &mut dyn Write) -> Res
         Id::OfficeCodes => codes::codes::<Office>(arguments, out),
         Id::OfficeCheckCode => codes::check::<Office>(arguments, out),
         Id::OfficeShow => show::office(arguments, out),
-        Id::GroupStart => group::start(arguments),
+        Id::GroupStart => start::group(arguments),
         Id::GroupSeal => messages::seal::<Group>(arguments, out),
         Id::GroupOpen => messages::open::<Group>(arguments, out),
         Id::GroupResend => messages::resend::<Group>(arguments, out),
@@ -42,6 +42,13 @@ pub fn run(command: &Command, arguments: &Arguments, out: &mut dyn Write) -> Res
         Id::GroupCodes => codes::codes::<Group>(arguments, out),
         Id::GroupCheckCode => codes::check::<Group>(arguments, out),
         Id::GroupShow => show::group(arguments, out),
+        Id::SaneStart => start::sane(arguments, out),
+        Id::SaneSeal => messages::seal::<Sane>(arguments, out),
+        Id::SaneOpen => messages::open::<Sane>(arguments, out),
+        Id::SaneResend => messages::resend::<Sane>(arguments, out),
+        Id::SaneReread => messages::reread::<Sane>(arguments, out),
+        Id::SaneForget => forget::forget::<Sane>(arguments),
+        Id::SaneShow => show::sane(arguments, out),
         Id::Keygen => keygen::keygen(arguments, out),
         Id::Demo => demo::run(out, run),
         Id::Help => print(out, &help::list("")),

@@ -3,13 +3,15 @@
 use std::fmt::Write as _;
 use std::io::Write;
 
-use pevghazo::GROUPS;
+use pevghazo::{GROUPS, SaneSession, Session};
 
 use crate::arguments::Arguments;
 use crate::failure::Failure;
 use crate::output::print;
-use crate::state::{Group, Held, Kept, Office};
+use crate::starts::Starts;
+use crate::state::{Held, Kept, Lone, Mode, Office};
 use crate::state_file::Used;
+use crate::tag::StartTag;
 
 /// What is shown of one session.
 struct Shown<'a> {
@@ -77,15 +79,39 @@ pub fn office(arguments: &Arguments, out: &mut dyn Write) -> Result<(), Failure>
 
 /// Shows a group's session.
 pub fn group(arguments: &Arguments, out: &mut dyn Write) -> Result<(), Failure> {
-    let used = Used::<Group>::open(arguments)?;
-    let Group { group, session, kept, keys } = &used.state;
+    lone::<Session>(arguments, out, |_| String::new(), |keys| format!(r#""keys":{}"#, keys.count()))
+}
+
+/// Shows a session in SANE, and how it was started.
+pub fn sane(arguments: &Arguments, out: &mut dyn Write) -> Result<(), Failure> {
+    let tag = |starts: &Starts| StartTag::from(starts.tag());
+    let line = |starts: &Starts| {
+        let nonce = starts.counter().map_or("nonce of a file".to_string(), |counter| format!("counter {counter}"));
+        format!("mode SANE, {nonce}, tag {}\n", tag(starts))
+    };
+    let members = |starts: &Starts| {
+        let counter = starts.counter().map_or("null".to_string(), |counter| counter.to_string());
+        format!(r#""keys":{},"mode":"sane","counter":{counter},"tag":"{}""#, starts.keys(), tag(starts))
+    };
+    lone::<SaneSession>(arguments, out, line, members)
+}
+
+/// Shows a lone session, and what is to be said of its start: a line for people, and members of the JSON object for scripts.
+fn lone<S: Mode>(
+    arguments: &Arguments,
+    out: &mut dyn Write,
+    line: impl Fn(&S::Starts) -> String,
+    members: impl Fn(&S::Starts) -> String,
+) -> Result<(), Failure> {
+    let used = Used::<Lone<S>>::open(arguments)?;
+    let Lone { group, session, kept, starts } = &used.state;
     let shown =
         Shown { group: *group, is_open: session.is_open(), index: session.index(), toggle: session.toggle(), kept };
     let text = if arguments.has("json") {
-        format!("{{\"commit\":{},\"keys\":{},{}}}\n", used.generation(), keys.count(), shown.members())
+        format!("{{\"commit\":{},{},{}}}\n", used.generation(), members(starts), shown.members())
     } else {
         let open = if shown.is_open { "open" } else { "closed" };
-        format!("group {group:2}: {open}, {}\n", shown.line())
+        format!("group {group:2}: {open}, {}\n{}", shown.line(), line(starts))
     };
     print(out, &text)
 }

@@ -1,8 +1,8 @@
 //! The calls of `include/pevghazo.h`, one to one, on slices. All of the crate's `unsafe` is in this folder, whose files are
 //! those of the header.
 //!
-//! Programs use [`Session`](crate::Session), [`SaneSession`](crate::SaneSession) and [`Table`](crate::Table). What is here answers with the library's own numbers
-//! and takes tags and tables of any length, which the tests need.
+//! Programs use [`Session`](crate::Session), [`SaneSession`](crate::SaneSession) and [`Table`](crate::Table). What is here answers
+//! with the library's own numbers and takes tags and tables of any length, which the tests need.
 //!
 //! Each call hands over the pointers and lengths of slices and references, so they are not null and hold what the types say;
 //! an altered one is borrowed alone, so it overlaps no other. That is all that the header asks for. After a call on records

@@ -6,7 +6,7 @@ use super::Answer;
 use super::session::overwrite;
 use super::stack::clear_stack;
 
-/// The record of a session in SANE, with the fields of a [`Record`](super::Record). It is as secret as one, and its memory is set to
+/// The record of a session in SANE, with the fields of a [`Record`](super::Record). It is as secret, and its memory is set to
 /// zero when it is dropped; one that is moved leaves its old memory as it was, so [`SaneSession`](crate::SaneSession) keeps its
 /// own in a box.
 ///
@@ -71,8 +71,8 @@ unsafe extern "C" {
     ) -> Answer;
 }
 
-/// Starts a session in this record, and fills `tag` with the start's tag. Checks 4, 6 (for the nonce) and 7; a refused start closes
-/// the record, the session that it held is lost, and `tag` stays as it was.
+/// Starts a session in this record, and fills `tag` with the start's tag. Checks 4, 6 (for the nonce) and 7; a refused start
+/// closes the record, and the session that it held is lost, but `tag` stays as it was.
 pub fn sane_start(session: &mut SaneRecord, key: &[u8], nonce: &[u8], tag: &mut [u8]) -> Answer {
     // SAFETY: see the module's head.
     let answer = unsafe {
