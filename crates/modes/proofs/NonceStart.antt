@@ -17,7 +17,7 @@ use Rattle.deck.proofs.Strings.{blocks-is}
 use Rattle.deck.proofs.Incremental.{fromScratch-more, output-fromScratch}
 use Rattle.modes.specs.Mode.{incremental, tagOf, saneParameters}
 use Rattle.modes.specs.PaperSane.{saneOpens, saneOpeningTag}
-use Rattle.modes.specs.Rules.{SessionState, NonceOpening, nonceCheck, nonceSession, nonceOpening, nonceStartAt, newSession}
+use Rattle.modes.specs.Rules.{SessionState, NonceOpening, keyFits, nonceCheck, nonceSession, nonceOpening, nonceStartAt, newSession}
 use Rattle.modes.specs.OneCall.{sessionOf}
 use Rattle.modes.specs.NonceStart.{NonceAccepted, nonceRefused, Nonce4, Nonce6, Nonce7, NonceFits, NonceExactly}
 use Rattle.modes.proofs.PapersSane.{first16-is}
@@ -64,7 +64,7 @@ module _ (key nonce tag : List ℕ) where
   not4 a b (inl h) = omega arith
   not4 a b (inr h) = omega arith
 
-  first-check : First (nonceCheck 16 key (length nonce) (length tag))
+  first-check : First (nonceCheck (keyFits key) 16 (length nonce) (length tag))
   first-check = go (leb 16 (length key)) (leb (length key) 47) (ltb 16384 (length nonce)) (eqb (length tag) 16) refl refl refl refl
     where
       go : (p q r s : Bool) → leb 16 (length key) ≡ p → leb (length key) 47 ≡ q → ltb 16384 (length nonce) ≡ r → eqb (length tag) 16 ≡ s
@@ -143,12 +143,12 @@ module _ (key nonce tag : List ℕ) where
 
   pub nonce-exactly : NonceExactly key nonce tag (nonceStartAt saneParameters key nonce tag)
   unfolding nonceStartAt
-  nonce-exactly = by-first (nonceCheck 16 key (length nonce) (length tag)) first-check
+  nonce-exactly = by-first (nonceCheck (keyFits key) 16 (length nonce) (length tag)) first-check
 
   -- the claim leaves nothing open
   pub nonce-decided : (o : NonceOpening) → NonceExactly key nonce tag o → o ≡ nonceStartAt saneParameters key nonce tag
   unfolding nonceStartAt
-  nonce-decided o c = go (nonceCheck 16 key (length nonce) (length tag)) first-check
+  nonce-decided o c = go (nonceCheck (keyFits key) 16 (length nonce) (length tag)) first-check
     where
       stopped : (n : ℕ) → o .number ≡ suc n → o ≡ opening (suc n)
       stopped n e = c .refused (λ z. omega arith) ∙ ap (λ (n : ℕ). nonceRefused tag n) e

@@ -162,9 +162,10 @@ pub record NonceOpening : Type 0 where
   pub session : SessionState DeckState
   pub tag : List ℕ
 
--- the first check that is met, or 0: by the mode's tag length l, the key, and the lengths of the nonce and of the tag buffer
-abbrev pub nonceCheck : (l : ℕ) (key : List ℕ) (n t : ℕ) → ℕ
-nonceCheck l key n t = cond (not (keyFits key)) 4 (cond (ltb longest n) 6 (cond (not (eqb t l)) 7 0))
+-- the first check that is met, or 0: by whether the key's length is within its limits, the mode's tag length l, and the lengths of the nonce and
+-- of the tag buffer
+abbrev pub nonceCheck : (fits : Bool) (l n t : ℕ) → ℕ
+nonceCheck fits l n t = cond (not fits) 4 (cond (ltb longest n) 6 (cond (not (eqb t l)) 7 0))
 
 -- an open session whose history has the nonce, without frame bits, as its one string
 abbrev pub nonceSession : (key nonce : List ℕ) → SessionState DeckState
@@ -184,4 +185,4 @@ module _ (p : Parameters) (key nonce tag : List ℕ) where
 
   -- start, of any key, nonce and tag buffer, in a mode of these parameters
   unfoldable pub nonceStartAt : NonceOpening
-  nonceStartAt = nonceOpening (nonceCheck (p .tagLength) key (length nonce) (length tag))
+  nonceStartAt = nonceOpening (nonceCheck (keyFits key) (p .tagLength) (length nonce) (length tag))

@@ -19,7 +19,7 @@ use Rattle.state.specs.State.{zeros}
 use Rattle.deck.proofs.Strings.{blocks-is}
 use Rattle.modes.specs.Call.{CallInput}
 use Rattle.modes.specs.Mode.{isEmpty, incremental, withA, withText, tagOf, addKeystream, stepResult, streamWrap, streamUnwrap, sane, saneParameters, saneCount}
-use Rattle.modes.specs.Rules.{SessionState, written, metadataString, wrapSteps, unwrapSteps, closed, nonceCheck, nonceSession, nonceOpening, nonceStartAt}
+use Rattle.modes.specs.Rules.{SessionState, written, metadataString, wrapSteps, unwrapSteps, closed, keyFits, nonceCheck, nonceSession, nonceOpening, nonceStartAt}
 use Rattle.modes.specs.NonceStart.{NonceFits}
 use Rattle.modes.proofs.Steps.{ShortFrames}
 use Rattle.modes.proofs.NonceStart.{nonce-exactly}
@@ -114,7 +114,7 @@ module _ {s : SessionState DeckState} {i : CallInput} {n : ℕ} {d : DeckState} 
 
 -- the first check that a start meets
 abbrev firstOf : (key nonce tag : List ℕ) → ℕ
-firstOf key nonce tag = nonceCheck 16 key (length nonce) (length tag)
+firstOf key nonce tag = nonceCheck (keyFits key) 16 (length nonce) (length tag)
 
 module _ (key nonce tag : List ℕ) (n : ℕ) (h : n ≡ firstOf key nonce tag) where
   pub fits : n ≡ 0 → NonceFits key nonce tag

@@ -1,10 +1,10 @@
 // Xoofff-SANE by value (document 02, request 2): start with a nonce, wrap and unwrap over a session record. A refused call leaves the record and
 // the buffers as they were; a refused start gives a closed record.
 ghost use mathlib.Core.Path.{_≡_};
-ghost use mathlib.Core.Bool.{_&&_, not, cond};
+ghost use mathlib.Core.Bool.{_&&_, cond};
 ghost use mathlib.Core.List.{[], _∷_};
 ghost use Prim.Native.Nat.{_+_, _≤_};
-ghost use lib.Dec.{ltb, leb, eqb};
+ghost use lib.Dec.{leb};
 ghost use lib.ListN.{length};
 ghost use Rattle.word.specs.Lists.{sum};
 ghost use Rattle.deck.specs.Strings.{b};
@@ -12,7 +12,7 @@ ghost use Rattle.deck.specs.Deck.{run};
 ghost use Rattle.deck.specs.Incremental.{output};
 ghost use Rattle.deck.specs.Closing.{closingByte};
 ghost use Rattle.modes.specs.Mode.{sane, saneParameters, incremental, isEmpty, withText, tagOf};
-ghost use Rattle.modes.specs.Rules.{growth, firstCheck, written, wrapAt, unwrapAt, nonceStartAt};
+ghost use Rattle.modes.specs.Rules.{growth, firstCheck, written, wrapAt, unwrapAt, nonceCheck, nonceStartAt};
 ghost use Rattle.steps.specs.Steps.{outputCount};
 ghost use Rattle.sane.specs.Session.{stateOf, nonceResult, callResult, handed};
 use deck::DeckState;
@@ -52,7 +52,7 @@ fn closing(cryptogram: bool, e: bool) -> u8
 
 // The first of the checks 4, 6 and 7 that a start meets, by the lengths of key, nonce and tag buffer, or 0.
 fn start_check(keylen: usize, noncelen: usize, taglen: usize) -> u32
-    ensures { λ r. ⌜ r ≡ cond (not (leb 16 keylen && leb keylen 47)) 4 (cond (ltb 16384 noncelen) 6 (cond (not (eqb taglen 16)) 7 0)) ⌝ }
+    ensures { λ r. ⌜ r ≡ nonceCheck (leb 16 keylen && leb keylen 47) 16 noncelen taglen ⌝ }
 {
     if keylen < 16 {
         return 4;
