@@ -22,6 +22,10 @@ pub enum Failure {
         /// What is wrong with it.
         bad: Bad,
     },
+    /// The state file was there, as its lock file says, and is not any more; with it, what it knew of nonces is lost.
+    Lost(PathBuf),
+    /// A session is to be started in a new state file, and there is one.
+    Started(store::Error),
     /// An input could not be read or an output not be written.
     File {
         /// What was tried.
@@ -114,7 +118,12 @@ impl Failure {
             Failure::Demo(_) => 1,
             Failure::Usage(_) => 2,
             Failure::State(store::Error::Older { .. }) => 8,
-            Failure::State(_) | Failure::Content { .. } | Failure::NotCounted(..) | Failure::NotNoted(_) => 3,
+            Failure::State(_)
+            | Failure::Content { .. }
+            | Failure::Lost(_)
+            | Failure::Started(_)
+            | Failure::NotCounted(..)
+            | Failure::NotNoted(_) => 3,
             Failure::File { .. }
             | Failure::NotSynced { .. }
             | Failure::OpenKey(_)
@@ -149,6 +158,8 @@ impl fmt::Display for Failure {
             Failure::State(error @ store::Error::Older { .. }) => write!(f, "{error} {OLDER}"),
             Failure::State(error) => error.fmt(f),
             Failure::Content { path, bad } => write!(f, "The state file {} cannot be used: {bad}.", shown(path)),
+            Failure::Lost(path) => write!(f, "The state file {} was here before, and is lost. {LOST}", shown(path)),
+            Failure::Started(error) => write!(f, "{error} `--replace` starts the next session in it."),
             Failure::File { what, path, source } => write!(f, "Could not {what} {}: {source}.", shown(path)),
             Failure::NotSynced { path, source } => write!(
                 f,
@@ -216,11 +227,17 @@ how the messages differ.";
 
 /// The sentences of a counter that was used before, or may have been.
 fn used_counter(f: &mut fmt::Formatter<'_>, counter: u64, last: u64) -> fmt::Result {
+    let take = if last < u64::MAX { "Take a higher one." } else { "There is no higher one: take a new key." };
     write!(
         f,
-        "The counter {counter} is not above {last}, the last one under this key in this state file. {SHARED} Take a higher one."
+        "The counter {counter} is not above {last}, the last one under this key in this state file. {SHARED} {take}"
     )
 }
+
+/// What is said of a state file that is lost, and had known nonces.
+const LOST: &str = "\
+The nonces that were used in it are not known, and under one key none may repeat. Bring the newest one back; if there is none, \
+remove its lock file, and start under a new key, or with a counter that is certainly above all that were used.";
 
 /// What is said of a start with another tag than the expected one.
 const OTHER_TAG: &str = "\

@@ -53,9 +53,13 @@ impl<S: State> Used<S> {
     }
 }
 
-/// Creates the state file of the option `--state`; there must be none yet.
-pub fn create(arguments: &Arguments, state: &impl State) -> Result<(), Failure> {
+/// Creates the state file of the option `--state`; there must be none yet. Where a lock file shows that there was one, a kind that
+/// knows nonces is refused.
+pub fn create<S: State>(arguments: &Arguments, state: &S) -> Result<(), Failure> {
     let mut store = open(arguments, Presence::MustBeNew)?;
+    if S::KNOWS_NONCES && store.generation() > 0 {
+        return Err(Failure::Lost(store.path().to_path_buf()));
+    }
     Ok(store.commit(&state.encode())?)
 }
 

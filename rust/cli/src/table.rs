@@ -216,8 +216,8 @@ whoever sees both envelopes learns how the messages differ. So a counter that is
 state file is refused, and so is any nonce that was used before; no option takes it. Prints the tag of the start, which is the
 same at both ends if key and nonce are. With `--expect`, another tag is a `mismatch` with status 9, and nothing is started.";
 const IN_TURN: &str = "\
-The envelope is handed out once the state is safe, and kept in it: `resend` hands it out again. Agree on whose turn it is: two
-messages that both ends seal at once share keystream.";
+The envelope is handed out once the state is safe, and kept in it: `resend` hands it out again. An end seals only once it has
+opened all that the other has sealed: otherwise two messages share keystream.";
 const SEALED_ONCE: &str =
     "The envelope is handed out once the state is safe, and kept in it: `resend` hands it out again.";
 const OPENED_ONCE: &str = "\

@@ -258,10 +258,10 @@ fn a_text_that_is_no_tag_is_a_bad_command_line() {
 
 /// What is said of a counter that is not above the last one.
 fn not_above(counter: u64, last: u64) -> String {
+    let take = if last == u64::MAX { "There is no higher one: take a new key." } else { "Take a higher one." };
     format!(
         "pevghazo: The counter {counter} is not above {last}, the last one under this key in this state file. Under one key and \
-         one nonce two messages would share keystream, and whoever sees both envelopes learns how the messages differ. Take a \
-         higher one.\n"
+         one nonce two messages would share keystream, and whoever sees both envelopes learns how the messages differ. {take}\n"
     )
 }
 
@@ -312,9 +312,41 @@ fn a_refused_start_uses_no_counter_up() {
     folder.done("sane reread --state group --out opened");
     assert!(folder.read("group") != state);
     folder.done(&format!("sane start --group 5 --key key {start}"));
-    // Nor does one where the state file is there already, or is that of another command.
-    folder.fails(3, &format!("{START} group --counter 3"));
+    // Nor does one where the state file is there already.
+    let said = folder.fails(3, &format!("{START} group --counter 3"));
+    assert!(said.ends_with(" already. `--replace` starts the next session in it.\n"), "{said}");
     folder.done(&format!("{START} group --counter 3 --replace"));
+}
+
+/// What a lost state file knew of nonces is lost: no other is begun in its place, as long as its lock file shows that it was there.
+#[test]
+fn no_state_file_is_begun_in_the_place_of_a_lost_one() {
+    let folder = pair();
+    let newest = folder.read("office").unwrap();
+    fs::remove_file(folder.0.join("office")).unwrap();
+    let names = folder.names();
+    for counter in [1, 2] {
+        let said = folder.fails(3, &format!("{START} office --counter {counter}"));
+        assert!(said.contains(" was here before, and is lost. The nonces that were used in it are not known,"), "{said}");
+        assert_eq!(folder.names(), names);
+    }
+    folder.write("office", &newest);
+    folder.done(&format!("{START} office --counter 2 --replace"));
+    // Who removes both is believed to know.
+    for name in ["office", "office.lock"] {
+        fs::remove_file(folder.0.join(name)).unwrap();
+    }
+    folder.done(&format!("{START} office --counter 3"));
+    // A start that was killed before its commit leaves a lock file too, and is made again.
+    let log = folder.copy().run_with("log", &format!("{START} new --counter 1")).said;
+    let rename = 1 + log.lines().position(|line| line.ends_with(": rename")).unwrap_or_else(|| panic!("{log}"));
+    folder.run_with(&format!("abort@{rename}"), &format!("{START} new --counter 1"));
+    assert!(folder.read("new").is_none() && folder.read("new.lock").is_some());
+    folder.done(&format!("{START} new --counter 1"));
+    // In SANSE a state file may be begun anew.
+    folder.done("group start --state sanse --group 5 --key key");
+    fs::remove_file(folder.0.join("sanse")).unwrap();
+    folder.done("group start --state sanse --group 5 --key other-key");
 }
 
 /// The sentence of a nonce of a file that was used before.

@@ -4,6 +4,7 @@ use std::ffi::OsStr;
 use std::io::Write;
 
 use pevghazo::{SaneSession, Session, envelope};
+use pevghazo_store as store;
 
 use super::messages::{again, kept, typed};
 use crate::arguments::Arguments;
@@ -80,7 +81,12 @@ fn place<S: Mode>(
     if !arguments.has("replace") {
         let mut starts = S::Starts::default();
         note(&mut starts)?;
-        return create(arguments, &Lone { group, session, kept: Kept::default(), starts });
+        return create(arguments, &Lone { group, session, kept: Kept::default(), starts }).map_err(|failure| {
+            match failure {
+                Failure::State(error @ store::Error::Exists { .. }) => Failure::Started(error),
+                failure => failure,
+            }
+        });
     }
     let mut used = Used::<Lone<S>>::open(arguments)?;
     used.state.takes(group)?;

@@ -21,6 +21,8 @@ pub trait Mode: Sized + fmt::Debug {
     const KIND: Kind;
     /// The bytes of a stored session.
     const BYTES: usize;
+    /// Whether their sessions start with nonces.
+    const NONCES: bool;
     /// What a state file knows of the starts of its sessions.
     type Starts: Part + Default + fmt::Debug;
     /// The session's bytes.
@@ -59,6 +61,8 @@ pub type Group = Lone<Session>;
 pub type Sane = Lone<SaneSession>;
 
 impl<S: Mode> State for Lone<S> {
+    const KNOWS_NONCES: bool = S::NONCES;
+
     fn encode(&self) -> Secret {
         let mut bytes = format::started(&S::KIND);
         bytes.add(&self.group.to_le_bytes());
@@ -83,6 +87,7 @@ impl Mode for Session {
     const LETTER: Letter = Letter::S;
     const KIND: Kind = format::GROUP;
     const BYTES: usize = Session::BYTES;
+    const NONCES: bool = false;
     type Starts = Keys;
 
     fn to_bytes(&self) -> pevghazo::Secret {
@@ -119,6 +124,7 @@ impl Mode for SaneSession {
     const LETTER: Letter = Letter::N;
     const KIND: Kind = format::SANE;
     const BYTES: usize = SaneSession::BYTES;
+    const NONCES: bool = true;
     type Starts = Starts;
 
     fn to_bytes(&self) -> pevghazo::Secret {

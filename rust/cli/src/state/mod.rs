@@ -100,6 +100,8 @@ impl Office {
 
 /// A state that lives in a file.
 pub trait State: Sized {
+    /// Whether it knows nonces, which must not repeat: then none is begun in the place of one that was lost.
+    const KNOWS_NONCES: bool = false;
     /// Its bytes.
     fn encode(&self) -> Secret;
     /// The state with these bytes.
