@@ -1,6 +1,8 @@
 //! What the tests of the command line share: folders, and running the program in them.
 #![allow(dead_code)] // Each test program uses a part of it.
 
+pub mod sane;
+
 use std::fs;
 use std::io::Write;
 use std::os::unix::fs::OpenOptionsExt;
