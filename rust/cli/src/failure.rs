@@ -241,8 +241,8 @@ remove its lock file, and start under a new key, or with a counter that is certa
 
 /// What is said of a start with another tag than the expected one.
 const OTHER_TAG: &str = "\
-This is not the tag of a start with this key and this nonce: the other end has another key, or another nonce. Nothing was \
-started, and the nonce can still be used.";
+This is not the tag of a start with this key and this nonce: the other end has another key or another nonce, or its tag was not \
+typed as it stands there. Nothing was started, and the nonce can still be used.";
 
 /// What is said of a wrong tag besides that it is wrong.
 const WRONG_TAG: &str = "\

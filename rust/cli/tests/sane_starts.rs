@@ -20,8 +20,8 @@ fn with(folder: &Folder, line: &str, option: &str, value: &OsStr) -> Run {
 fn the_expected_tag_is_compared_before_anything_is_started() {
     let folder = with_keys();
     let right = tag_of(&folder, "key", 7);
-    let sentence = "pevghazo: This is not the tag of a start with this key and this nonce: the other end has another key, or \
-                    another nonce. Nothing was started, and the nonce can still be used.\n";
+    let sentence = "pevghazo: This is not the tag of a start with this key and this nonce: the other end has another key or \
+                    another nonce, or its tag was not typed as it stands there. Nothing was started, and the nonce can still be used.\n";
     let start = format!("{START} office --counter 7");
     let names = folder.names();
     let digits = right.replace(' ', "");

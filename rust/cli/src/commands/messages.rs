@@ -8,7 +8,7 @@ use std::io::{Write, stderr};
 use std::os::unix::ffi::OsStrExt;
 use std::path::Path;
 
-use pevghazo::{Number, Refusal, envelope};
+use pevghazo::{Envelope, Number, Refusal, envelope};
 use pevghazo_store::{Secret, shown};
 
 use crate::arguments::Arguments;
@@ -51,17 +51,8 @@ pub fn open<E: End>(arguments: &Arguments, out: &mut dyn Write) -> Result<(), Fa
     let mut used = Used::<E>::open(arguments)?;
     let outputs = message_outputs(arguments, &used)?;
     let arrival = envelope::read(&bytes)?;
-    if arrival.letter != E::LETTER {
-        return Err(Failure::OtherLetter(arrival.letter));
-    }
     let group = arrival.group;
-    used.state.takes(group)?;
-    if waits(&used.state.kept(group)?.message) {
-        return Err(Failure::NotNow(format!(
-            "A message of group {group} was opened before and not handed out: do that first, with `{}`.",
-            again::<E>("reread", group, arguments)
-        )));
-    }
+    takes(&mut used.state, &arrival, arguments)?;
     outputs.must_be_new()?;
     let text = match used.state.open(&arrival) {
         Ok(text) => text,
@@ -88,6 +79,22 @@ pub fn open<E: End>(arguments: &Arguments, out: &mut dyn Write) -> Result<(), Fa
         result.push_str(&format!("next {next}\n"));
     }
     report(&result, outputs.are_standard(), out);
+    Ok(())
+}
+
+/// Whether this end may open an arrival now.
+fn takes<E: End>(end: &mut E, arrival: &Envelope, arguments: &Arguments) -> Result<(), Failure> {
+    if arrival.letter != E::LETTER {
+        return Err(Failure::OtherLetter(arrival.letter));
+    }
+    let group = arrival.group;
+    end.takes(group)?;
+    if waits(&end.kept(group)?.message) {
+        return Err(Failure::NotNow(format!(
+            "A message of group {group} was opened before and not handed out: do that first, with `{}`.",
+            again::<E>("reread", group, arguments)
+        )));
+    }
     Ok(())
 }
 
