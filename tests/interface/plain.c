@@ -64,21 +64,37 @@ static void altered(uint32_t number, const pevghazo_session *from, const uint8_t
     refused(number, &bad, bytes, sizeof bytes);
 }
 
-/* A session in SANE, stored and loaded. */
-static void sane_sessions(void) {
-    static uint8_t out[sizeof message], tag[PEVGHAZO_SANE_TAG_LENGTH];
+/* What is stored of the session in SANE is loaded. */
+static void sane_comes_back(void) {
     pevghazo_sane_session back;
-    check("starting in SANE is refused",
-          pevghazo_sane_start(&sane_session, key, sizeof key - 1, metadata, sizeof metadata - 1, tag, sizeof tag).number == PEVGHAZO_ACCEPTED);
-    check("wrapping in SANE is refused",
-          pevghazo_sane_wrap(&sane_session, metadata, sizeof metadata - 1, message, sizeof message - 1, out, sizeof out, tag, sizeof tag).number
-              == PEVGHAZO_ACCEPTED);
     check("storing in SANE is refused", pevghazo_store_sane_session(&sane_session, sane_stored, sizeof sane_stored) == PEVGHAZO_ACCEPTED);
     memset(&back, 0, sizeof back);
     check("loading in SANE is refused", pevghazo_load_sane_session(&back, sane_stored, sizeof sane_stored) == PEVGHAZO_ACCEPTED);
     check("another session in SANE comes back", memcmp(back.acc, sane_session.acc, sizeof back.acc) == 0
           && memcmp(back.mask, sane_session.mask, sizeof back.mask) == 0 && back.index == sane_session.index && back.toggle == sane_session.toggle
           && back.opened == sane_session.opened);
+}
+
+/* The same of the session in SANSE. */
+static void comes_back(void) {
+    pevghazo_session back;
+    check("storing is refused", pevghazo_store_session(&session, stored, sizeof stored) == PEVGHAZO_ACCEPTED);
+    memset(&back, 0, sizeof back);
+    check("loading is refused", pevghazo_load_session(&back, stored, sizeof stored) == PEVGHAZO_ACCEPTED);
+    check("another session comes back", memcmp(back.acc, session.acc, sizeof back.acc) == 0 && memcmp(back.mask, session.mask, sizeof back.mask) == 0
+          && back.index == session.index && back.toggle == session.toggle && back.opened == session.opened);
+}
+
+/* A session in SANE, with either toggle. */
+static void sane_sessions(void) {
+    static uint8_t out[sizeof message], tag[PEVGHAZO_SANE_TAG_LENGTH];
+    check("starting in SANE is refused",
+          pevghazo_sane_start(&sane_session, key, sizeof key - 1, metadata, sizeof metadata - 1, tag, sizeof tag).number == PEVGHAZO_ACCEPTED);
+    sane_comes_back();
+    check("wrapping in SANE is refused",
+          pevghazo_sane_wrap(&sane_session, metadata, sizeof metadata - 1, message, sizeof message - 1, out, sizeof out, tag, sizeof tag).number
+              == PEVGHAZO_ACCEPTED);
+    sane_comes_back();
 }
 
 static void sessions(void) {
@@ -88,14 +104,11 @@ static void sessions(void) {
     unsigned value;
     size_t i;
     check("starting is refused", pevghazo_start(&session, key, sizeof key - 1).number == PEVGHAZO_ACCEPTED);
+    comes_back();
     check("wrapping is refused",
           pevghazo_wrap(&session, metadata, sizeof metadata - 1, message, sizeof message - 1, out, sizeof out, tag, sizeof tag).number
               == PEVGHAZO_ACCEPTED);
-    check("storing is refused", pevghazo_store_session(&session, stored, sizeof stored) == PEVGHAZO_ACCEPTED);
-    memset(&back, 0, sizeof back);
-    check("loading is refused", pevghazo_load_session(&back, stored, sizeof stored) == PEVGHAZO_ACCEPTED);
-    check("another session comes back", memcmp(back.acc, session.acc, sizeof back.acc) == 0 && memcmp(back.mask, session.mask, sizeof back.mask) == 0
-          && back.index == session.index && back.toggle == session.toggle && back.opened == session.opened);
+    comes_back();
     check("a closed session is refused", pevghazo_load_session(&back, zeros, sizeof zeros) == PEVGHAZO_ACCEPTED && !back.opened);
     check("a closed session has other bytes", pevghazo_store_session(&zero, longer, sizeof zeros) == PEVGHAZO_ACCEPTED
           && memcmp(longer, zeros, sizeof zeros) == 0);
