@@ -251,6 +251,24 @@ mod tests {
         assert_eq!(add(&mut starts, 0, &Nonce::from(3)), Ok(()));
     }
 
+    /// So many keys that the fingerprints of some begin alike: each has counters of its own.
+    #[test]
+    fn keys_are_told_apart() {
+        let mut starts = Starts::default();
+        let start = |starts: &mut Starts, key: u64, counter: u64| {
+            let (key, nonce) = ([key.to_le_bytes(), [7; 8]].concat(), Nonce::from(counter));
+            starts.add(&key, &nonce, tag(&nonce)).map_err(|failure| failure.status())
+        };
+        for key in 0..300 {
+            assert_eq!(start(&mut starts, key, 300 - key), Ok(()), "{key}");
+        }
+        for key in 0..300 {
+            assert_eq!(start(&mut starts, key, 300 - key), Err(7), "{key}");
+            assert_eq!(start(&mut starts, key, 301 - key), Ok(()), "{key}");
+        }
+        assert_eq!(starts.keys(), 300);
+    }
+
     #[test]
     fn a_refused_start_is_not_noted() {
         let mut starts = Starts::default();
