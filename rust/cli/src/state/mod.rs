@@ -218,7 +218,15 @@ mod tests {
         for group in 0..GROUPS as u32 {
             *office.kept(group).unwrap() = kept(ENVELOPE_MAX, TEXT_MAX);
         }
-        assert!(office.encode().len() <= pevghazo_store::MAX_BYTES);
+        let bytes = office.encode();
+        assert!(bytes.len() <= pevghazo_store::MAX_BYTES);
+        assert_eq!(Office::decode(&bytes).unwrap().keys, office.keys);
+        for keys in [1, 2, Starts::MOST] {
+            let state = Sane { starts: Starts::full(keys), kept: kept(ENVELOPE_MAX, TEXT_MAX), ..sane() };
+            let bytes = state.encode();
+            assert!(bytes.len() <= pevghazo_store::MAX_BYTES);
+            assert_eq!(Sane::decode(&bytes).unwrap().starts, state.starts);
+        }
     }
 
     #[test]
