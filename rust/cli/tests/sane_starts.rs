@@ -70,6 +70,7 @@ fn a_text_that_is_no_tag_is_a_bad_command_line() {
         &format!("{right} 0000"),
         &right.replace(' ', "."),
         &format!("tag {right}"),
+        &format!(" {right}"),
         "mismatch",
     ];
     for text in texts.map(str::as_bytes).into_iter().chain([&b"\xff\xff\xff\xff"[..]]) {
@@ -200,9 +201,12 @@ fn no_state_file_is_begun_in_the_place_of_a_lost_one() {
     assert!(folder.read("new").is_none() && folder.read("new.lock").is_some());
     folder.done(&format!("{START} new --counter 1"));
     // In SANSE a state file may be begun anew.
-    folder.done("group start --state sanse --group 5 --key key");
-    fs::remove_file(folder.0.join("sanse")).unwrap();
-    folder.done("group start --state sanse --group 5 --key other-key");
+    for line in ["group start --state sanse --group 5 --key key", "office create --state sanse"] {
+        folder.done(line);
+        fs::remove_file(folder.0.join("sanse")).unwrap();
+        folder.done(line);
+        fs::remove_file(folder.0.join("sanse")).unwrap();
+    }
 }
 
 /// The sentence of a nonce of a file that was used before.

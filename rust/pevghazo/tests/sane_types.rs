@@ -194,16 +194,16 @@ fn stored_bytes_are_checked() {
 #[test]
 fn envelopes_of_a_session() {
     let (mut here, mut there, mut by_hand) = (start(), start(), start());
-    for length in [0, 1, 48, TEXT_MAX] {
+    for (group, length) in [(7, 0), (0, 1), (16, 48), (31, TEXT_MAX)] {
         let message = vec![length as u8 ^ 0x55; length];
         let plain = Plain { metadata: b"size C", message: &message };
-        let sealed = here.seal(7, &plain).unwrap();
+        let sealed = here.seal(group, &plain).unwrap();
         let wrapped = by_hand.wrap(&plain).unwrap();
-        let header = format!("N,7,6,{length},size C");
+        let header = format!("N,{group},6,{length},size C");
         assert_eq!(sealed.envelope, [header.as_bytes(), &wrapped.cryptogram, &wrapped.tag].concat());
         let followed = [&sealed.envelope[..], b"more"].concat();
         let opened = there.open(&followed).unwrap();
-        assert_eq!((opened.group, opened.metadata, opened.count), (7, &b"size C"[..], wrapped.count));
+        assert_eq!((opened.group, opened.metadata, opened.count), (group, &b"size C"[..], wrapped.count));
         assert!(opened.message == message && opened.rest == b"more");
         let repeated = there.open(&followed).unwrap_err();
         assert_eq!(repeated, Refusal { number: Number::WrongTag, count: sealed.count });
