@@ -15,7 +15,7 @@ use Rattle.modes.specs.Mode.{sane, saneParameters}
 use Rattle.modes.specs.PaperSane.{saneOpens, saneUnwrap}
 use Rattle.modes.specs.Rules.{Outcome, NonceOpening, nonceSession, nonceStartAt}
 use Rattle.modes.specs.Ledger.{sanePaper, Ledger, unwrapFinds}
-use Rattle.modes.specs.NonceStart.{NonceExactly}
+use Rattle.modes.specs.NonceStart.{NonceAccepted, NonceExactly}
 use Rattle.modes.specs.TwoEnds.{Ends, at}
 use Rattle.modes.specs.Delivery.{DeliversExactly}
 use Rattle.modes.specs.Promises.{Kind, Promises, leftBy}
@@ -64,14 +64,24 @@ sane-demand-3-of {k} {starts} s l key nonce t u first second t′ u′ a b h g c
       calls = list-of l sane-follows key (saneOpens nonce) (leftBy k first second) (x .session) (y .session) cs os to r;
     }
 
--- the claim leaves nothing open: of one list under one key and one nonce it is true of one tag at each start, of one list of outcomes and of
--- one session at each end
+-- an accepted start gives one thing only
+same-start : {key nonce : List ℕ} {o o′ : NonceOpening} → NonceAccepted key nonce o → NonceAccepted key nonce o′ → o ≡ o′
+same-start a b =
+    λ i. record {
+      number = (a .number ∙ sym (b .number)) i;
+      count = (a .count ∙ sym (b .count)) i;
+      session = (a .session ∙ sym (b .session)) i;
+      tag = (a .tag ∙ sym (b .tag)) i;
+    }
+
+-- the claim leaves nothing open: of one list under one key and one nonce it is true of one opening at either end, of one list of outcomes and
+-- of one session at each end
 pub sane-demand-3-decides : {key nonce : List ℕ} {cs : List Call} {first second first′ second′ : NonceOpening} {os os′ : List (Outcome DeckState)} {q q′ : Ends DeckState}
     → SaneDemand3 key nonce cs first second os q → SaneDemand3 key nonce cs first′ second′ os′ q′
-    → (first .tag ≡ first′ .tag) × (second .tag ≡ first .tag) × (os ≡ os′) × ((x : Side) → at x q ≡ at x q′)
+    → (first ≡ first′) × (second ≡ first) × (os ≡ os′) × ((x : Side) → at x q ≡ at x q′)
 sane-demand-3-decides a b = (
-  a .office-start .tag ∙ sym (b .office-start .tag),
-  a .group-start .tag ∙ sym (a .office-start .tag),
+  same-start (a .office-start) (b .office-start),
+  same-start (a .group-start) (a .office-start),
   a .calls .same ∙ sym (b .calls .same),
   λ x. a .calls .finish x ∙ sym (b .calls .finish x),
 )
