@@ -20,7 +20,7 @@ use Rattle.modes.specs.TwoEnds.{Ends, at}
 use Rattle.modes.specs.Delivery.{DeliversExactly}
 use Rattle.modes.specs.Promises.{Kind, Promises, leftBy}
 use Rattle.modes.specs.Fresh.{FreshAccepts, BothWays, Disturbed, otherTag, repeated, reflected, Replays}
-use Rattle.modes.specs.SaneDemands.{SaneDemand3, nonceResult, NonceStarts, nonceByRules, NonceStartOf, SaneDemand3Of, NonceStartsExist}
+use Rattle.modes.specs.SaneDemands.{SaneDemand3, nonceResult, NonceStarts, nonceByRules, NonceStartOf, SaneDemand3Of, NonceStartsExist, AcceptedStartsExist}
 use Rattle.modes.proofs.Modes.{sane-follows}
 use Rattle.modes.proofs.Entries.{paper-laws}
 use Rattle.modes.proofs.Converse.{delivers-exactly}
@@ -52,6 +52,12 @@ nonce-starts-exist {k} w starts s key nonce tag =
 pub nonce-start-of : (k : Kind) (starts : NonceStarts k) → NonceByRules k starts → NonceStartOf k starts
 nonce-start-of k starts s key nonce tag r tag′ w =
     subst (NonceExactly key nonce tag) (sym (s key nonce tag r tag′ .0 w)) (nonce-exactly key nonce tag)
+
+-- so where the lengths fit there is a start that is not refused
+pub accepted-starts-exist : {k : Kind} → Whole k → (starts : NonceStarts k) → NonceByRules k starts → AcceptedStartsExist k starts
+accepted-starts-exist {k} w starts s key nonce tag f =
+    let x = nonce-starts-exist w starts s key nonce tag in
+    (x .0, x .1, x .2, nonce-start-of k starts s key nonce tag (x .0) (x .1) (x .2) .accepted .1 f)
 
 -- demand 3, one claim about the whole list
 pub sane-demand-3-of : {k : Kind} {starts : NonceStarts k} {p : Promises k} → NonceByRules k starts → ByRules sane p → SaneDemand3Of k starts p
