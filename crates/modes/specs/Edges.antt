@@ -49,6 +49,8 @@ saneRows =
     ∷ record { gives = closingsOf (saneOpens (replicate 5 0)); says = 1 ∷ [] }
     -- the tag's length, and the output byte that keystream starts at
     ∷ record { gives = saneParameters .tagLength ∷ saneParameters .offset ∷ []; says = 16 ∷ 16 ∷ [] }
+    -- e after a call, from e 0 and from e 1
+    ∷ record { gives = digits (map (saneParameters .nextToggle) (false ∷ true ∷ [])); says = 1 ∷ 0 ∷ [] }
     -- a start's count with a nonce of 0, 47, 48 bytes
     ∷ record { gives = saneStart 0 16 .count ∷ saneStart 47 16 .count ∷ saneStart 48 16 .count ∷ []; says = 4 ∷ 4 ∷ 5 ∷ [] }
     -- a start's number with a tag buffer of 15, 16, 32 bytes
