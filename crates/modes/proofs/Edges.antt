@@ -28,8 +28,8 @@ edges-hold = refl
 pub edges-say : map (λ (r : Row). r .says) edgeRows
     ≡ (1 ∷ 1 ∷ 2 ∷ 3 ∷ []) ∷ (3 ∷ []) ∷ (6 ∷ []) ∷ (8 ∷ []) ∷ (1030 ∷ []) ∷ (2 ∷ []) ∷ (5 ∷ []) ∷ (4 ∷ 6 ∷ []) ∷ (10 ∷ 14 ∷ []) ∷ (11 ∷ 15 ∷ [])
     ∷ (4 ∷ 0 ∷ 0 ∷ 4 ∷ []) ∷ (8 ∷ []) ∷ only s₁₁ 0x2001 ∷ set (only s₀ 0x8000_0000) s₁₁ 4 ∷ only s₁₁ 7
-    ∷ (3 ∷ []) ∷ (5 ∷ 5 ∷ 6 ∷ []) ∷ (8 ∷ []) ∷ (1029 ∷ []) ∷ (0 ∷ 0 ∷ 0 ∷ 1 ∷ []) ∷ (1 ∷ 0 ∷ 1 ∷ 1 ∷ []) ∷ (4 ∷ 6 ∷ []) ∷ (5 ∷ 7 ∷ []) ∷ (1 ∷ [])
-    ∷ (16 ∷ 16 ∷ []) ∷ (4 ∷ 4 ∷ 5 ∷ []) ∷ (7 ∷ 0 ∷ 7 ∷ []) ∷ []
+    ∷ (3 ∷ []) ∷ (5 ∷ 5 ∷ 6 ∷ []) ∷ (8 ∷ []) ∷ (1029 ∷ []) ∷ (0 ∷ 0 ∷ 0 ∷ 1 ∷ []) ∷ (1 ∷ 0 ∷ 1 ∷ 1 ∷ []) ∷ (0 ∷ []) ∷ (4 ∷ 6 ∷ []) ∷ (5 ∷ 7 ∷ []) ∷ (1 ∷ [])
+    ∷ (16 ∷ 16 ∷ []) ∷ (1 ∷ 0 ∷ []) ∷ (4 ∷ 4 ∷ 5 ∷ []) ∷ (7 ∷ 0 ∷ 7 ∷ []) ∷ []
 edges-say = refl
 
 -- the byte after the last of a string's bytes is the closing byte of its frame bits
@@ -56,6 +56,6 @@ bytes-after x false =
 pub sane-bytes-after : (x : List ℕ) (e : Bool) → SaneBytesAfter x e
 unfolding closingByte
 sane-bytes-after x true =
-    record { afterA = closing-at x _ (omega arith); afterC = closing-at x _ (omega arith); afterN = closing-at x _ (omega arith) }
+    record { afterA = closing-at x _ (omega arith); afterC = closing-at x _ (omega arith); afterN = ap (λ (n : ℕ). n ∷ []) (closing-at x [] (omega arith)) }
 sane-bytes-after x false =
-    record { afterA = closing-at x _ (omega arith); afterC = closing-at x _ (omega arith); afterN = closing-at x _ (omega arith) }
+    record { afterA = closing-at x _ (omega arith); afterC = closing-at x _ (omega arith); afterN = ap (λ (n : ℕ). n ∷ []) (closing-at x [] (omega arith)) }

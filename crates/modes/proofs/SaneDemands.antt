@@ -15,12 +15,12 @@ use Rattle.modes.specs.Mode.{sane, saneParameters}
 use Rattle.modes.specs.PaperSane.{saneOpens, saneUnwrap}
 use Rattle.modes.specs.Rules.{Outcome, NonceOpening, nonceSession, nonceStartAt}
 use Rattle.modes.specs.Ledger.{sanePaper, Ledger, unwrapFinds}
-use Rattle.modes.specs.NonceStart.{NonceExactly}
+use Rattle.modes.specs.NonceStart.{NonceAccepted, NonceExactly}
 use Rattle.modes.specs.TwoEnds.{Ends, at}
 use Rattle.modes.specs.Delivery.{DeliversExactly}
 use Rattle.modes.specs.Promises.{Kind, Promises, leftBy}
 use Rattle.modes.specs.Fresh.{FreshAccepts, BothWays, Disturbed, otherTag, repeated, reflected, Replays}
-use Rattle.modes.specs.SaneDemands.{SaneDemand3, nonceResult, NonceStarts, nonceByRules, NonceStartOf, SaneDemand3Of, NonceStartsExist}
+use Rattle.modes.specs.SaneDemands.{SaneDemand3, nonceResult, NonceStarts, nonceByRules, NonceStartOf, SaneDemand3Of, NonceStartsExist, AcceptedStartsExist}
 use Rattle.modes.proofs.Modes.{sane-follows}
 use Rattle.modes.proofs.Entries.{paper-laws}
 use Rattle.modes.proofs.Converse.{delivers-exactly}
@@ -53,6 +53,12 @@ pub nonce-start-of : (k : Kind) (starts : NonceStarts k) → NonceByRules k star
 nonce-start-of k starts s key nonce tag r tag′ w =
     subst (NonceExactly key nonce tag) (sym (s key nonce tag r tag′ .0 w)) (nonce-exactly key nonce tag)
 
+-- so where the lengths fit there is a start that is not refused
+pub accepted-starts-exist : {k : Kind} → Whole k → (starts : NonceStarts k) → NonceByRules k starts → AcceptedStartsExist k starts
+accepted-starts-exist {k} w starts s key nonce tag f =
+    let x = nonce-starts-exist w starts s key nonce tag in
+    (x .0, x .1, x .2, nonce-start-of k starts s key nonce tag (x .0) (x .1) (x .2) .accepted .1 f)
+
 -- demand 3, one claim about the whole list
 pub sane-demand-3-of : {k : Kind} {starts : NonceStarts k} {p : Promises k} → NonceByRules k starts → ByRules sane p → SaneDemand3Of k starts p
 sane-demand-3-of {k} {starts} s l key nonce t u first second t′ u′ a b h g cs os to r =
@@ -64,14 +70,24 @@ sane-demand-3-of {k} {starts} s l key nonce t u first second t′ u′ a b h g c
       calls = list-of l sane-follows key (saneOpens nonce) (leftBy k first second) (x .session) (y .session) cs os to r;
     }
 
--- the claim leaves nothing open: of one list under one key and one nonce it is true of one tag at each start, of one list of outcomes and of
--- one session at each end
+-- an accepted start gives one thing only
+same-start : {key nonce : List ℕ} {o o′ : NonceOpening} → NonceAccepted key nonce o → NonceAccepted key nonce o′ → o ≡ o′
+same-start a b =
+    λ i. record {
+      number = (a .number ∙ sym (b .number)) i;
+      count = (a .count ∙ sym (b .count)) i;
+      session = (a .session ∙ sym (b .session)) i;
+      tag = (a .tag ∙ sym (b .tag)) i;
+    }
+
+-- the claim leaves nothing open: of one list under one key and one nonce it is true of one opening at either end, of one list of outcomes and
+-- of one session at each end
 pub sane-demand-3-decides : {key nonce : List ℕ} {cs : List Call} {first second first′ second′ : NonceOpening} {os os′ : List (Outcome DeckState)} {q q′ : Ends DeckState}
     → SaneDemand3 key nonce cs first second os q → SaneDemand3 key nonce cs first′ second′ os′ q′
-    → (first .tag ≡ first′ .tag) × (second .tag ≡ first .tag) × (os ≡ os′) × ((x : Side) → at x q ≡ at x q′)
+    → (first ≡ first′) × (second ≡ first) × (os ≡ os′) × ((x : Side) → at x q ≡ at x q′)
 sane-demand-3-decides a b = (
-  a .office-start .tag ∙ sym (b .office-start .tag),
-  a .group-start .tag ∙ sym (a .office-start .tag),
+  same-start (a .office-start) (b .office-start),
+  same-start (a .group-start) (a .office-start),
   a .calls .same ∙ sym (b .calls .same),
   λ x. a .calls .finish x ∙ sym (b .calls .finish x),
 )

@@ -10,6 +10,7 @@ use Rattle.rolling.specs.Edges.{Row, rollingRows}
 use Rattle.deck.specs.Strings.{Str, b, bitsOf, padded, framed}
 use Rattle.deck.specs.Closing.{closingByte}
 use Rattle.modes.specs.Mode.{sanseCount, sanseParameters, saneCount, saneParameters}
+use Rattle.modes.specs.PaperSane.{saneOpens}
 use Rattle.modes.specs.Rules.{growth, startAt, NonceOpening, nonceStartAt}
 
 -- ---- SANE
@@ -22,6 +23,13 @@ saneStart n t = nonceStartAt saneParameters (replicate 16 0) (replicate n 0) (re
 abbrev pub digits : List Bool → List ℕ
 digits f = map digit f
 
+-- how many frame bits each string of a history has, and the byte after each
+abbrev pub framesOf : List Str → List ℕ
+framesOf h = map (λ (s : Str). length (s .frame)) h
+
+abbrev pub closingsOf : List Str → List ℕ
+closingsOf h = map (λ (s : Str). closingByte (s .frame)) h
+
 -- its rows
 abbrev pub saneRows : List Row
 saneRows =
@@ -30,15 +38,19 @@ saneRows =
     ∷ record { gives = saneCount 0 1 ∷ saneCount 0 32 ∷ saneCount 0 33 ∷ []; says = 5 ∷ 5 ∷ 6 ∷ [] }
     ∷ record { gives = saneCount 20 48 ∷ []; says = 8 ∷ [] }
     ∷ record { gives = saneCount 16384 16384 ∷ []; says = 1029 ∷ [] }
-    -- frame bits after A and after the cryptogram, each at e 0 and then at e 1; after the nonce there are none
+    -- frame bits after A and after the cryptogram, each at e 0 and then at e 1
     ∷ record { gives = digits (saneParameters .frameA false) ++ digits (saneParameters .frameA true); says = 0 ∷ 0 ∷ 0 ∷ 1 ∷ [] }
     ∷ record { gives = digits (saneParameters .frameM false) ++ digits (saneParameters .frameM true); says = 1 ∷ 0 ∷ 1 ∷ 1 ∷ [] }
+    -- how many there are after the nonce, the one string that the history opens with
+    ∷ record { gives = framesOf (saneOpens (replicate 5 0)); says = 0 ∷ [] }
     -- byte after A, after the cryptogram, at e 0 and 1; after the nonce
     ∷ record { gives = closingByte (saneParameters .frameA false) ∷ closingByte (saneParameters .frameA true) ∷ []; says = 4 ∷ 6 ∷ [] }
     ∷ record { gives = closingByte (saneParameters .frameM false) ∷ closingByte (saneParameters .frameM true) ∷ []; says = 5 ∷ 7 ∷ [] }
-    ∷ record { gives = closingByte [] ∷ []; says = 1 ∷ [] }
+    ∷ record { gives = closingsOf (saneOpens (replicate 5 0)); says = 1 ∷ [] }
     -- the tag's length, and the output byte that keystream starts at
     ∷ record { gives = saneParameters .tagLength ∷ saneParameters .offset ∷ []; says = 16 ∷ 16 ∷ [] }
+    -- e after a call, from e 0 and from e 1
+    ∷ record { gives = digits (map (saneParameters .nextToggle) (false ∷ true ∷ [])); says = 1 ∷ 0 ∷ [] }
     -- a start's count with a nonce of 0, 47, 48 bytes
     ∷ record { gives = saneStart 0 16 .count ∷ saneStart 47 16 .count ∷ saneStart 48 16 .count ∷ []; says = 4 ∷ 4 ∷ 5 ∷ [] }
     -- a start's number with a tag buffer of 15, 16, 32 bytes
@@ -92,4 +104,4 @@ pub record BytesAfter (x : List ℕ) (e : Bool) : Type 0 where
 pub record SaneBytesAfter (x : List ℕ) (e : Bool) : Type 0 where
   pub afterA : paddedByte (framed x (saneParameters .frameA e)) (length x) ≡ cond e 6 4
   pub afterC : paddedByte (framed x (saneParameters .frameM e)) (length x) ≡ cond e 7 5
-  pub afterN : paddedByte (framed x []) (length x) ≡ 1
+  pub afterN : map (λ (s : Str). paddedByte s (length x)) (saneOpens x) ≡ 1 ∷ []

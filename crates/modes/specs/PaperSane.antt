@@ -1,7 +1,8 @@
 -- Deck-SANE as 003 prints it (section 4, Algorithm 2, and Definition 4: F is Xoofff, t is 128 bits and ℓ 8 bits), over the deck function of
 -- the whole history. The paper puts the newest string on the left of ◦; here it is the last of a list. The last lines of unwrap, the
 -- comparison of T′ with T, are not here: what an unwrap with another tag gives and leaves is document 01's matter. Shares nothing with the
--- modes but strings and the deck function: the sum, the first t bits and the tests of lengths are this file's own. Assumes nothing.
+-- modes but strings and the deck function, and nothing with Algorithm 3's file but the form of a result: the sum, the first t bits and the
+-- tests of lengths are this file's own. Assumes nothing.
 use mathlib.Core.Bool.{Bool, true, false, not, _||_, cond}
 use mathlib.Core.List.{List, [], _∷_, _++_}
 use Prim.Native.Nat.{ℕ, _+_, _*_, _/_}

@@ -1,6 +1,5 @@
 -- What stops a call, and what each call gives and leaves, refused ones included (document 01, "Counts and limits" and "What stops a call";
--- document 02, request 2):
--- for any mode, any way to hold a history and any session. The contracts cite these. Assumes nothing.
+-- document 02, request 2): for any mode, any way to hold a history and any session. The contracts cite these. Assumes nothing.
 use mathlib.Core.Bool.{Bool, true, false, not, _||_, _&&_, cond}
 use mathlib.Core.List.{List, [], _∷_, _++_}
 use Prim.Native.Nat.{ℕ, zero, suc, _+_}

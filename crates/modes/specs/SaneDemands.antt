@@ -10,7 +10,7 @@ use Rattle.modes.specs.Mode.{saneParameters}
 use Rattle.modes.specs.PaperSane.{saneOpens}
 use Rattle.modes.specs.Rules.{Outcome, NonceOpening, nonceStartAt}
 use Rattle.modes.specs.Ledger.{sanePaper}
-use Rattle.modes.specs.NonceStart.{NonceAccepted, NonceExactly}
+use Rattle.modes.specs.NonceStart.{NonceAccepted, NonceFits, NonceExactly}
 use Rattle.modes.specs.TwoEnds.{Ends}
 use Rattle.modes.specs.Demand3.{ByLedgers}
 use Rattle.modes.specs.Promises.{Kind, Promises, Records, sessionsHeld, leftBy, Run}
@@ -51,3 +51,8 @@ module _ (k : Kind) where
   -- whatever a start is handed, some result keeps its promise
   abbrev pub NonceStartsExist : NonceStarts → Type 0
   NonceStartsExist starts = (key nonce tag : List ℕ) → (r : k .Result) × (tag′ : List ℕ) × starts key nonce tag r tag′
+
+  -- and where what it is handed fits, one that is not refused: such starts as demand 3 speaks of are there
+  abbrev pub AcceptedStartsExist : NonceStarts → Type 0
+  AcceptedStartsExist starts =
+      (key nonce tag : List ℕ) → NonceFits key nonce tag → (r : k .Result) × (tag′ : List ℕ) × starts key nonce tag r tag′ × (k .number r ≡ 0)

@@ -15,10 +15,10 @@ use Rattle.modes.specs.AnySession.{AnyWrap, AnyUnwrap}
 use Rattle.modes.specs.NonceStart.{NonceExactly}
 use Rattle.modes.specs.Promises.{Promises, Records, Run, sessionsHeld}
 use Rattle.modes.specs.Demands.{AnyCallOf, OneCallOf, RunsExist}
-use Rattle.modes.specs.SaneDemands.{SaneDemand3, NonceStarts, NonceStartOf, SaneDemand3Of, NonceStartsExist}
+use Rattle.modes.specs.SaneDemands.{SaneDemand3, NonceStarts, NonceStartOf, SaneDemand3Of, NonceStartsExist, AcceptedStartsExist}
 use Rattle.modes.proofs.Modes.{sane-follows}
 use Rattle.modes.proofs.Demands.{ByRules, Whole, any-call-of, one-call-of, runs-exist, kept}
-use Rattle.modes.proofs.SaneDemands.{nonce-start-of, nonce-starts-exist, sane-demand-3-of}
+use Rattle.modes.proofs.SaneDemands.{nonce-start-of, nonce-starts-exist, accepted-starts-exist, sane-demand-3-of}
 use Rattle.sane.specs.declared.SaneSession.{SaneSession}
 use Rattle.sane.specs.declared.SaneResult.{SaneResult}
 use Rattle.sane.specs.Session.{stateOf, nonceResult, callResult, saneKind}
@@ -100,6 +100,9 @@ whole =
 -- whatever a call is handed, there are arguments and a result of which the function's `ensures` holds
 pub start-exists : NonceStartsExist saneKind StartPromise
 start-exists = nonce-starts-exist whole StartPromise start-is
+
+pub accepted-start-exists : AcceptedStartsExist saneKind StartPromise
+accepted-start-exists = accepted-starts-exist whole StartPromise start-is
 
 pub run-exists : RunsExist saneKind promises
 run-exists = runs-exist (kept whole program)

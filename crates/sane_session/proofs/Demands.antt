@@ -3,10 +3,10 @@
 use Rattle.modes.specs.Mode.{sane}
 use Rattle.modes.specs.Ledger.{sanePaper}
 use Rattle.modes.specs.Demands.{AnyCallOf, OneCallOf, RunsExist}
-use Rattle.modes.specs.SaneDemands.{NonceStartOf, SaneDemand3Of, NonceStartsExist}
+use Rattle.modes.specs.SaneDemands.{NonceStartOf, SaneDemand3Of, NonceStartsExist, AcceptedStartsExist}
 use Rattle.modes.proofs.Modes.{sane-follows}
 use Rattle.modes.proofs.Demands.{ByRules, rules-by-rules, any-call-of, one-call-of, runs-exist, kept}
-use Rattle.modes.proofs.SaneDemands.{nonce-by-rules, nonce-start-of, nonce-starts-exist, sane-demand-3-of}
+use Rattle.modes.proofs.SaneDemands.{nonce-by-rules, nonce-start-of, nonce-starts-exist, accepted-starts-exist, sane-demand-3-of}
 use Rattle.sane.specs.Session.{saneKind}
 use Rattle.sane.proofs.Demands.{whole}
 use Rattle.sane_session.specs.Lent.{lentStarts, lentPromises}
@@ -33,6 +33,9 @@ demand-3 = sane-demand-3-of (nonce-by-rules saneKind) lent
 -- whatever a call is handed, there is a result that its promise allows
 pub start-exists : NonceStartsExist saneKind lentStarts
 start-exists = nonce-starts-exist whole lentStarts (nonce-by-rules saneKind)
+
+pub accepted-start-exists : AcceptedStartsExist saneKind lentStarts
+accepted-start-exists = accepted-starts-exist whole lentStarts (nonce-by-rules saneKind)
 
 pub run-exists : RunsExist saneKind lentPromises
 run-exists = runs-exist (kept whole lent)
