@@ -74,10 +74,11 @@ unfolding readEnvelope
 read-number-exact s n =
     ((λ e. subst (ReadStop s) (sym (parts-number s (some-stop s .0) (some-stop s .1)) ∙ e) (some-stop s .1)), parts-number s n)
 
--- only the number is given: three empty parts, a zero byte for the letter, group 0 and place 0
+-- only the number is given: three empty parts, a zero byte for the letter, group 0 and place 0; and where places are given, these are 0
 abbrev pub OnlyNumber : List ℕ → Type 0
 OnlyNumber s =
     (readEnvelope s ≡ record { number = readEnvelope s .number; letter = 0; group = 0; place = 0 })
+    × (readParts s ≡ record { number = readParts s .number; letter = 0; group = 0; metadata = 0; cryptogram = 0; tag = 0; place = 0 })
     × (metadataPart s ≡ []) × (cryptogramPart s ≡ []) × (tagPart s ≡ [])
 
 -- A refusal gives nothing but its number.
@@ -86,7 +87,7 @@ unfolding readEnvelope metadataPart cryptogramPart tagPart
 read-refused s stopped = go (some-stop s .0) (some-stop s .1)
   where
     empty : (n : ℕ) → readParts s ≡ noParts n → OnlyNumber s
-    empty n e = (simp e, simp e, simp e, simp e)
+    empty n e = (simp e, simp e, simp e, simp e, simp e)
 
     go : (n : ℕ) → ReadStop s n → OnlyNumber s
     go n (bad-header none) = empty 1 (parts-bad s none)
