@@ -8,7 +8,8 @@
  * used twice
  *
  *   - where two sessions start with one key and one nonce: for the first message in which they differ;
- *   - where both ends wrap at once, from one state: the ends have to agree on who wraps next;
+ *   - where both ends wrap from one state, since one of them had not yet unwrapped all that the other had wrapped: the ends have to agree on who
+ *     wraps next;
  *   - where a session is copied, or loaded from stored bytes that are not the newest, and wraps again.
  *
  * None of these shows in a number: the calls are accepted. So the nonce is a counter that only grows, and that is written down before the

@@ -21,7 +21,8 @@ use crate::{SANE_TAG_LENGTH, SaneTag};
 /// texts. One keystream is used twice
 ///
 /// - where two sessions start with one key and one nonce: for the first message in which they differ;
-/// - where both ends seal at once, from one state: the ends have to agree on who seals next;
+/// - where both ends seal from one state, since one of them had not yet opened all that the other had sealed: the ends have to
+///   agree on who seals next;
 /// - where a session is read back from a stored copy that is not the newest, and seals again.
 ///
 /// None of these is refused. So the nonce, of 0 to 16,384 bytes and no secret, is a counter that only grows, and that is
