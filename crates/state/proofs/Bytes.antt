@@ -5,12 +5,14 @@ use mathlib.Core.List.{List, [], _∷_}
 use Prim.Native.Nat.{ℕ, zero, suc, _+_, _*_, _-_, _/_, _%_, _^_, _≤_, _<_}
 use native.Mathlib.Decide.{decLe}
 use native.Mathlib.Omega.{arith}
-use lib.Dec.{lit<, lit≤}
-use lib.Bits.{bitOr}
-use lib.ListN.{getD, set, length, length-set}
-use Rattle.word.specs.Word.{bit, shiftLeft}
-use Rattle.word.proofs.Lists.{Filled, filled-more}
-use Rattle.word.proofs.Bit.{Is, is-word, is-part, is-own, is-more, is-or, is-shl, bit-above, shifts, shifts-in}
+use lib.Bits.{bitOr, bitXor}
+use lib.ListN.{getD, set, length, drop, length-set}
+use lib.Seq.{getD-drop, getD-set-other, ext-getD}
+use Rattle.word.specs.Word.{bit, shiftLeft, _⊕_}
+use Rattle.word.specs.Lists.{tabulate, sum}
+use Rattle.word.proofs.Lists.{Filled, filled-more, tabulate-at, tabulate-length, sum-at, sum-length}
+use Rattle.word.proofs.Bit.{Is, is-word, is-part, is-own, is-more, is-or, is-xor, is-shl, bit-above, bit-xor, bit-ofBits, shifts, shifts-in}
+use Rattle.state.specs.State.{lane}
 use Rattle.state.specs.Bytes.{byteBit, stringBit, stateByte}
 
 -- a byte as a word of 32 bits: its bits above the eighth are 0
@@ -74,26 +76,32 @@ module _ (a b c d : ℕ) (ha : a < 256) (hb : b < 256) (hc : c < 256) (hd : d < 
   unfolding beside
   is-join = is-more (is-or (is-or (is-or (byte-is ha) (is-shl 8 (byte-is hb))) (is-shl 16 (byte-is hc))) (is-shl 24 (byte-is hd))) beside-is
 
--- the bits of four bytes of a run, from byte 4 i on
-pub bits-of-four : (l : List ℕ) (i z : ℕ) → z < 32
-    → byteBit (getD l (4 * i) 0 ∷ getD l (4 * i + 1) 0 ∷ getD l (4 * i + 2) 0 ∷ getD l (4 * i + 3) 0 ∷ []) z ≡ byteBit l (z + 32 * i)
-bits-of-four l i z h = go (z / 8) refl
+-- the bits of the four bytes from byte `at` on
+pub bits-of-four : (s : List ℕ) (at z : ℕ) → z < 32
+    → byteBit (getD s at 0 ∷ getD s (at + 1) 0 ∷ getD s (at + 2) 0 ∷ getD s (at + 3) 0 ∷ []) z ≡ byteBit (drop at s) z
+bits-of-four s at z h = go (z / 8) refl
   where
     four : List ℕ
-    four = getD l (4 * i) 0 ∷ getD l (4 * i + 1) 0 ∷ getD l (4 * i + 2) 0 ∷ getD l (4 * i + 3) 0 ∷ []
+    four = getD s at 0 ∷ getD s (at + 1) 0 ∷ getD s (at + 2) 0 ∷ getD s (at + 3) 0 ∷ []
 
-    at : (q : ℕ) → z / 8 ≡ q → getD four q 0 ≡ getD l (4 * i + q) 0 → bit (getD four (z / 8) 0) (z % 8) ≡ byteBit l (z + 32 * i)
-    at q e g =
-        let m : z % 8 ≡ (z + 32 * i) % 8 = omega arith in
-        let d : 4 * i + q ≡ (z + 32 * i) / 8 = omega arith in
-        ap₂ bit (ap (λ (k : ℕ). getD four k 0) e ∙ g ∙ ap (λ (k : ℕ). getD l k 0) d) m
+    from : (q : ℕ) → z / 8 ≡ q → getD four q 0 ≡ getD s (at + q) 0 → byteBit four z ≡ byteBit (drop at s) z
+    from q e g =
+        ap (λ (n : ℕ). bit n (z % 8))
+        (ap (λ (k : ℕ). getD four k 0) e ∙ g ∙ ap (λ (k : ℕ). getD s (at + k) 0) (sym e) ∙ sym (getD-drop at s (z / 8) 0))
 
-    go : (q : ℕ) → z / 8 ≡ q → bit (getD four (z / 8) 0) (z % 8) ≡ byteBit l (z + 32 * i)
-    go zero e = at 0 e (let n : 4 * i ≡ 4 * i + 0 = omega arith in ap (λ (k : ℕ). getD l k 0) n)
-    go (suc zero) e = at 1 e refl
-    go (suc (suc zero)) e = at 2 e refl
-    go (suc (suc (suc zero))) e = at 3 e refl
+    go : (q : ℕ) → z / 8 ≡ q → byteBit four z ≡ byteBit (drop at s) z
+    go zero e = from 0 e (let n : at ≡ at + 0 = omega arith in ap (λ (k : ℕ). getD s k 0) n)
+    go (suc zero) e = from 1 e refl
+    go (suc (suc zero)) e = from 2 e refl
+    go (suc (suc (suc zero))) e = from 3 e refl
     go (suc (suc (suc (suc q)))) e = absurd (omega arith)
+
+-- lane i of the bytes from byte `at` on starts 4 i bytes further on
+pub lane-further : (s : List ℕ) (at i p : ℕ) → p ≡ at + 4 * i → (z : ℕ) → z < 32 → byteBit (drop p s) z ≡ byteBit (drop at s) (z + 32 * i)
+lane-further s at i p e z h =
+    let d : p + z / 8 ≡ at + (z + 32 * i) / 8 = omega arith in
+    let m : z % 8 ≡ (z + 32 * i) % 8 = omega arith in
+    ap₂ bit (getD-drop p s (z / 8) 0 ∙ ap (λ (k : ℕ). getD s k 0) d ∙ sym (getD-drop at s ((z + 32 * i) / 8) 0)) m
 
 -- byte q of lane i is byte 4 i + q of the state
 pub byte-of : (l : List ℕ) (i q n : ℕ) → q < 4 → n ≡ getD l i 0 / 2 ^ (8 * q) % 2 ^ 8 → n ≡ stateByte l (4 * i + q)
@@ -105,6 +113,24 @@ byte-of l i q n h e = e ∙ is-word (is-more (is-part 8 (8 * q) (getD l i 0)) sa
         let d : i ≡ (8 * (4 * i + q) + z) / 32 = omega arith in
         let m : 8 * q + z ≡ (8 * (4 * i + q) + z) % 32 = omega arith in
         ap₂ (λ (j k : ℕ). bit (getD l j 0) k) d m
+
+-- byte q of the sum of lane i and of the four bytes that stand in its place, which are as in o
+pub byte-added : (s o o′ : List ℕ) (i q : ℕ) {j : ℕ} → q < 4 → getD o (4 * i + q) 0 < 2 ^ 8 → getD o′ (4 * i + q) 0 ≡ getD o (4 * i + q) 0
+    → j ≡ lane (byteBit (drop (4 * i) o′)) → bitXor j (getD s i 0) / 2 ^ (8 * q) % 2 ^ 8 ≡ bitXor (getD o (4 * i + q) 0) (stateByte s (4 * i + q))
+byte-added s o o′ i q {j} h w g e =
+    is-word (is-more (is-part 8 (8 * q) (bitXor j (getD s i 0))) same)
+    ∙ sym (is-word (is-xor (is-own w) (is-part 8 (8 * q) (getD s i 0))))
+    ∙ ap (bitXor (getD o (4 * i + q) 0)) (byte-of s i q _ h refl)
+  where
+    same : (z : ℕ) → z < 8 → bit (bitXor j (getD s i 0)) (8 * q + z) ≡ bit (getD o (4 * i + q) 0) z ⊕ bit (getD s i 0) (8 * q + z)
+    same z l =
+        let d : (8 * q + z) / 8 ≡ q = omega arith in
+        let m : (8 * q + z) % 8 ≡ z = omega arith in
+        bit-xor j (getD s i 0) (8 * q + z)
+        ∙ ap (λ (b : Bool). b ⊕ bit (getD s i 0) (8 * q + z))
+        (ap (λ (n : ℕ). bit n (8 * q + z)) e
+        ∙ bit-ofBits 32 (byteBit (drop (4 * i) o′)) (8 * q + z) (omega arith)
+        ∙ ap₂ bit (ap (λ (k : ℕ). getD (drop (4 * i) o′) k 0) d ∙ getD-drop (4 * i) o′ q 0 ∙ g) m)
 
 -- four stores, of the bytes from 4 i on
 pub filled-four : (f : ℕ → ℕ) (l : List ℕ) (i : ℕ) {v₀ v₁ v₂ v₃ : ℕ} → 4 * i + 3 < length l
@@ -125,3 +151,19 @@ filled-four f l i {v₀} {v₁} {v₂} {v₃} h e₀ e₁ e₂ e₃ d =
     let d₂ = subst (Filled f l₂) n₂ (filled-more f l₁ (4 * i + 1) v₁ (omega arith) e₁ d₁) in
     let d₃ = subst (Filled f l₃) n₃ (filled-more f l₂ (4 * i + 2) v₂ (omega arith) e₂ d₂) in
     subst (Filled f (set l₃ (4 * i + 3) v₃)) n₄ (filled-more f l₃ (4 * i + 3) v₃ (omega arith) e₃ d₃)
+
+-- and they keep what stands behind
+pub kept-behind : (l : List ℕ) (i v₀ v₁ v₂ v₃ k : ℕ) → 4 * (i + 1) ≤ k
+    → getD (set (set (set (set l (4 * i) v₀) (4 * i + 1) v₁) (4 * i + 2) v₂) (4 * i + 3) v₃) k 0 ≡ getD l k 0
+kept-behind l i v₀ v₁ v₂ v₃ k h =
+    getD-set-other (set (set (set l (4 * i) v₀) (4 * i + 1) v₁) (4 * i + 2) v₂) (4 * i + 3) k v₃ 0 (λ e. omega (arith, e))
+    ∙ getD-set-other (set (set l (4 * i) v₀) (4 * i + 1) v₁) (4 * i + 2) k v₂ 0 (λ e. omega (arith, e))
+    ∙ getD-set-other (set l (4 * i) v₀) (4 * i + 1) k v₁ 0 (λ e. omega (arith, e))
+    ∙ getD-set-other l (4 * i) k v₀ 0 (λ e. omega (arith, e))
+
+-- a run to each of whose elements f's was added
+pub sum-filled : (f : ℕ → ℕ) (n : ℕ) (o l : List ℕ) → length o ≡ n → length l ≡ n → Filled (λ k. bitXor (getD o k 0) (f k)) l n → l ≡ sum o (tabulate n f)
+sum-filled f n o l ho hl d =
+    let t : length (tabulate n f) ≡ n = tabulate-length n f in
+    ext-getD 0 l (sum o (tabulate n f)) (hl ∙ sym (sum-length o (tabulate n f) (omega arith) ∙ ho))
+    (λ k h. d k (omega (arith, hl)) ∙ sym (sum-at o (tabulate n f) k (omega (arith, hl)) (omega (arith, hl)) ∙ ap (bitXor (getD o k 0)) (tabulate-at n f k (omega (arith, hl)))))

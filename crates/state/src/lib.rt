@@ -1,7 +1,8 @@
 // States of twelve lanes, the lane at x of plane y being element x + 4 y: their sum, and states as 48 bytes.
 ghost use mathlib.Core.Path.{_≡_};
 ghost use mathlib.Core.List.{[], _∷_};
-ghost use Prim.Native.Nat.{_+_, _*_, _<_};
+ghost use Prim.Native.Nat.{_+_, _≤_};
+ghost use lib.ListN.{length, drop};
 ghost use Rattle.word.specs.Lists.{sum};
 ghost use Rattle.state.specs.State.{lane};
 ghost use Rattle.state.specs.Bytes.{byteBit, fromBytes, toBytes};
@@ -33,32 +34,56 @@ fn join(a: u8, b: u8, c: u8, d: u8) -> u32
     (a as u32) | ((b as u32) << 8) | ((c as u32) << 16) | ((d as u32) << 24)
 }
 
-// Lane i of 48 bytes.
-fn lane_at(b: &[u8; 48], i: usize) -> u32
-    requires { ⌜ i < 12 ⌝ }
-    ensures { λ r. ⌜ r ≡ lane (λ z. byteBit (now (b .entry)) (z + 32 * i)) ⌝ }
+// The lane of the four bytes from byte `at` on.
+fn lane_at(s: &[u8], at: usize) -> u32
+    requires { ⌜ at + 4 ≤ length (now s) ⌝ }
+    ensures { λ r. ⌜ r ≡ lane (byteBit (drop at (now (s .entry)))) ⌝ }
 {
-    join(b[4 * i], b[4 * i + 1], b[4 * i + 2], b[4 * i + 3])
+    join(s[at], s[at + 1], s[at + 2], s[at + 3])
+}
+
+// The state of the 48 bytes from byte `at` on, read where they stand.
+pub fn from_bytes_at(s: &[u8], at: usize) -> [u32; 12]
+    requires { ⌜ at + 48 ≤ length (now s) ⌝ }
+    ensures { λ r. ⌜ r ≡ fromBytes (drop at (now (s .entry))) ⌝ }
+{
+    [
+        lane_at(s, at),
+        lane_at(s, at + 4),
+        lane_at(s, at + 8),
+        lane_at(s, at + 12),
+        lane_at(s, at + 16),
+        lane_at(s, at + 20),
+        lane_at(s, at + 24),
+        lane_at(s, at + 28),
+        lane_at(s, at + 32),
+        lane_at(s, at + 36),
+        lane_at(s, at + 40),
+        lane_at(s, at + 44),
+    ]
 }
 
 // The state of 48 bytes.
 pub fn from_bytes(b: &[u8; 48]) -> [u32; 12]
     ensures { λ r. ⌜ r ≡ fromBytes (now (b .entry)) ⌝ }
 {
-    [
-        lane_at(b, 0),
-        lane_at(b, 1),
-        lane_at(b, 2),
-        lane_at(b, 3),
-        lane_at(b, 4),
-        lane_at(b, 5),
-        lane_at(b, 6),
-        lane_at(b, 7),
-        lane_at(b, 8),
-        lane_at(b, 9),
-        lane_at(b, 10),
-        lane_at(b, 11),
-    ]
+    from_bytes_at(b, 0)
+}
+
+// Adds the 48 bytes of a state to as many bytes, lane by lane.
+pub fn add_bytes(s: &[u32; 12], out: &mut [u8])
+    requires { ⌜ length (now out) ≡ 48 ⌝ }
+    ensures { λ _. ⌜ now (out .exit) ≡ sum (now (out .entry)) (toBytes (now (s .entry))) ⌝ }
+{
+    let mut i: usize = 0;
+    while i < 12 {
+        let x = lane_at(out, 4 * i) ^ s[i];
+        out[4 * i] = (x % 256) as u8;
+        out[4 * i + 1] = (x / 256 % 256) as u8;
+        out[4 * i + 2] = (x / 65536 % 256) as u8;
+        out[4 * i + 3] = (x / 16777216 % 256) as u8;
+        i += 1;
+    }
 }
 
 // The 48 bytes of a state.
@@ -66,14 +91,6 @@ pub fn to_bytes(s: &[u32; 12]) -> [u8; 48]
     ensures { λ r. ⌜ r ≡ toBytes (now (s .entry)) ⌝ }
 {
     let mut b = [0u8; 48];
-    let mut i: usize = 0;
-    while i < 12 {
-        let x = s[i];
-        b[4 * i] = (x % 256) as u8;
-        b[4 * i + 1] = (x / 256 % 256) as u8;
-        b[4 * i + 2] = (x / 65536 % 256) as u8;
-        b[4 * i + 3] = (x / 16777216 % 256) as u8;
-        i += 1;
-    }
+    add_bytes(s, &mut b);
     b
 }

@@ -1,22 +1,25 @@
 -- What the loops of the leaves hold, over plain values. Assumes nothing.
-use mathlib.Core.Path.{_≡_, refl, sym, ap, ap₂, _∙_}
+use mathlib.Core.Path.{_≡_, refl, sym, ap, ap₂, _∙_, subst}
 use mathlib.Core.List.{List, [], _∷_, _++_}
-use Prim.Native.Nat.{ℕ, zero, suc, _+_, _-_, _/_, _%_, _≤_, _<_, min}
+use Prim.Native.Nat.{ℕ, zero, suc, _+_, _*_, _-_, _/_, _%_, _≤_, _<_, min}
 use native.Mathlib.Decide.{decLe}
 use native.Mathlib.Nat.{zero-add}
 use native.Mathlib.Omega.{arith}
 use lib.Bits.{bitXor}
-use lib.ListN.{length, getD, set, replicate, getD-replicate, length-set, length-append, List·getD-append, List·getD-eq-default}
-use lib.Seq.{getD-set-same, getD-set-other, getD-append-seam, ext-getD}
+use lib.ListN.{length, getD, set, take, drop, replicate, getD-replicate, length-set, length-append, length-drop, List·getD-append, List·getD-eq-default}
+use lib.Seq.{getD-set-same, getD-set-other, getD-append-seam, getD-append-add, getD-take, getD-drop, length-take-le}
 use Rattle.word.specs.Lists.{tabulate, sum}
 use Rattle.word.proofs.Lists.{Filled, filled-more, tabulate-is, tabulate-at, tabulate-length, sum-at, sum-length}
-use Rattle.state.specs.Bytes.{toBytes}
+use Rattle.state.specs.Bytes.{fromBytes, stateByte, toBytes}
+use Rattle.state.proofs.Bytes.{sum-filled}
 use Rattle.xoodoo.specs.Xoodoo.{perm}
 use Rattle.rolling.specs.Rolling.{rollIn, rollOut}
 use Rattle.deck.specs.declared.DeckState.{DeckState}
 use Rattle.deck.specs.Strings.{Str, block, blocks}
+use Rattle.deck.specs.Closing.{closedBy}
 use Rattle.deck.specs.Deck.{iterate, maskAt, addBlocks, indexGrowth, outputByte, run}
 use Rattle.deck.specs.Incremental.{append}
+use Rattle.deck.proofs.Strings.{block-fromBytes}
 use Rattle.deck.proofs.Deck.{iterate-more, maskAt-more, addBlocks-more}
 use Rattle.deck.proofs.Output.{outputByte-block}
 use Rattle.xoofff.specs.declared.Compressed.{Compressed}
@@ -44,7 +47,7 @@ Clear b i = (k : ℕ) → i ≤ k → getD b k 0 ≡ 0
 pub clear-more : (b : List ℕ) (i v : ℕ) → Clear b i → Clear (set b i v) (i + 1)
 clear-more b i v h k l = getD-set-other b i k v 0 (λ e. omega (arith, e)) ∙ h k (omega arith)
 
--- the block at `at`: what a loop has copied and what it has not reached yet
+-- the last block, which starts at `at`: what a loop has copied and what it has not reached yet
 pub record Copied (s : List ℕ) (c at : ℕ) (b : List ℕ) (i : ℕ) : Type 0 where
   pub size : length b ≡ 48
   pub filled : Filled (λ k. closedAt s c (at + k)) b i
@@ -70,7 +73,7 @@ copied-byte s c at b i h l d =
       clear = clear-more b i (getD s (at + i) 0) (d .clear);
     }
 
--- a block with the closing byte in it
+-- with the closing byte
 pub closed-block : (s : List ℕ) (c at : ℕ) (b : List ℕ) (n : ℕ) → n < 48 → at + n ≡ length s → Copied s c at b n → set b n c ≡ run (closedAt s c) at 48
 closed-block s c at b n h e d = tabulate-is 48 (λ k. closedAt s c (at + k)) (set b n c) (length-set b n c ∙ d .size) (λ k l. go k (decLe k n))
   where
@@ -78,9 +81,9 @@ closed-block s c at b n h e d = tabulate-is 48 (λ k. closedAt s c (at + k)) (se
     go k (yes p) = filled-more (λ k. closedAt s c (at + k)) b n c (omega (arith, d .size)) (closed-end s c (at + n) e) (d .filled) k (omega arith)
     go k (no p) = clear-more b n c (d .clear) k (omega (arith, p)) ∙ sym (closed-past s c (at + k) (omega (arith, p)))
 
--- a block without it
-pub whole-block : (s : List ℕ) (c at : ℕ) (b : List ℕ) → Copied s c at b 48 → b ≡ run (closedAt s c) at 48
-whole-block s c at b d = tabulate-is 48 (λ k. closedAt s c (at + k)) b (d .size) (d .filled)
+-- a full block, as it stands in the string
+pub full-block : (s : List ℕ) (c j : ℕ) → 0 < c → c < 256 → 48 * j + 48 ≤ length s → fromBytes (drop (48 * j) s) ≡ block (closedBy s c) j
+full-block s c j p h l = sym (block-fromBytes s c j p h (drop (48 * j) s) (λ i g. getD-drop (48 * j) s i 0 ∙ closed-in s c (48 * j + i) (omega arith)))
 
 -- ---- compression
 
@@ -105,6 +108,10 @@ all-added d s a m j i ej ea em ei =
 
 pub added-none : (f : ℕ → ℕ) (at : ℕ) (o : List ℕ) → Added f at 0 o o
 added-none f at o = record { size = refl; sums = λ k h. absurd (omega arith); front = λ k h. refl; rest = λ k h. refl }
+
+-- the same numbers, added
+pub added-same : (f g : ℕ → ℕ) (at n : ℕ) {o o′ : List ℕ} → ((k : ℕ) → k < n → f k ≡ g k) → Added f at n o o′ → Added g at n o o′
+added-same f g at n {o} e d = record { size = d .size; sums = λ k l. d .sums k l ∙ ap (bitXor (getD o (at + k) 0)) (e k l); front = d .front; rest = d .rest }
 
 -- one more byte
 pub added-byte : (f : ℕ → ℕ) (at i : ℕ) (o o′ : List ℕ) (v : ℕ) → at + i < length o → v ≡ bitXor (getD o′ (at + i) 0) (f i) → Added f at i o o′ → Added f at (i + 1) o (set o′ (at + i) v)
@@ -148,19 +155,60 @@ added-run f g m n o o′ o″ e a d =
         let z : k ≡ 0 + k = sym (zero-add k) in
         d .front k (omega (arith, p)) ∙ ap (λ (i : ℕ). getD o′ i 0) z ∙ a .sums k (omega (arith, p)) ∙ ap (λ (i : ℕ). bitXor (getD o i 0) (f k)) (sym z)
 
+-- a run to the 48 bytes from place `at` on
+added-part : (f : ℕ → ℕ) (at : ℕ) (o b : List ℕ) → at + 48 ≤ length o → b ≡ sum (take 48 (drop at o)) (tabulate 48 f)
+    → Added f at 48 o (take at o ++ (b ++ drop 48 (drop at o)))
+added-part f at o b h e =
+    record {
+      size = omega (arith, length-append (take at o) (b ++ drop 48 (drop at o)), length-append b (drop 48 (drop at o)), length-drop 48 (drop at o), length-drop at o, n, m);
+      sums = λ k l.
+          behind k
+          ∙ List·getD-append b (drop 48 (drop at o)) 0 k (omega (arith, m))
+          ∙ ap (λ (u : List ℕ). getD u k 0) e
+          ∙ sum-at (take 48 (drop at o)) (tabulate 48 f) k (omega (arith, t)) (omega (arith, tabulate-length 48 f))
+          ∙ ap₂ bitXor (getD-take 48 (drop at o) k 0 l ∙ getD-drop at o k 0) (tabulate-at 48 f k l);
+      front = λ k l. List·getD-append (take at o) (b ++ drop 48 (drop at o)) 0 k (omega (arith, n)) ∙ getD-take at o k 0 l;
+      rest = λ k l.
+          let i : k ≡ at + (length b + (k - at - 48)) = omega (arith, m) in
+          let j : at + (48 + (k - at - 48)) ≡ k = omega arith in
+          ap (λ (u : ℕ). getD (take at o ++ (b ++ drop 48 (drop at o))) u 0) i
+          ∙ behind (length b + (k - at - 48))
+          ∙ getD-append-add b (drop 48 (drop at o)) (k - at - 48) 0
+          ∙ getD-drop 48 (drop at o) (k - at - 48) 0
+          ∙ getD-drop at o (48 + (k - at - 48)) 0
+          ∙ ap (λ (u : ℕ). getD o u 0) j;
+    }
+  where
+    n : length (take at o) ≡ at
+    n = length-take-le at o (omega arith)
+
+    t : length (take 48 (drop at o)) ≡ 48
+    t = length-take-le 48 (drop at o) (omega (arith, length-drop at o))
+
+    m : length b ≡ 48
+    m = ap length e ∙ sum-length (take 48 (drop at o)) (tabulate 48 f) (omega (arith, t, tabulate-length 48 f)) ∙ t
+
+    behind : (k : ℕ) → getD (take at o ++ (b ++ drop 48 (drop at o))) (at + k) 0 ≡ getD (b ++ drop 48 (drop at o)) k 0
+    behind k = ap (λ (u : ℕ). getD (take at o ++ (b ++ drop 48 (drop at o))) (u + k) 0) (sym n) ∙ getD-append-add (take at o) (b ++ drop 48 (drop at o)) k 0
+
+-- a whole block l, lent w bytes of the buffer: from its byte `skip` on, as many as there are and fit
+pub added-block : (l : List ℕ) (skip at n w : ℕ) (o b : List ℕ) → n ≡ min (48 - skip) (length o - at) → 48 ≤ n → w ≡ 48
+    → b ≡ sum (take w (drop at o)) (toBytes l) → Added (λ k. stateByte l (skip + k)) at n o (take at o ++ (b ++ drop w (drop at o)))
+added-block l skip at n w o b en h ew eb =
+    let e : 48 ≡ n = omega arith in
+    let z : 0 ≡ skip = omega arith in
+    subst (λ (v : ℕ). Added (λ k. stateByte l (skip + k)) at n o (take at o ++ (b ++ drop v (drop at o)))) (sym ew)
+    (subst (λ (v : ℕ). Added (λ k. stateByte l (skip + k)) at v o (take at o ++ (b ++ drop 48 (drop at o)))) e
+    (added-same (stateByte l) (λ k. stateByte l (skip + k)) at 48 (λ k g. let i : k ≡ skip + k = omega arith in ap (stateByte l) i)
+    (added-part (stateByte l) at o b (omega arith) (eb ∙ ap (λ (v : ℕ). sum (take v (drop at o)) (toBytes l)) ew))))
+
 -- the whole buffer
 pub added-all : (f : ℕ → ℕ) (n : ℕ) (o o′ : List ℕ) → n ≡ length o → Added f 0 n o o′ → o′ ≡ sum o (tabulate (length o) f)
 added-all f n o o′ e a =
-    let t : length (tabulate (length o) f) ≡ length o = tabulate-length (length o) f in
-    let s : length (sum o (tabulate (length o) f)) ≡ length o = sum-length o (tabulate (length o) f) (omega arith) in
-    ext-getD 0 o′ (sum o (tabulate (length o) f)) (a .size ∙ sym s)
-    (λ k l.
-    let h : k < length o = omega (arith, a .size) in
+    sum-filled f (length o) o o′ refl (a .size)
+    (λ k h.
     let z : k ≡ 0 + k = sym (zero-add k) in
-    ap (λ (i : ℕ). getD o′ i 0) z
-    ∙ a .sums k (omega (arith, e))
-    ∙ ap (λ (i : ℕ). bitXor (getD o i 0) (f k)) (sym z)
-    ∙ sym (sum-at o (tabulate (length o) f) k h (omega arith) ∙ ap (bitXor (getD o k 0)) (tabulate-at (length o) f k h)))
+    ap (λ (i : ℕ). getD o′ i 0) z ∙ a .sums k (omega (arith, e)) ∙ ap (λ (i : ℕ). bitXor (getD o i 0) (f k)) (sym z))
 
 -- ---- expansion
 
@@ -194,17 +242,18 @@ expanded-none y k′ from o z e =
 
 -- one more block b, of which n bytes were added: those of the output from byte from + m on
 pub expanded-more : (y k′ : List ℕ) (from : ℕ) (o z o′ o″ : List ℕ) (m n count : ℕ) (b t : List ℕ)
-    → (from + m) / 48 ≡ from / 48 + count → n ≤ 48 - (from + m) % 48 → b ≡ toBytes (sum (perm z) k′) → t ≡ rollOut z
-    → Added (λ k. getD b ((from + m) % 48 + k) 0) m n o′ o″ → Expanded y k′ from o m z o′ count → Expanded y k′ from o (m + n) t o″ (count + 1)
+    → (from + m) / 48 ≡ from / 48 + count → n ≤ 48 - (from + m) % 48 → b ≡ sum (perm z) k′ → t ≡ rollOut z
+    → Added (λ k. stateByte b ((from + m) % 48 + k)) m n o′ o″ → Expanded y k′ from o m z o′ count → Expanded y k′ from o (m + n) t o″ (count + 1)
 expanded-more y k′ from o z o′ o″ m n count b t e h eb et d x =
     let i : from / 48 + count + 1 ≡ from / 48 + (count + 1) = omega arith in
     record {
       rolled = et ∙ ap rollOut (x .rolled) ∙ sym (iterate-more rollOut (from / 48 + count) y) ∙ ap (λ (j : ℕ). iterate j rollOut y) i;
       added =
-          added-run (λ k. outputByte y k′ (from + k)) (λ k. getD b ((from + m) % 48 + k) 0) m n o o′ o″
+          added-run (λ k. outputByte y k′ (from + k)) (λ k. stateByte b ((from + m) % 48 + k)) m n o o′ o″
           (λ k l.
           let a : from + m + k ≡ from + (m + k) = omega arith in
-          ap (λ (u : List ℕ). getD u ((from + m) % 48 + k) 0) eb
+          ap (λ (u : List ℕ). stateByte u ((from + m) % 48 + k)) eb
+          ∙ sym (tabulate-at 48 (stateByte (sum (perm z) k′)) ((from + m) % 48 + k) (omega arith))
           ∙ outputByte-block y k′ z (from + m) (from / 48 + count) n k e (x .rolled) h l
           ∙ ap (outputByte y k′) a)
           (x .added) d;

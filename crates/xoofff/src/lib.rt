@@ -1,10 +1,9 @@
 // The deck function Xoofff, incremental: the leaves that compress a string and expand the output.
 ghost use mathlib.Core.Path.{_≡_};
-ghost use mathlib.Core.List.{[], _∷_, _++_};
-ghost use Prim.Native.Nat.{_+_, _*_, _-_, _≤_, _<_, min};
+ghost use Prim.Native.Nat.{_+_, _-_, _/_, _≤_, _<_, min};
 ghost use lib.ListN.{length, getD};
 ghost use Rattle.word.specs.Lists.{sum};
-ghost use Rattle.state.specs.Bytes.{toBytes};
+ghost use Rattle.state.specs.Bytes.{stateByte};
 ghost use Rattle.xoodoo.specs.Xoodoo.{perm};
 ghost use Rattle.rolling.specs.Rolling.{rollOut};
 ghost use Rattle.deck.specs.Strings.{block};
@@ -29,31 +28,20 @@ fn smaller(a: usize, b: usize) -> usize
     b
 }
 
-// The 48 bytes of block j of a string: its own bytes, the closing byte directly after the last of them, and zeros.
-fn block_bytes(s: &[u8], closing: u8, j: usize) -> [u8; 48]
-    requires { ⌜ (48 * j ≤ length (now s)) × (length (now s) ≤ 16401) ⌝ }
-    ensures { λ r. ⌜ r ≡ run (λ i. getD (now (s .entry) ++ closing ∷ []) i 0) (48 * j) 48 ⌝ }
+// The last block of the string of these bytes and this closing byte: the bytes behind the full blocks, the closing byte, and zeros.
+fn last_block(s: &[u8], closing: u8) -> [u32; 12]
+    requires { ⌜ 0 < closing ⌝ }
+    ensures { λ r. ⌜ r ≡ block (closedBy (now (s .entry)) closing) (length (now (s .entry)) / 48) ⌝ }
 {
-    let at = 48 * j;
-    let n = smaller(s.len() - at, 48);
+    let n = s.len() % 48;
+    let at = 48 * (s.len() / 48);
     let mut b = [0u8; 48];
     let mut i: usize = 0;
     while i < n {
         b[i] = s[at + i];
         i += 1;
     }
-    if n < 48 {
-        b[n] = closing;
-    }
-    b
-}
-
-// Block j of the string of these bytes and this closing byte, whole or last.
-fn load_block(s: &[u8], closing: u8, j: usize) -> [u32; 12]
-    requires { ⌜ (0 < closing) × (48 * j ≤ length (now s)) × (length (now s) ≤ 16401) ⌝ }
-    ensures { λ r. ⌜ r ≡ block (closedBy (now (s .entry)) closing) j ⌝ }
-{
-    let b = block_bytes(s, closing, j);
+    b[n] = closing;
     state::from_bytes(&b)
 }
 
@@ -62,7 +50,7 @@ pub fn key_mask(key: &[u8]) -> [u32; 12]
     requires { ⌜ length (now key) ≤ 47 ⌝ }
     ensures { λ r. ⌜ r ≡ keyMask (now (key .entry)) ⌝ }
 {
-    let b = load_block(key, 1, 0);
+    let b = last_block(key, 1);
     xoodoo::permute(b)
 }
 
@@ -75,7 +63,8 @@ fn add_block(acc: [u32; 12], mask: [u32; 12], b: [u32; 12]) -> [u32; 12]
     state::add(acc, p)
 }
 
-// One more string, of these bytes and this closing byte: block by block, and the mask rolled once more for the blank index.
+// One more string, of these bytes and this closing byte: the full blocks from where they stand, the last one, and the mask rolled once more for
+// the blank index.
 pub fn compress(d: DeckState, s: &[u8], closing: u8) -> Compressed
     requires { ⌜ (0 < closing) × (length (now s) ≤ 16401) × (d .index ≤ 1048576) ⌝ }
     ensures { λ r. ⌜ r ≡ compressed d (closedBy (now (s .entry)) closing) ⌝ }
@@ -83,19 +72,22 @@ pub fn compress(d: DeckState, s: &[u8], closing: u8) -> Compressed
     let mut acc = d.acc;
     let mut mask = d.mask;
     let mut j: usize = 0;
-    while 48 * j <= s.len() {
-        let b = load_block(s, closing, j);
+    while 48 * j + 48 <= s.len() {
+        let b = state::from_bytes_at(s, 48 * j);
         let x = add_block(acc, mask, b);
         acc = x;
         let m = rolling::roll_in(mask);
         mask = m;
         j += 1;
     }
-    let blank = rolling::roll_in(mask);
-    let count = j as u32;
+    let b = last_block(s, closing);
+    let x = add_block(acc, mask, b);
+    let m = rolling::roll_in(mask);
+    let blank = rolling::roll_in(m);
+    let count = j as u32 + 1;
     let index = d.index + count + 1;
     let state = DeckState {
-        acc,
+        acc: x,
         mask: blank,
         index,
     };
@@ -116,28 +108,41 @@ fn roll_by(y: [u32; 12], n: usize) -> [u32; 12]
     z
 }
 
-// The bytes of the output block that the rolled state y gives.
-fn output_bytes(y: [u32; 12], mask: &[u32; 12]) -> [u8; 48]
-    ensures { λ r. ⌜ r ≡ toBytes (sum (perm y) (now (mask .entry))) ⌝ }
+// The output block that the rolled state y gives.
+fn output_block(y: [u32; 12], mask: &[u32; 12]) -> [u32; 12]
+    ensures { λ r. ⌜ r ≡ sum (perm y) (now (mask .entry)) ⌝ }
 {
     let p = xoodoo::permute(y);
     let k = *mask;
-    let o = state::add(p, k);
-    state::to_bytes(&o)
+    state::add(p, k)
 }
 
-// Adds the bytes of a block from byte `skip` on to the buffer from byte `at` on, as many as there are and fit; gives their number.
-fn xor_bytes(block: &[u8; 48], skip: usize, at: usize, out: &mut [u8]) -> usize
-    requires { ⌜ (skip < 48) × (at ≤ length (now out)) ⌝ }
-    ensures { λ r. ⌜ (r ≡ min (48 - skip) (length (now (out .entry)) - at))
-        × Added (λ k. getD (now (block .entry)) (skip + k) 0) at r (now (out .entry)) (now (out .exit)) ⌝ }
+// Adds n bytes of a block, from byte `skip` on, to the buffer from byte `at` on.
+fn xor_bytes(block: &[u8; 48], skip: usize, n: usize, at: usize, out: &mut [u8])
+    requires { ⌜ (skip + n ≤ 48) × (at + n ≤ length (now out)) ⌝ }
+    ensures { λ _. ⌜ Added (λ k. getD (now (block .entry)) (skip + k) 0) at n (now (out .entry)) (now (out .exit)) ⌝ }
 {
-    let n = smaller(48 - skip, out.len() - at);
     let mut i: usize = 0;
     while i < n {
         out[at + i] ^= block[skip + i];
         i += 1;
     }
+}
+
+// Adds the bytes of a block from byte `skip` on to the buffer from byte `at` on, as many as there are and fit; gives their number. A whole block
+// is added by lanes.
+fn add_output(block: &[u32; 12], skip: usize, at: usize, out: &mut [u8]) -> usize
+    requires { ⌜ (skip < 48) × (at ≤ length (now out)) ⌝ }
+    ensures { λ r. ⌜ (r ≡ min (48 - skip) (length (now (out .entry)) - at))
+        × Added (λ k. stateByte (now (block .entry)) (skip + k)) at r (now (out .entry)) (now (out .exit)) ⌝ }
+{
+    let n = smaller(48 - skip, out.len() - at);
+    if n < 48 {
+        let b = state::to_bytes(block);
+        xor_bytes(&b, skip, n, at, out);
+        return n;
+    }
+    state::add_bytes(block, &mut out[at..at + 48]);
     n
 }
 
@@ -151,8 +156,8 @@ pub fn expand(y: [u32; 12], mask: &[u32; 12], from: usize, out: &mut [u8]) -> u3
     let mut at: usize = 0;
     let mut count: u32 = 0;
     while at < out.len() {
-        let b = output_bytes(z, mask);
-        at += xor_bytes(&b, (from + at) % 48, at, out);
+        let b = output_block(z, mask);
+        at += add_output(&b, (from + at) % 48, at, out);
         let t = rolling::roll_out(z);
         z = t;
         count += 1;

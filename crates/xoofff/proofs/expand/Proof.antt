@@ -33,10 +33,10 @@ add-count c =
 
 loop-again : tie.Need-loop-again Inv-loop μ-loop
 loop-again c =
-    let x = c .before .before .before .xor-bytes in
+    let x = c .before .before .before .add-output in
     let l = c .before .before .before .before .before .before .before .before .loop in
     let a = c .before .before .before .before .before .before .before .before .before .before .before .args in
-    let b = c .before .before .before .before .before .before .output-bytes in
+    let b = c .before .before .before .before .before .before .output-block in
     let h : (a .from + l .at) / 48 ≡ a .from / 48 + l .count = l .inv .3 (omega arith) in (
       omega arith,
       x .ensures .1 .size ∙ l .inv .1,
