@@ -6,9 +6,14 @@
 #include <string.h>
 #include <time.h>
 
-void pevghazo_permute(uint32_t s[12]);
-void pevghazo_compress(uint32_t acc[12], uint32_t mask[12], const uint8_t *s, size_t n);
-uint32_t pevghazo_expand(const uint32_t y[12], const uint32_t mask[12], uint8_t *out, size_t n);
+#define EXPORTED(who)                                                                          \
+    void who##_permute(uint32_t s[12]);                                                        \
+    void who##_compress(uint32_t acc[12], uint32_t mask[12], const uint8_t *s, size_t n);      \
+    uint32_t who##_expand(const uint32_t y[12], const uint32_t mask[12], uint8_t *out, size_t n);
+EXPORTED(pevghazo)
+#ifdef WITH_EARLIER
+EXPORTED(earlier)
+#endif
 
 enum { RUNS = 41, SIDES = 8 };
 
@@ -67,26 +72,52 @@ static void compare(const char *title, const side *sides, int n, int calls, size
 
 /* ---- the leaves */
 
-static uint8_t out1[LONGEST], out2[LONGEST];
-static uint32_t s1[12], s2[12], k1[12], k2[12];
+/* What a side's leaves work on. */
+typedef struct leaf_state {
+    uint32_t s[12], k[12];
+    uint8_t out[LONGEST];
+} leaf_state;
 
-static bool permute_ours(void) { return pevghazo_permute(s1), true; }
-static bool permute_theirs(void) { return reference_permute(s2), true; }
-static bool compress_ours(void) { return pevghazo_compress(s1, k1, peer_message, LONGEST), true; }
-static bool compress_theirs(void) { return reference_compress(s2, k2, peer_message, LONGEST), true; }
-static bool expand_ours(void) { return pevghazo_expand(s1, k1, out1, LONGEST), true; }
-static bool expand_theirs(void) { return reference_expand(s2, k2, out2, LONGEST), true; }
+static size_t leaf_size;
+
+#define LEAVES(who)                                                                                   \
+    static leaf_state who;                                                                            \
+    static bool who##_permutes(void) { return who##_permute(who.s), true; }                           \
+    static bool who##_compresses(void) { return who##_compress(who.s, who.k, peer_message, leaf_size), true; } \
+    static bool who##_expands(void) { return who##_expand(who.s, who.k, who.out, leaf_size), true; }
+LEAVES(pevghazo)
+LEAVES(reference)
+#ifdef WITH_EARLIER
+LEAVES(earlier)
+#define IF_EARLIER(...) __VA_ARGS__
+#else
+#define IF_EARLIER(...)
+#endif
+
+static leaf_state *const leaf_states[] = {&pevghazo, &reference, IF_EARLIER(&earlier)};
+
+/* A leaf's sides, the library first. */
+#define SIDES_OF(call) {{"proved library", pevghazo_##call}, {"plain C, gcc -O3", reference_##call}, IF_EARLIER({"the library before", earlier_##call})}
+static const side permutes[] = SIDES_OF(permutes), compresses[] = SIDES_OF(compresses), expands[] = SIDES_OF(expands);
+enum { LEAF_SIDES = sizeof permutes / sizeof permutes[0] };
 
 static void same(const char *what, const void *a, const void *b, size_t n) {
     if (memcmp(a, b, n) != 0) fail(what, "the two sides disagree");
 }
 
-static void leaf(const char *title, bool (*ours)(void), bool (*theirs)(void), int calls, size_t bytes) {
-    side sides[2] = {{"proved library", ours}, {"plain C, gcc -O3", theirs}};
-    compare(title, sides, 2, calls, bytes);
-    same(title, s1, s2, sizeof s1);
-    same(title, k1, k2, sizeof k1);
-    same(title, out1, out2, sizeof out1);
+static void leaf(const char *title, const side *sides, int calls, size_t bytes) {
+    compare(title, sides, LEAF_SIDES, calls, bytes);
+    for (int k = 1; k < LEAF_SIDES; k++) same(title, leaf_states[k], leaf_states[0], sizeof(leaf_state));
+}
+
+/* Compression and expansion of so many bytes. */
+static void leaves(const char *title, size_t size, int calls) {
+    char line[64];
+    leaf_size = size;
+    snprintf(line, sizeof line, "compress, %s bytes", title);
+    leaf(line, compresses, calls, size);
+    snprintf(line, sizeof line, "expand, %s bytes", title);
+    leaf(line, expands, calls, size);
 }
 
 /* ---- sessions */
@@ -131,10 +162,10 @@ int main(void) {
     if (!peers_ready()) fail("libsodium", "it does not start");
     for (int i = 0; i < LONGEST; i++) peer_message[i] = (uint8_t)(i * 7 + i / 256);
     for (int i = 0; i < KEY; i++) peer_key[i] = (uint8_t)(i * 11 + 3);
-    k1[0] = k2[0] = 1;
-    leaf("permutation", permute_ours, permute_theirs, 20000, 0);
-    leaf("compress, 16,384 bytes", compress_ours, compress_theirs, 50, LONGEST);
-    leaf("expand, 16,384 bytes", expand_ours, expand_theirs, 50, LONGEST);
+    for (int k = 0; k < LEAF_SIDES; k++) leaf_states[k]->k[0] = 1;
+    leaf("permutation", permutes, 20000, 0);
+    leaves("64", 64, 5000);
+    leaves("16,384", LONGEST, 50);
     starts();
     sessions("64", 64, 300);
     sessions("1,024", 1024, 100);
