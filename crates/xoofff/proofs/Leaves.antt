@@ -81,6 +81,14 @@ closed-block s c at b n h e d = tabulate-is 48 (λ k. closedAt s c (at + k)) (se
     go k (yes p) = filled-more (λ k. closedAt s c (at + k)) b n c (omega (arith, d .size)) (closed-end s c (at + n) e) (d .filled) k (omega arith)
     go k (no p) = clear-more b n c (d .clear) k (omega (arith, p)) ∙ sym (closed-past s c (at + k) (omega (arith, p)))
 
+-- at a multiple of 48 bytes the last block holds the closing byte alone
+pub closing-alone : (s : List ℕ) (c j : ℕ) → 0 < c → c < 256 → 48 * j ≡ length s → block (closedBy s c) j ≡ fromBytes (c ∷ replicate 47 0)
+closing-alone s c j p h e = block-fromBytes s c j p h (c ∷ replicate 47 0) go
+  where
+    go : (i : ℕ) → i < 48 → getD (c ∷ replicate 47 0) i 0 ≡ closedAt s c (48 * j + i)
+    go zero l = closed-end s c (48 * j + 0) (omega (arith, e))
+    go (suc i) l = getD-replicate 47 i 0 0 (omega arith) ∙ sym (closed-past s c (48 * j + suc i) (omega (arith, e)))
+
 -- a full block, as it stands in the string
 pub full-block : (s : List ℕ) (c j : ℕ) → 0 < c → c < 256 → 48 * j + 48 ≤ length s → fromBytes (drop (48 * j) s) ≡ block (closedBy s c) j
 full-block s c j p h l = sym (block-fromBytes s c j p h (drop (48 * j) s) (λ i g. getD-drop (48 * j) s i 0 ∙ closed-in s c (48 * j + i) (omega arith)))

@@ -131,7 +131,7 @@ fn xor_bytes(block: &[u8; 48], skip: usize, n: usize, at: usize, out: &mut [u8])
 
 // Adds the bytes of a block from byte `skip` on to the buffer from byte `at` on, as many as there are and fit; gives their number. A whole block
 // is added by lanes.
-fn add_output(block: &[u32; 12], skip: usize, at: usize, out: &mut [u8]) -> usize
+fn xor_block(block: &[u32; 12], skip: usize, at: usize, out: &mut [u8]) -> usize
     requires { ⌜ (skip < 48) × (at ≤ length (now out)) ⌝ }
     ensures { λ r. ⌜ (r ≡ min (48 - skip) (length (now (out .entry)) - at))
         × Added (λ k. stateByte (now (block .entry)) (skip + k)) at r (now (out .entry)) (now (out .exit)) ⌝ }
@@ -157,7 +157,7 @@ pub fn expand(y: [u32; 12], mask: &[u32; 12], from: usize, out: &mut [u8]) -> u3
     let mut count: u32 = 0;
     while at < out.len() {
         let b = output_block(z, mask);
-        at += add_output(&b, (from + at) % 48, at, out);
+        at += xor_block(&b, (from + at) % 48, at, out);
         let t = rolling::roll_out(z);
         z = t;
         count += 1;

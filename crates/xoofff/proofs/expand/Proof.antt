@@ -33,7 +33,7 @@ add-count c =
 
 loop-again : tie.Need-loop-again Inv-loop μ-loop
 loop-again c =
-    let x = c .before .before .before .add-output in
+    let x = c .before .before .before .xor-block in
     let l = c .before .before .before .before .before .before .before .before .loop in
     let a = c .before .before .before .before .before .before .before .before .before .before .before .args in
     let b = c .before .before .before .before .before .before .output-block in

@@ -1,4 +1,4 @@
--- `xoofff::add_output` meets its contract. Assumes nothing.
+-- `xoofff::xor_block` meets its contract. Assumes nothing.
 use mathlib.Core.Path.{ap, _∙_}
 use mathlib.Core.List.{List}
 use Prim.Native.Nat.{ℕ, _+_, _-_}
@@ -9,8 +9,8 @@ use borrow.Author.Needs.{needs}
 use Rattle.word.proofs.Lists.{tabulate-at}
 use Rattle.state.specs.Bytes.{stateByte}
 use Rattle.xoofff.proofs.Leaves.{added-same, added-block}
-use Rattle.xoofff.proofs.add_output.Statement.{statement}
-use Rattle.xoofff.proofs.add_output.Tie as tie
+use Rattle.xoofff.proofs.xor_block.Statement.{statement}
+use Rattle.xoofff.proofs.xor_block.Tie as tie
 
 returns : tie.Need-returns
 returns c =
@@ -28,5 +28,5 @@ returns-2 c =
     let a = c .before .before .before .before .before .before .before .args in
     (n .ensures, added-block (now (a .block)) (a .skip) (a .at) (n .result) (a .at + 48 - a .at) (now (a .out)) _ (n .ensures) (omega arith) (omega arith) (c .before .before .add-bytes .ensures))
 
-pub add-output-spec : {M : Type 1} → statement M
-add-output-spec = tie.close (tie.spec (λ c. omega arith) (λ c. omega arith) (λ c κs. search needs) (λ c κs. search needs) (λ c κs. search needs) (λ c. search needs) returns (λ c. omega arith) (λ c. omega arith) (λ c. omega arith) (λ c. omega arith) (λ c κs. search needs) (λ c. search needs) returns-2)
+pub xor-block-spec : {M : Type 1} → statement M
+xor-block-spec = tie.close (tie.spec (λ c. omega arith) (λ c. omega arith) (λ c κs. search needs) (λ c κs. search needs) (λ c κs. search needs) (λ c. search needs) returns (λ c. omega arith) (λ c. omega arith) (λ c. omega arith) (λ c. omega arith) (λ c κs. search needs) (λ c. search needs) returns-2)
