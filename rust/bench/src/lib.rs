@@ -1,9 +1,12 @@
-//! The independent implementation behind a C interface, so that `bench/bench.c` can time it beside the proved library. The
-//! records are those of `include/pevghazo.h`; lengths must be within their limits.
+//! The independent implementation behind a C interface, so that `bench/bench.c` can time it beside the proved library and
+//! `tests/leaves.c` can compare the leaves with it. The records are those of `include/pevghazo.h`; lengths must be within their
+//! limits.
 
 use std::slice::{from_raw_parts, from_raw_parts_mut};
 
+use pevghazo_reference::deck::Deck;
 use pevghazo_reference::session::Session;
+use pevghazo_reference::xoodoo::{BLOCK, State, XOOFFF_ROUNDS, inverse};
 
 /// `pevghazo_session` of the header.
 #[repr(C)]
@@ -92,4 +95,35 @@ pub unsafe extern "C" fn rust_unwrap(
     let answer = here.unwrap(metadata, cryptogram, tag, out);
     session.set(here);
     answer.is_ok()
+}
+
+/// Accumulator and mask, in place, after the string of these bytes with no frame bits.
+///
+/// # Safety
+///
+/// As for [`rust_start`].
+#[unsafe(no_mangle)]
+pub unsafe extern "C" fn rust_compress(acc: &mut State, mask: &mut State, s: *const u8, n: usize) {
+    let s = unsafe { from_raw_parts(s, n) };
+    let mut deck = Deck { accumulator: *acc, mask: *mask, index: 0 };
+    deck.compress(s, &[]);
+    (*acc, *mask) = (deck.accumulator, deck.mask);
+}
+
+/// Adds the output of the rolled state `y` under the mask, from its first byte on, to `out`, and gives the number of its blocks.
+///
+/// The deck function rolls the permutation of its accumulator, so here it has the accumulator whose permutation is `y`.
+///
+/// # Safety
+///
+/// As for [`rust_start`].
+#[unsafe(no_mangle)]
+pub unsafe extern "C" fn rust_expand(y: &State, mask: &State, out: *mut u8, n: usize) -> u32 {
+    let out = unsafe { from_raw_parts_mut(out, n) };
+    let mut output = vec![0; n];
+    Deck { accumulator: inverse(y, XOOFFF_ROUNDS), mask: *mask, index: 0 }.output(0, &mut output);
+    for (byte, more) in out.iter_mut().zip(output) {
+        *byte ^= more;
+    }
+    u32::try_from(n.div_ceil(BLOCK)).expect("a length within the limit")
 }

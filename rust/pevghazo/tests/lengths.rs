@@ -1,0 +1,135 @@
+//! Wraps and unwraps of both modes through the C library, beside the independent implementation, at all short lengths and at
+//! those where blocks begin and end, with all buffers at addresses that are not aligned: answers, buffers, counts and records are
+//! the same, the message comes back, and the bytes around the buffers stay.
+
+mod common;
+
+use std::array;
+use std::ops::Range;
+
+use common::{Both, BothOf, EDGES, Library, SaneBoth, answer_of, same};
+use pevghazo_reference::random::Random;
+use pevghazo_reference::session::Mode;
+
+/// How far behind a multiple of 16 the buffers stand.
+const OFFSETS: [usize; 5] = [1, 2, 3, 5, 7];
+
+/// The lengths at which blocks of SANE's keystream begin and end: it is the output from byte 16 on.
+const STREAM_EDGES: [usize; 6] = [31, 32, 33, 79, 80, 81];
+
+/// A buffer within a larger one, all of random bytes.
+struct Placed {
+    bytes: Vec<u8>,
+    range: Range<usize>,
+    before: Vec<u8>,
+}
+
+impl Placed {
+    /// A buffer of this length, so far behind a multiple of 16.
+    fn new(random: &mut Random, offset: usize, length: usize) -> Placed {
+        let bytes = random.bytes(length + 64);
+        let from = 32 - bytes.as_ptr().addr() % 16 + offset;
+        assert_eq!(bytes[from..].as_ptr().addr() % 16, offset);
+        Placed { before: bytes.clone(), bytes, range: from..from + length }
+    }
+
+    /// The buffer.
+    fn get(&self) -> &[u8] {
+        &self.bytes[self.range.clone()]
+    }
+
+    /// The buffer, to be written to.
+    fn get_mut(&mut self) -> &mut [u8] {
+        &mut self.bytes[self.range.clone()]
+    }
+
+    /// The bytes around the buffer are as they were.
+    fn is_kept_around(&self) -> bool {
+        let Range { start, end } = self.range;
+        self.bytes[..start] == self.before[..start] && self.bytes[end..] == self.before[end..]
+    }
+
+    /// The buffer is as it was, too.
+    fn is_kept(&self) -> bool {
+        self.bytes == self.before
+    }
+}
+
+/// Buffers of these lengths, each at another offset; `turn` is which one the first has.
+fn placed<const N: usize>(random: &mut Random, turn: usize, lengths: [usize; N]) -> [Placed; N] {
+    array::from_fn(|i| Placed::new(random, OFFSETS[(turn + i) % OFFSETS.len()], lengths[i]))
+}
+
+/// Names the lengths and the turn of a message that fails.
+struct Case {
+    a: usize,
+    m: usize,
+    turn: usize,
+}
+
+impl Drop for Case {
+    fn drop(&mut self) {
+        if std::thread::panicking() {
+            eprintln!("failed with {} bytes of metadata, a message of {} and turn {}", self.a, self.m, self.turn);
+        }
+    }
+}
+
+/// A message from one end to the other.
+fn message<R: Library>(random: &mut Random, [here, there]: &mut [BothOf<R>; 2], &Case { a, m, turn }: &Case) {
+    let [metadata, message, mut out, mut tag, mut back] = placed(random, turn, [a, m, m, R::Mode::TAG, m]);
+    let accepted = answer_of(Ok(R::Mode::count(a, m)));
+    let answer = here.wrap(metadata.get(), message.get(), out.get_mut(), tag.get_mut());
+    assert_eq!(answer, accepted, "wrap");
+    let answer = there.unwrap(metadata.get(), out.get(), tag.get(), back.get_mut());
+    assert_eq!(answer, accepted, "unwrap");
+    assert!(back.get() == message.get(), "another message comes back");
+    assert!(same(&here.library, &there.library), "the ends' records differ");
+    assert!(metadata.is_kept() && message.is_kept(), "metadata or message were altered");
+    assert!([out, tag, back].iter().all(Placed::is_kept_around), "bytes beside the output were altered");
+}
+
+/// Lengths of metadata and message: all pairs of edges, and every length up to three blocks and a byte.
+fn lengths() -> impl Iterator<Item = (usize, usize)> {
+    let edges = || EDGES.into_iter().chain(STREAM_EDGES);
+    edges().flat_map(move |a| edges().map(move |m| (a, m))).chain((0..=145).map(|m| (145 - m, m)))
+}
+
+/// Messages of all these lengths and at all turns, from these ends on, which take turns in sealing.
+fn messages<R: Library>(random: &mut Random, mut ends: [BothOf<R>; 2]) {
+    for (a, m) in lengths() {
+        for turn in 0..OFFSETS.len() {
+            message(random, &mut ends, &Case { a, m, turn });
+            ends.reverse();
+        }
+    }
+}
+
+#[test]
+fn messages_in_sanse() {
+    let mut random = Random::new(1);
+    let ends = [(); 2].map(|()| Both::start(&mut random, &[9; 47]).0);
+    messages(&mut random, ends);
+}
+
+#[test]
+fn messages_in_sane() {
+    let mut random = Random::new(1);
+    let ends = [(); 2].map(|()| SaneBoth::start(&mut random, &[9; 47], b"1", &mut [0; 16]).0);
+    messages(&mut random, ends);
+}
+
+#[test]
+fn starts() {
+    let mut random = Random::new(1);
+    for key in 16..=47 {
+        for nonce in EDGES {
+            for turn in 0..OFFSETS.len() {
+                let [key, nonce, mut tag] = placed(&mut random, turn, [key, nonce, 16]);
+                let answer = SaneBoth::start(&mut random, key.get(), nonce.get(), tag.get_mut()).1;
+                assert_eq!((answer.number, Both::start(&mut random, key.get()).1.number), (0, 0));
+                assert!(key.is_kept() && nonce.is_kept() && tag.is_kept_around());
+            }
+        }
+    }
+}
