@@ -6,9 +6,10 @@
 #include <string.h>
 #include <time.h>
 
-#define EXPORTED(who)                                                                          \
-    void who##_permute(uint32_t s[12]);                                                        \
-    void who##_compress(uint32_t acc[12], uint32_t mask[12], const uint8_t *s, size_t n);      \
+/* The leaves that a library exports. */
+#define EXPORTED(who)                                                                     \
+    void who##_permute(uint32_t s[12]);                                                   \
+    void who##_compress(uint32_t acc[12], uint32_t mask[12], const uint8_t *s, size_t n); \
     uint32_t who##_expand(const uint32_t y[12], const uint32_t mask[12], uint8_t *out, size_t n);
 EXPORTED(pevghazo)
 #ifdef WITH_EARLIER
@@ -80,9 +81,10 @@ typedef struct leaf_state {
 
 static size_t leaf_size;
 
-#define LEAVES(who)                                                                                   \
-    static leaf_state who;                                                                            \
-    static bool who##_permutes(void) { return who##_permute(who.s), true; }                           \
+/* A side's state, and its leaves as calls on it. */
+#define LEAVES(who)                                                                                            \
+    static leaf_state who;                                                                                     \
+    static bool who##_permutes(void) { return who##_permute(who.s), true; }                                    \
     static bool who##_compresses(void) { return who##_compress(who.s, who.k, peer_message, leaf_size), true; } \
     static bool who##_expands(void) { return who##_expand(who.s, who.k, who.out, leaf_size), true; }
 LEAVES(pevghazo)
@@ -97,7 +99,8 @@ LEAVES(earlier)
 static leaf_state *const leaf_states[] = {&pevghazo, &reference, IF_EARLIER(&earlier)};
 
 /* A leaf's sides, the library first. */
-#define SIDES_OF(call) {{"proved library", pevghazo_##call}, {"plain C, gcc -O3", reference_##call}, IF_EARLIER({"the library before", earlier_##call})}
+#define SIDES_OF(call) \
+    {{"proved library", pevghazo_##call}, {"plain C, gcc -O3", reference_##call}, IF_EARLIER({"the library before", earlier_##call})}
 static const side permutes[] = SIDES_OF(permutes), compresses[] = SIDES_OF(compresses), expands[] = SIDES_OF(expands);
 enum { LEAF_SIDES = sizeof permutes / sizeof permutes[0] };
 
@@ -105,9 +108,16 @@ static void same(const char *what, const void *a, const void *b, size_t n) {
     if (memcmp(a, b, n) != 0) fail(what, "the two sides disagree");
 }
 
-static void leaf(const char *title, const side *sides, int calls, size_t bytes) {
-    compare(title, sides, LEAF_SIDES, calls, bytes);
+static void same_leaves(const char *title) {
     for (int k = 1; k < LEAF_SIDES; k++) same(title, leaf_states[k], leaf_states[0], sizeof(leaf_state));
+}
+
+/* Results are compared after one call of each side, too: after an even number of them, what each adds to the same bytes is gone. */
+static void leaf(const char *title, const side *sides, int calls, size_t bytes) {
+    for (int k = 0; k < LEAF_SIDES; k++) (void)sides[k].call();
+    same_leaves(title);
+    compare(title, sides, LEAF_SIDES, calls, bytes);
+    same_leaves(title);
 }
 
 /* Compression and expansion of so many bytes. */

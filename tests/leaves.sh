@@ -15,6 +15,6 @@ rt staticlib bench_exports >"$out/log" 2>&1 || {
   fail "the library of the leaves is not made"
 }
 cargo build --manifest-path rust/Cargo.toml --locked --offline --quiet --release --package pevghazo-bench
-gcc -O2 -std=gnu11 -Wall -Wextra tests/leaves.c target/staticlib/libbench_exports.a rust/target/release/libpevghazo_bench.a \
+gcc -O2 -std=gnu11 -Wall -Wextra tests/leaves.c tests/pages.c target/staticlib/libbench_exports.a rust/target/release/libpevghazo_bench.a \
   -lpthread -ldl -lm -o "$out/leaves"
 "$out/leaves"

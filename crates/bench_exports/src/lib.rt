@@ -1,4 +1,4 @@
-// What the benchmark calls, exported to C: the leaves, as the crates above them call them.
+// What the benchmark and a test call, exported to C: the leaves, as the crates above them call them.
 ghost use mathlib.Core.Path.{_≡_};
 ghost use Prim.Native.Nat.{_≤_, _+_};
 ghost use lib.ListN.{length};

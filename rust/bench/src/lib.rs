@@ -1,6 +1,6 @@
-//! The independent implementation behind a C interface, so that `bench/bench.c` can time it beside the proved library and
-//! `tests/leaves.c` can compare the leaves with it. The records are those of `include/pevghazo.h`; lengths must be within their
-//! limits.
+//! The independent implementation behind a C interface, so that `bench/bench.c` can time it beside the proved library, and
+//! `tests/leaves.c` and `tests/buffers.c` can compare the leaves and the library's calls with it. The records are those of
+//! `include/pevghazo.h`; lengths must be within their limits.
 
 use std::slice::{from_raw_parts, from_raw_parts_mut};
 
