@@ -1,7 +1,8 @@
 /* Pevghazo: setting secrets in memory to zero. These functions are plain C and not proved.
  *
  * The proved functions keep nothing between calls and use no memory of their own but the stack. There, below the frame of the function that
- * called them, lanes of mask and accumulator stay behind: pevghazo_wipe_stack takes them away. What a program still has to see to:
+ * called them, lanes of mask and accumulator stay behind, and may bytes of a key and of keystream: pevghazo_wipe_stack overwrites all of that.
+ * What a program still has to see to:
  *
  *   - keys, records, stored bytes and messages: pevghazo_wipe, before their memory is given back;
  *   - copies: assigning a record makes a second one, and a buffer that is grown may leave the old one behind;
