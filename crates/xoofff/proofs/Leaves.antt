@@ -163,7 +163,7 @@ added-run f g m n o o′ o″ e a d =
         let z : k ≡ 0 + k = sym (zero-add k) in
         d .front k (omega (arith, p)) ∙ ap (λ (i : ℕ). getD o′ i 0) z ∙ a .sums k (omega (arith, p)) ∙ ap (λ (i : ℕ). bitXor (getD o i 0) (f k)) (sym z)
 
--- a run to the 48 bytes from place `at` on
+-- a run that was added to the 48 bytes from place `at` on
 added-part : (f : ℕ → ℕ) (at : ℕ) (o b : List ℕ) → at + 48 ≤ length o → b ≡ sum (take 48 (drop at o)) (tabulate 48 f)
     → Added f at 48 o (take at o ++ (b ++ drop 48 (drop at o)))
 added-part f at o b h e =
@@ -199,7 +199,7 @@ added-part f at o b h e =
     behind : (k : ℕ) → getD (take at o ++ (b ++ drop 48 (drop at o))) (at + k) 0 ≡ getD (b ++ drop 48 (drop at o)) k 0
     behind k = ap (λ (u : ℕ). getD (take at o ++ (b ++ drop 48 (drop at o))) (u + k) 0) (sym n) ∙ getD-append-add (take at o) (b ++ drop 48 (drop at o)) k 0
 
--- a whole block l, lent w bytes of the buffer: from its byte `skip` on, as many as there are and fit
+-- the same of a block l that goes out whole, so from its first byte on: n is what is there from byte `skip` on and fits, and w bytes were lent
 pub added-block : (l : List ℕ) (skip at n w : ℕ) (o b : List ℕ) → n ≡ min (48 - skip) (length o - at) → 48 ≤ n → w ≡ 48
     → b ≡ sum (take w (drop at o)) (toBytes l) → Added (λ k. stateByte l (skip + k)) at n o (take at o ++ (b ++ drop w (drop at o)))
 added-block l skip at n w o b en h ew eb =
