@@ -6,6 +6,7 @@ use native.Mathlib.Decide.{decLe}
 use native.Mathlib.Nat.{zero-add}
 use native.Mathlib.Omega.{arith}
 use lib.Bits.{bitXor}
+use lib.Dec.{lit<}
 use lib.ListN.{length, getD, set, take, drop, replicate, getD-replicate, length-set, length-append, length-drop, List·getD-append, List·getD-eq-default}
 use lib.Seq.{getD-set-same, getD-set-other, getD-append-seam, getD-append-add, getD-take, getD-drop, length-take-le}
 use Rattle.word.specs.Lists.{tabulate, sum}
@@ -88,6 +89,10 @@ closing-alone s c j p h e = block-fromBytes s c j p h (c ∷ replicate 47 0) go
     go : (i : ℕ) → i < 48 → getD (c ∷ replicate 47 0) i 0 ≡ closedAt s c (48 * j + i)
     go zero l = closed-end s c (48 * j + 0) (omega (arith, e))
     go (suc i) l = getD-replicate 47 i 0 0 (omega arith) ∙ sym (closed-past s c (48 * j + suc i) (omega (arith, e)))
+
+-- so it is of any run of 48 j bytes, of none too: nothing is assumed here
+pub closing-alone-of-run : (f : ℕ → ℕ) (j : ℕ) → block (closedBy (tabulate (48 * j) f) 1) j ≡ fromBytes (1 ∷ replicate 47 0)
+closing-alone-of-run f j = closing-alone (tabulate (48 * j) f) 1 j (lit< tt) (lit< tt) (sym (tabulate-length (48 * j) f))
 
 -- a full block, as it stands in the string
 pub full-block : (s : List ℕ) (c j : ℕ) → 0 < c → c < 256 → 48 * j + 48 ≤ length s → fromBytes (drop (48 * j) s) ≡ block (closedBy s c) j
