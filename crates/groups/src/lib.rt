@@ -1,64 +1,46 @@
-// A call for one group of the office's table, by value: the group's own session, the day's count and the allowance go in, and come back.
+// A call for one group of the office's table, by value: the group's own record goes in and comes back. The record is the group's session and,
+// beside it, its own day's count; the day's allowance is handed to each call.
 ghost use mathlib.Core.Path.{_≡_};
 ghost use Prim.Native.Nat.{_+_, _≤_};
 ghost use Rattle.modes.specs.Mode.{sanseCount};
 ghost use Rattle.modes.specs.Rules.{growth, firstCheck};
-ghost use Rattle.sanse.specs.Session.{stateOf, handed};
-ghost use Rattle.groups.specs.Groups.{noDay, newDay, addCount, aboveAllowance, then10, wrapOnDay, unwrapOnDay, openOnDay, groupOpeningResult, groupResult};
+ghost use Rattle.sanse.specs.Session.{handed};
+ghost use Rattle.groups.specs.Groups.{newDay, aboveAllowance, then10, wrapOnDay, unwrapOnDay, openOnDay, recordOf, groupOpeningResult, groupResult};
 use sanse::CallResult;
 use sanse::Session;
 
-// A day: the permutations counted since it began, and the most that are allowed in it.
+// A group's record: its session, and the permutations counted for the group since the day began, which are no part of the session.
 #[repr(C)]
-pub struct Day {
-    pub spent: u32,
-    pub allowance: u32,
+pub struct Record {
+    pub session: Session,
+    pub count: u32,
 }
 
-// What a call for a group gives beside session and buffers: its number (0: accepted), the permutations done, and the day after it.
-#[repr(C)]
-pub struct GroupAnswer {
+// What a call for a group gives beside the buffers: its number (0: accepted), the permutations done, and the group's record after it.
+pub struct GroupResult {
     pub number: u32,
     pub count: u32,
-    pub day: Day,
-}
-
-// The same, with the group's session after the call.
-pub struct GroupResult {
-    pub session: Session,
-    pub answer: GroupAnswer,
+    pub left: Record,
 }
 
 // ---- the day
 
-// Before the first day both numbers are 0.
-pub fn no_day() -> Day
-    ensures { λ r. ⌜ r ≡ noDay ⌝ }
+// The record when a day begins: the count is 0, and the session stays.
+pub fn new_day(r: Record) -> Record
+    ensures { λ n. ⌜ recordOf n ≡ newDay (recordOf r) ⌝ }
 {
-    Day {
-        spent: 0,
-        allowance: 0,
-    }
+    let session = r.session;
+    Record { session, count: 0 }
 }
 
-// A day begins: any allowance, and a count of 0. It is never refused.
-pub fn start_day(allowance: u32) -> Day
-    ensures { λ r. ⌜ r ≡ newDay allowance ⌝ }
-{
-    Day {
-        spent: 0,
-        allowance,
-    }
-}
-
-// Whether the day's count plus this call's count is above the allowance; in 64 bits, since a day may hold any numbers.
-fn above_allowance(day: Day, count: u64) -> bool
+// Whether the group's count plus this call's count is above the allowance; in 64 bits, since both may be any numbers.
+fn above_allowance(allowance: u32, spent: u32, count: u64) -> bool
     requires { ⌜ count ≤ 65536 ⌝ }
-    ensures { λ r. ⌜ r ≡ aboveAllowance day count ⌝ }
+    ensures { λ r. ⌜ r ≡ aboveAllowance allowance spent count ⌝ }
 {
-    let allowance = day.allowance as u64;
-    let sum = (day.spent as u64) + count;
-    allowance < sum
+    let most = allowance as u64;
+    let sum = (spent as u64) + count;
+    most < sum
 }
 
 // ---- checks 5 to 10
@@ -79,15 +61,24 @@ fn call_count(a: usize, m: usize) -> u64
 }
 
 // The first of the checks 5 to 10 that a call meets, or 0.
-fn check(opened: bool, index: u32, day: Day, a: usize, m: usize, tag: usize, out: usize) -> u32
-    ensures { λ r. ⌜ r ≡ then10 (firstCheck opened (index + growth a m) 32 a m tag out) day (sanseCount a m) ⌝ }
+fn check(
+    opened: bool,
+    index: u32,
+    allowance: u32,
+    spent: u32,
+    a: usize,
+    m: usize,
+    tag: usize,
+    out: usize,
+) -> u32
+    ensures { λ r. ⌜ r ≡ then10 (firstCheck opened (index + growth a m) 32 a m tag out) (aboveAllowance allowance spent (sanseCount a m)) ⌝ }
 {
     let after = steps::index_after(index, a, m);
     let number = steps::first_check(opened, after, 32, a, m, tag, out);
     if number != 0 {
         return number;
     }
-    if above_allowance(day, call_count(a, m)) {
+    if above_allowance(allowance, spent, call_count(a, m)) {
         return 10;
     }
     0
@@ -96,106 +87,108 @@ fn check(opened: bool, index: u32, day: Day, a: usize, m: usize, tag: usize, out
 // ---- results
 
 // Refused with nothing altered.
-fn refused(number: u32, s: Session, day: Day) -> GroupResult
-    ensures { λ r. ⌜ r ≡ record { session = s; answer = record { number = number; count = 0; day = day } } ⌝ }
+fn refused(number: u32, r: Record) -> GroupResult
+    ensures { λ g. ⌜ g ≡ record { number = number; count = 0; left = r } ⌝ }
 {
-    let answer = GroupAnswer {
+    GroupResult {
         number,
         count: 0,
-        day,
-    };
-    GroupResult { session: s, answer }
+        left: r,
+    }
 }
 
-// What a lone call gave, with its count added to the day's.
-fn charged(r: CallResult, day: Day) -> GroupResult
-    requires { ⌜ day .spent + r .count ≤ day .allowance ⌝ }
-    ensures { λ g. ⌜ g ≡ record { session = r .session; answer = record { number = r .number; count = r .count; day = addCount day (r .count) } } ⌝ }
+// What a lone call gave, with its count added to the group's.
+fn charged(r: CallResult, allowance: u32, spent: u32) -> GroupResult
+    requires { ⌜ spent + r .count ≤ allowance ⌝ }
+    ensures { λ g. ⌜ g ≡ record { number = r .number; count = r .count; left = record { session = r .session; count = spent + r .count } } ⌝ }
 {
     let session = r.session;
-    let next = Day {
-        spent: day.spent + r.count,
-        allowance: day.allowance,
+    let left = Record {
+        session,
+        count: spent + r.count,
     };
-    let answer = GroupAnswer {
+    GroupResult {
         number: r.number,
         count: r.count,
-        day: next,
-    };
-    GroupResult { session, answer }
+        left,
+    }
 }
 
 // ---- the calls
 
-// Opens a group: a fresh session in the place of `s`, which stays as it was where 4 or 10 refuses.
-pub fn open(s: Session, day: Day, key: &[u8]) -> GroupResult
-    ensures { λ r. ⌜ groupOpeningResult r ≡ openOnDay day (stateOf s) (now (key .entry)) ⌝ }
+// Opens a group: a fresh session in the record, its count plus 1. The record stays as it was where 4 or 10 refuses.
+pub fn open(r: Record, allowance: u32, key: &[u8]) -> GroupResult
+    ensures { λ g. ⌜ groupOpeningResult g ≡ openOnDay allowance (recordOf r) (now (key .entry)) ⌝ }
 {
     if key.len() < 16 {
-        return refused(4, s, day);
+        return refused(4, r);
     }
     if 47 < key.len() {
-        return refused(4, s, day);
+        return refused(4, r);
     }
-    if above_allowance(day, 1) {
-        return refused(10, s, day);
+    if above_allowance(allowance, r.count, 1) {
+        return refused(10, r);
     }
-    let r = sanse::start(key);
-    charged(r, day)
+    let fresh = sanse::start(key);
+    charged(fresh, allowance, r.count)
 }
 
 // Wraps a message for a group. Checks 5 to 10.
 pub fn wrap(
-    s: Session,
-    day: Day,
+    r: Record,
+    allowance: u32,
     metadata: &[u8],
     message: &[u8],
     out: &mut [u8],
     tag: &mut [u8],
 ) -> GroupResult
-    ensures { λ r. ⌜ groupResult r (now (out .exit)) (now (tag .exit))
-        ≡ wrapOnDay day (stateOf s) (handed (now (metadata .entry)) (now (message .entry)) (now (out .entry)) (now (tag .entry))) ⌝ }
+    ensures { λ g. ⌜ groupResult g (now (out .exit)) (now (tag .exit))
+        ≡ wrapOnDay allowance (recordOf r) (handed (now (metadata .entry)) (now (message .entry)) (now (out .entry)) (now (tag .entry))) ⌝ }
 {
+    let s = r.session;
     let number = check(
         s.opened,
         s.index,
-        day,
+        allowance,
+        r.count,
         metadata.len(),
         message.len(),
         tag.len(),
         out.len(),
     );
     if number != 0 {
-        return refused(number, s, day);
+        return refused(number, r);
     }
-    let r = sanse::wrap(s, metadata, message, out, tag);
-    charged(r, day)
+    let given = sanse::wrap(s, metadata, message, out, tag);
+    charged(given, allowance, r.count)
 }
 
-// Unwraps a cryptogram for a group. Checks 5 to 10, and 11, whose count is added to the day's.
+// Unwraps a cryptogram for a group. Checks 5 to 10, and 11, whose count is added to the group's.
 pub fn unwrap(
-    s: Session,
-    day: Day,
+    r: Record,
+    allowance: u32,
     metadata: &[u8],
     cryptogram: &[u8],
     tag: &[u8],
     out: &mut [u8],
 ) -> GroupResult
-    ensures { λ r. ⌜ groupResult r (now (out .exit)) (now (tag .entry))
-        ≡ unwrapOnDay day (stateOf s) (handed (now (metadata .entry)) (now (cryptogram .entry)) (now (out .entry)) (now (tag .entry))) ⌝ }
+    ensures { λ g. ⌜ groupResult g (now (out .exit)) (now (tag .entry))
+        ≡ unwrapOnDay allowance (recordOf r) (handed (now (metadata .entry)) (now (cryptogram .entry)) (now (out .entry)) (now (tag .entry))) ⌝ }
 {
+    let s = r.session;
     let number = check(
         s.opened,
         s.index,
-        day,
+        allowance,
+        r.count,
         metadata.len(),
         cryptogram.len(),
         tag.len(),
         out.len(),
     );
     if number != 0 {
-        return refused(number, s, day);
+        return refused(number, r);
     }
-    let r = sanse::unwrap(s, metadata, cryptogram, tag, out);
-    charged(r, day)
+    let given = sanse::unwrap(s, metadata, cryptogram, tag, out);
+    charged(given, allowance, r.count)
 }

@@ -18,7 +18,7 @@ returns-3 c =
 charged-requires : tie.Need-charged-requires
 charged-requires c κs =
     let z = c .before .before .before .before .before .before .args in
-    open-fits (z .day) (z .s) (now (z .key)) (c .before .before .before .before .if1 .left) (c .before .before .before .if2 .left) _ (c .before .before .above-allowance .ensures) (c .start .result)
+    open-fits (z .allowance) (z .r) (now (z .key)) (c .before .before .before .before .if1 .left) (c .before .before .before .if2 .left) _ (c .before .before .above-allowance .ensures) (c .start .result)
     (c .before .if3 .left) (c .start .ensures)
 
 returns-4 : tie.Need-returns-4
