@@ -73,16 +73,16 @@ def office(function, core, params, gives, says, law, uses):
     """A function of the crate `office`. `law` is what its two laws, LAW-refused and LAW-stored, are cited with."""
     name, given = law
     return Lent(
-        path=f'office::{function}', core=f'groups::{core}', record='sanse::Session', result='groups::GroupResult', session=('session', 0),
-        answer='groups::GroupAnswer', answer_field=('answer', 1), answer_parts=[],
-        params=[('table', 'table'), ('g', 'usize'), ('day', 'groups::Day')] + params, core_args=['table', 'day'] + [one for one, _ in params],
+        path=f'office::{function}', core=f'groups::{core}', record='groups::Record', result='groups::GroupResult', session=('left', 2),
+        answer='session::Answer', answer_field=None, answer_parts=[('number', 0), ('count', 1)],
+        params=[('table', 'table'), ('g', 'usize'), ('allowance', 'u32')] + params, core_args=['table', 'allowance'] + [one for one, _ in params],
         gives=gives, says=says, proof=f'({name}-stored {given} ys g {IN_TABLE} r e)',
         uses=uses + f'''
 use Rattle.office.proofs.Laws.{{met, unmet, inside, start-fits, {name}-refused, {name}-stored}}''',
         environment='Rattle.session.proofs.Env',
-        small=[Small('office::no_group', 'bool', '{r} ≡ noGroup {0} {1}'), Small('office::refused3', 'groups::GroupAnswer', '{r} ≡ refused3 {0}')],
+        small=[Small('office::no_group', 'bool', '{r} ≡ noGroup {0} {1}'), Small('office::refused3', 'session::Answer', '{r} ≡ refused3')],
         table=Table(
-            index='g', record_size=104, past_end='zeroRecord',
+            index='g', record_size=108, past_end='zeroRecord',
             inside=f'inside (length ys) g {IN_TABLE}', fits=f'start-fits (length ys) g {IN_TABLE}',
             refused=f'{name}-refused {given} ys g {NO_GROUP} r-refused3 e-refused3'),
     )
@@ -91,31 +91,30 @@ use Rattle.office.proofs.Laws.{{met, unmet, inside, start-fits, {name}-
 OFFICE = [
     office(
         'open_group', 'open', [('key', 'bytes')],
-        'groupOpeningResult r ≡ openOnDay day (stateOf h) key',
-        'openingResult res table′ ≡ openGroupAt day (tableOf table) g key',
-        ('open', 'day (x-key .now)'),
-        '''use Rattle.sanse.specs.Session.{stateOf}
-use Rattle.groups.specs.Groups.{openOnDay, groupOpeningResult}
+        'groupOpeningResult r ≡ openOnDay allowance (recordOf h) key',
+        'openingResult res table′ ≡ openGroupAt allowance (tableOf table) g key',
+        ('open', 'allowance (x-key .now)'),
+        '''use Rattle.groups.specs.Groups.{openOnDay, recordOf, groupOpeningResult}
 use Rattle.office.specs.Table.{noGroup, refused3, openGroupAt, zeroRecord, tableOf, openingResult}'''),
     office(
         'wrap_group', 'wrap', WRAP,
-        'groupResult r out′ tag′ ≡ wrapOnDay day (stateOf h) (handed metadata message out tag)',
-        'tableResult res table′ out′ tag′ ≡ wrapGroupAt day (tableOf table) g (handed metadata message out tag)',
-        ('call', '(wrapAt sanse incremental) day (handed (x-metadata .now) (x-message .now) (x-out .now) (x-tag .now))'),
+        'groupResult r out′ tag′ ≡ wrapOnDay allowance (recordOf h) (handed metadata message out tag)',
+        'tableResult res table′ out′ tag′ ≡ wrapGroupAt allowance (tableOf table) g (handed metadata message out tag)',
+        ('call', '(wrapAt sanse incremental) allowance (handed (x-metadata .now) (x-message .now) (x-out .now) (x-tag .now))'),
         '''use Rattle.modes.specs.Mode.{sanse, incremental}
 use Rattle.modes.specs.Rules.{wrapAt}
-use Rattle.sanse.specs.Session.{stateOf, handed}
-use Rattle.groups.specs.Groups.{wrapOnDay, groupResult}
+use Rattle.sanse.specs.Session.{handed}
+use Rattle.groups.specs.Groups.{wrapOnDay, recordOf, groupResult}
 use Rattle.office.specs.Table.{noGroup, refused3, wrapGroupAt, zeroRecord, tableOf, tableResult}'''),
     office(
         'unwrap_group', 'unwrap', UNWRAP,
-        'groupResult r out′ tag ≡ unwrapOnDay day (stateOf h) (handed metadata cryptogram out tag)',
-        'tableResult res table′ out′ tag ≡ unwrapGroupAt day (tableOf table) g (handed metadata cryptogram out tag)',
-        ('call', '(unwrapAt sanse incremental) day (handed (x-metadata .now) (x-cryptogram .now) (x-out .now) (x-tag .now))'),
+        'groupResult r out′ tag ≡ unwrapOnDay allowance (recordOf h) (handed metadata cryptogram out tag)',
+        'tableResult res table′ out′ tag ≡ unwrapGroupAt allowance (tableOf table) g (handed metadata cryptogram out tag)',
+        ('call', '(unwrapAt sanse incremental) allowance (handed (x-metadata .now) (x-cryptogram .now) (x-out .now) (x-tag .now))'),
         '''use Rattle.modes.specs.Mode.{sanse, incremental}
 use Rattle.modes.specs.Rules.{unwrapAt}
-use Rattle.sanse.specs.Session.{stateOf, handed}
-use Rattle.groups.specs.Groups.{unwrapOnDay, groupResult}
+use Rattle.sanse.specs.Session.{handed}
+use Rattle.groups.specs.Groups.{unwrapOnDay, recordOf, groupResult}
 use Rattle.office.specs.Table.{noGroup, refused3, unwrapGroupAt, zeroRecord, tableOf, tableResult}'''),
 ]
 

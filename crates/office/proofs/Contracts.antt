@@ -14,9 +14,7 @@ use denote.Ref.{now}
 use denote.Triple.Clauses.{AtExit}
 use denote.Triple.Entry.{Args, Res}
 use Rattle.sanse.specs.Session.{handed}
-use Rattle.groups.specs.Groups.{noDay, newDay}
-use Rattle.office.specs.Table.{tableOf, tableResult, openingResult, wrapGroupAt, unwrapGroupAt, openGroupAt, NearlyFullIs}
-use Rattle.office.proofs.no_day as no-day
+use Rattle.office.specs.Table.{tableOf, dayResult, tableResult, openingResult, startDayAt, wrapGroupAt, unwrapGroupAt, openGroupAt, NearlyFullIs}
 use Rattle.office.proofs.start_day as start-day
 use Rattle.office.proofs.open_group as open-group
 use Rattle.office.proofs.wrap_group as wrap-group
@@ -25,18 +23,11 @@ use Rattle.office.proofs.nearly_full as nearly-full
 
 -- in every model of the program logic
 module _ {M : Type 1} (𝓤 : URA M) (H : Heap 𝓤) (A : Atoms 𝓤) (mem : Memory → SProp 𝓤) (run : Routine → Fun 𝓤) where
-  pub no-day-asks : (κs : Lfts 0) (a : Args no-day.signature κs) → no-day.clauses 𝓤 H A mem run κs a .requires tt ≡ connectives 𝓤 .⊤ₛ
-  no-day-asks κs a = refl
-
-  pub no-day-ensures : (κs : Lfts 0) (a : Args no-day.signature κs) (r : Res no-day.signature κs) (z : AtExit no-day.ended κs)
-      → no-day.clauses 𝓤 H A mem run κs a .ensures tt r z ≡ connectives 𝓤 .⌜_⌝ (r ≡ noDay)
-  no-day-ensures κs a r z = refl
-
-  pub start-day-asks : (κs : Lfts 0) (a : Args start-day.signature κs) → start-day.clauses 𝓤 H A mem run κs a .requires tt ≡ connectives 𝓤 .⊤ₛ
+  pub start-day-asks : (κs : Lfts 1) (a : Args start-day.signature κs) → start-day.clauses 𝓤 H A mem run κs a .requires tt ≡ connectives 𝓤 .⊤ₛ
   start-day-asks κs a = refl
 
-  pub start-day-ensures : (κs : Lfts 0) (a : Args start-day.signature κs) (r : Res start-day.signature κs) (z : AtExit start-day.ended κs)
-      → start-day.clauses 𝓤 H A mem run κs a .ensures tt r z ≡ connectives 𝓤 .⌜_⌝ (r ≡ newDay (a .0))
+  pub start-day-ensures : (κs : Lfts 1) (a : Args start-day.signature κs) (r : Res start-day.signature κs) (z : AtExit start-day.ended κs)
+      → start-day.clauses 𝓤 H A mem run κs a .ensures tt r z ≡ connectives 𝓤 .⌜_⌝ (dayResult r (now (z .0)) ≡ startDayAt (a .1 .0) (tableOf (now (a .0))))
   start-day-ensures κs a r z = refl
 
   pub open-asks : (κs : Lfts 2) (a : Args open-group.signature κs) → open-group.clauses 𝓤 H A mem run κs a .requires tt ≡ connectives 𝓤 .⊤ₛ

@@ -6,18 +6,17 @@ use mathlib.Core.List.{List}
 use Prim.Native.Nat.{ℕ, zero, suc, _+_, _<_, _≤_}
 use native.Mathlib.Omega.{arith}
 use lib.Dec.{ltb, leb, eqb}
-use lib.ListN.{length, set, length-set}
-use lib.Seq.{getD-set-other, set-getD}
+use lib.ListN.{length, set, length-set, length-map, List·getD-map}
+use lib.Seq.{getD-set-same, getD-set-other, set-getD}
 use borrow.Author.Tests.{ltb-true, ltb-false, leb-true, leb-false, eqb-true, eqb-false}
 use Rattle.deck.specs.declared.DeckState.{DeckState}
 use Rattle.modes.specs.Call.{CallInput}
 use Rattle.modes.specs.Mode.{sanse, incremental}
 use Rattle.modes.specs.Rules.{SessionState, Outcome, Opening, longest, highestIndex, growth, metadataString, firstCheck, checkNumber, countOf, refused, ifNoCheck, sameBytes, accepted, wrongTag, compareTag, wrapSteps, unwrapSteps, wrapAt, unwrapAt, keyFits, startAt, newSession, closed}
-use Rattle.groups.specs.declared.Day.{Day}
-use Rattle.groups.specs.Groups.{addCount, aboveAllowance, then10, groupCheck, charged, onDay, openedUnless, openOnDay}
+use Rattle.groups.specs.Groups.{GroupState, newDay, aboveAllowance, then10, groupCheck, charged, onDay, openedUnless, chargedOpening, openOnDay}
 use Rattle.groups.proofs.Counts.{wrap-count, unwrap-count}
-use Rattle.office.specs.Table.{Table, noGroup, sessionAt, TableOutcome, TableOpening, refusedBy, writtenBack, callGroupAt, wrapGroupAt, openGroupAt}
-use Rattle.office.specs.Exactly.{Check3, Check10, NoCheckMet, CallExactly, WrapGroupExactly, UnwrapGroupExactly, OpenExactly}
+use Rattle.office.specs.Table.{Table, unopened, noGroup, groupAt, sessionAt, startDayAt, TableOutcome, TableOpening, refusedBy, writtenBack, callGroupAt, wrapGroupAt, openedBack, openGroupAt}
+use Rattle.office.specs.Exactly.{Check3, Check10, DayExactly, NoCheckMet, CallExactly, WrapGroupExactly, UnwrapGroupExactly, OpenExactly}
 
 -- ---- the tests as statements
 
@@ -39,12 +38,13 @@ apart : (t : Table) (g : ℕ) → (length t ≡ 32) × (g ≤ 31) → Check3 t g
 apart t g w (inl n) = n (w .0)
 apart t g w (inr l) = omega (arith, w .1, l)
 
-told10 : (day : Day) (c : ℕ) → Told (Check10 day c) (day .spent + c ≤ day .allowance) (aboveAllowance day c)
-told10 day c = go (aboveAllowance day c) refl
+told10 : (allowance : ℕ) (t : Table) (g c : ℕ)
+    → Told (Check10 allowance t g c) (groupAt t g .count + c ≤ allowance) (aboveAllowance allowance (groupAt t g .count) c)
+told10 allowance t g c = go (aboveAllowance allowance (groupAt t g .count) c) refl
   where
-    go : (u : Bool) → aboveAllowance day c ≡ u → Told (Check10 day c) (day .spent + c ≤ day .allowance) u
-    go true e = holds (ltb-true (day .allowance) (day .spent + c) e)
-    go false e = fails (ltb-false (day .allowance) (day .spent + c) e)
+    go : (u : Bool) → aboveAllowance allowance (groupAt t g .count) c ≡ u → Told (Check10 allowance t g c) (groupAt t g .count + c ≤ allowance) u
+    go true e = holds (ltb-true allowance (groupAt t g .count + c) e)
+    go false e = fails (ltb-false allowance (groupAt t g .count + c) e)
 
 told-key : (key : List ℕ) → Told ((16 ≤ length key) × (length key ≤ 47)) ((length key < 16) ⊎ (47 < length key)) (keyFits key)
 told-key key = go (leb 16 (length key)) (leb (length key) 47) refl refl
@@ -74,12 +74,30 @@ check-range s i =
     first-range (s .opened) (s .history .index + growth (length (metadataString i)) (length (i .text))) 32 (length (i .metadata)) (length (i .text))
     (length (i .tag)) (length (i .out))
 
-no-count : (day : Day) → addCount day 0 ≡ day
-no-count day = ap (λ (k : ℕ). record { spent = k; allowance = day .allowance }) (let e : day .spent + 0 ≡ day .spent = omega arith in e)
+-- ---- starting a day
+
+pub day-exactly : (allowance : ℕ) (t : Table) → DayExactly allowance t (startDayAt allowance t)
+day-exactly allowance t =
+    record {
+      given = refl;
+      size = length-map t newDay;
+      counts = λ k. ap (λ (r : GroupState). r .count) (List·getD-map newDay t k unopened);
+      sessions = λ k. ap (λ (r : GroupState). r .session) (List·getD-map newDay t k unopened);
+    }
+
+-- ---- a record that is written back
+
+-- a record with a count of 0 added to its own is that record
+nothing-counted : (r : GroupState) → _≡_ {A = GroupState} (record { session = r .session; count = r .count + 0 }) r
+nothing-counted r = ap (λ (k : ℕ). record { session = r .session; count = k }) (let e : r .count + 0 ≡ r .count = omega arith in e)
+
+-- so the table stays where it is written back
+put-back : (t : Table) (g : ℕ) → set t g (record { session = sessionAt t g; count = groupAt t g .count + 0 }) ≡ t
+put-back t g = ap (set t g) (nothing-counted (groupAt t g)) ∙ set-getD t g unopened
 
 -- ---- a wrap or an unwrap for a group, by the first check
 
-module _ (day : Day) (t : Table) (g : ℕ) (i : CallInput) where
+module _ (allowance : ℕ) (t : Table) (g : ℕ) (i : CallInput) where
   -- the first of 5 to 9, by the rules
   abbrev first : ℕ
   first = checkNumber sanse incremental (sessionAt t g) i
@@ -93,8 +111,8 @@ module _ (day : Day) (t : Table) (g : ℕ) (i : CallInput) where
     -- refused by n, where n is neither 0 nor 11: nothing is altered
     stops : (n : ℕ) → n ≢ 0 → n ≢ 11 → (n ≡ 3) ↔ Check3 t g → ((Check3 t g → ⊥) → first ≢ 0 → n ≡ first)
         → (5 ≤ n → n ≤ 9 → (Check3 t g → ⊥) × (first ≡ n))
-        → (n ≡ 10) ↔ ((Check3 t g → ⊥) × (first ≡ 0) × Check10 day (countOf sanse incremental i)) → (NoCheckMet day t g i → ⊥)
-        → CallExactly day t g i lone (refusedBy n day t i)
+        → (n ≡ 10) ↔ ((Check3 t g → ⊥) × (first ≡ 0) × Check10 allowance t g (countOf sanse incremental i)) → (NoCheckMet allowance t g i → ⊥)
+        → CallExactly allowance t g i lone (refusedBy n t i)
     stops n n0 n11 three five-to-nine only ten some =
         record {
           three = three;
@@ -106,7 +124,7 @@ module _ (day : Day) (t : Table) (g : ℕ) (i : CallInput) where
           worked = λ z. absurd (some z);
           counted = λ z. absurd (some z);
           eleven = λ e. absurd (n11 e);
-          added = sym (no-count day);
+          added = let e : groupAt t g .count ≡ groupAt t g .count + 0 = omega arith in e;
           others = λ k _. refl;
           size = refl;
         }
@@ -115,24 +133,24 @@ module _ (day : Day) (t : Table) (g : ℕ) (i : CallInput) where
         neither (inl z) = n0 z
         neither (inr z) = n11 z
 
-    by3 : Check3 t g → CallExactly day t g i lone (refusedBy 3 day t i)
+    by3 : Check3 t g → CallExactly allowance t g i lone (refusedBy 3 t i)
     by3 c =
         stops 3 (λ e. omega (arith, e)) (λ e. omega (arith, e)) (λ _. c, λ _. refl) (λ n _. absurd (n c)) (λ low _. absurd (omega (arith, low)))
         (λ e. absurd (omega (arith, e)), λ h. absurd (h .0 c)) (λ z. z .three c)
 
     module _ (in3 : (length t ≡ 32) × (g ≤ 31)) where
-      by-check : (n : ℕ) → first ≡ n → 5 ≤ n → n ≤ 9 → CallExactly day t g i lone (refusedBy n day t i)
+      by-check : (n : ℕ) → first ≡ n → 5 ≤ n → n ≤ 9 → CallExactly allowance t g i lone (refusedBy n t i)
       by-check n e low high =
           stops n (λ z. omega (arith, z)) (λ z. omega (arith, z)) (λ z. absurd (omega (arith, z)), λ c. absurd (apart t g in3 c)) (λ _ _. sym e) (λ _ _. (apart t g in3, e))
           (λ z. absurd (omega (arith, z)), λ h. absurd (omega (arith, h .1, e))) (λ z. omega (arith, z .five-to-nine, e))
 
-      by10 : first ≡ 0 → Check10 day (countOf sanse incremental i) → CallExactly day t g i lone (refusedBy 10 day t i)
+      by10 : first ≡ 0 → Check10 allowance t g (countOf sanse incremental i) → CallExactly allowance t g i lone (refusedBy 10 t i)
       by10 e above =
           stops 10 (λ z. omega (arith, z)) (λ z. omega (arith, z)) (λ z. absurd (omega (arith, z)), λ c. absurd (apart t g in3 c)) (λ _ n. absurd (n e)) (λ _ high. absurd (omega (arith, high)))
           (λ _. (λ c. apart t g in3 c, e, above), λ _. refl) (λ z. z .ten above)
 
       -- the work was done: number 0 or 11
-      done : NoCheckMet day t g i → Worked lone → CallExactly day t g i lone (writtenBack t g (charged day lone))
+      done : NoCheckMet allowance t g i → Worked lone → CallExactly allowance t g i lone (writtenBack t g (charged (groupAt t g .count) lone))
       done clear r =
           record {
             three = (λ z. absurd (other z (omega arith) (omega arith)), λ c. absurd (clear .three c));
@@ -143,12 +161,16 @@ module _ (day : Day) (t : Table) (g : ℕ) (i : CallInput) where
             none = (λ _. clear, λ _. either (r .number));
             worked = λ _. refl;
             counted = λ _. r .count;
-            eleven = λ z. (r .count, ap (set t g) (kept (r .number) z) ∙ set-getD t g closed);
-            added = refl;
-            others = λ k n. getD-set-other t g k (lone .session) closed n;
-            size = length-set t g (lone .session);
+            eleven = λ z. (r .count, ap (λ (r : GroupState). r .session) written ∙ kept (r .number) z);
+            added = ap (λ (r : GroupState). r .count) written;
+            others = λ k n. getD-set-other t g k (charged (groupAt t g .count) lone .left) unopened n;
+            size = length-set t g (charged (groupAt t g .count) lone .left);
           }
         where
+          -- the group's record is the one that the call left
+          written : groupAt (set t g (charged (groupAt t g .count) lone .left)) g ≡ charged (groupAt t g .count) lone .left
+          written = getD-set-same t g (charged (groupAt t g .count) lone .left) unopened (omega (arith, in3 .0, in3 .1))
+
           either : (lone .number ≡ 0) ⊎ ((lone .number ≡ 11) × (lone .session ≡ sessionAt t g)) → (lone .number ≡ 0) ⊎ (lone .number ≡ 11)
           either (inl z) = inl z
           either (inr z) = inr (z .0)
@@ -164,34 +186,34 @@ module _ (day : Day) (t : Table) (g : ℕ) (i : CallInput) where
           kept (inl z) p = absurd (omega (arith, z, p))
           kept (inr z) p = z .1
 
-      -- a check that stops the call writes the group's session back as it was
-      stays : (n : ℕ) → writtenBack t g (charged day (refused n (sessionAt t g) i)) ≡ refusedBy n day t i
-      stays n = ap₂ (λ (d : Day) (u : Table). record { number = n; count = 0; day = d; table = u; out = i .out; tag = i .tag }) (no-count day) (set-getD t g closed)
+      -- a check that stops the call writes the group's record back as it was
+      stays : (n : ℕ) → writtenBack t g (charged (groupAt t g .count) (refused n (sessionAt t g) i)) ≡ refusedBy n t i
+      stays n = ap (λ (u : Table). record { number = n; count = 0; table = u; out = i .out; tag = i .tag }) (put-back t g)
 
       -- by the first of 5 to 9, then by 10
-      after3 : (first ≡ 0 → Worked lone) → CallExactly day t g i lone (writtenBack t g (onDay day (sessionAt t g) i lone))
+      after3 : (first ≡ 0 → Worked lone) → CallExactly allowance t g i lone (writtenBack t g (onDay allowance (groupAt t g) i lone))
       unfolding onDay groupCheck
       after3 ends = go first refl (check-range (sessionAt t g) i)
         where
-          at10 : (u : Bool) → first ≡ 0 → Told (Check10 day (countOf sanse incremental i)) (day .spent + countOf sanse incremental i ≤ day .allowance) u
-              → CallExactly day t g i lone (writtenBack t g (charged day (ifNoCheck (cond u 10 0) (sessionAt t g) i lone)))
-          at10 true e (holds above) = subst (CallExactly day t g i lone) (sym (stays 10)) (by10 e above)
+          at10 : (u : Bool) → first ≡ 0 → Told (Check10 allowance t g (countOf sanse incremental i)) (groupAt t g .count + countOf sanse incremental i ≤ allowance) u
+              → CallExactly allowance t g i lone (writtenBack t g (charged (groupAt t g .count) (ifNoCheck (cond u 10 0) (sessionAt t g) i lone)))
+          at10 true e (holds above) = subst (CallExactly allowance t g i lone) (sym (stays 10)) (by10 e above)
           at10 false e (fails within) =
               done (record { three = λ c. apart t g in3 c; five-to-nine = e; ten = λ above. omega (arith, above, within) }) (ends e)
 
           go : (n : ℕ) → first ≡ n → (first ≡ 0) ⊎ ((5 ≤ first) × (first ≤ 9))
-              → CallExactly day t g i lone (writtenBack t g (charged day (ifNoCheck (then10 n day (countOf sanse incremental i)) (sessionAt t g) i lone)))
-          go zero e z = at10 (aboveAllowance day (countOf sanse incremental i)) e (told10 day (countOf sanse incremental i))
+              → CallExactly allowance t g i lone (writtenBack t g (charged (groupAt t g .count) (ifNoCheck (then10 n (aboveAllowance allowance (groupAt t g .count) (countOf sanse incremental i))) (sessionAt t g) i lone)))
+          go zero e z = at10 (aboveAllowance allowance (groupAt t g .count) (countOf sanse incremental i)) e (told10 allowance t g (countOf sanse incremental i))
           go (suc n) e (inl z) = absurd (omega (arith, e, z))
-          go (suc n) e (inr z) = subst (CallExactly day t g i lone) (sym (stays (suc n))) (by-check (suc n) e (omega (arith, e, z .0)) (omega (arith, e, z .1)))
+          go (suc n) e (inr z) = subst (CallExactly allowance t g i lone) (sym (stays (suc n))) (by-check (suc n) e (omega (arith, e, z .0)) (omega (arith, e, z .1)))
 
     -- by check 3
-    exactly : (first ≡ 0 → Worked lone) → CallExactly day t g i lone (callGroupAt day t g i lone)
+    exactly : (first ≡ 0 → Worked lone) → CallExactly allowance t g i lone (callGroupAt allowance t g i lone)
     unfolding callGroupAt
     exactly ends = go (noGroup (length t) g) (told3 t g)
       where
         go : (u : Bool) → Told (Check3 t g) ((length t ≡ 32) × (g ≤ 31)) u
-            → CallExactly day t g i lone (cond u (refusedBy 3 day t i) (writtenBack t g (onDay day (sessionAt t g) i lone)))
+            → CallExactly allowance t g i lone (cond u (refusedBy 3 t i) (writtenBack t g (onDay allowance (groupAt t g) i lone)))
         go true (holds c) = by3 c
         go false (fails in3) = after3 in3 ends
 
@@ -202,10 +224,10 @@ module _ (day : Day) (t : Table) (g : ℕ) (i : CallInput) where
       let s = sessionAt t g in
       ap (λ (n : ℕ). ifNoCheck n s i (accepted sanse incremental s i (wrapSteps sanse incremental s i) (wrapSteps sanse incremental s i .tag)) .number) e
 
-  wrap-call : CallExactly day t g i (wrapAt sanse incremental (sessionAt t g) i) (wrapGroupAt day t g i)
+  wrap-call : CallExactly allowance t g i (wrapAt sanse incremental (sessionAt t g) i) (wrapGroupAt allowance t g i)
   wrap-call = exactly (wrapAt sanse incremental (sessionAt t g) i) (λ e. record { number = inl (wrap-number e); count = wrap-count (sessionAt t g) i e })
 
-  pub wrap-exactly : WrapGroupExactly day t g i
+  pub wrap-exactly : WrapGroupExactly allowance t g i
   wrap-exactly =
       record {
         call = wrap-call;
@@ -230,20 +252,21 @@ module _ (day : Day) (t : Table) (g : ℕ) (i : CallInput) where
       go true = inl refl
       go false = inr (refl, refl)
 
-  pub unwrap-exactly : UnwrapGroupExactly day t g i
+  pub unwrap-exactly : UnwrapGroupExactly allowance t g i
   unwrap-exactly =
       exactly (unwrapAt sanse incremental (sessionAt t g) i) (λ e. record { number = unwrap-number e; count = unwrap-count (sessionAt t g) i e })
 
 -- ---- opening a group
 
-module _ (day : Day) (t : Table) (g : ℕ) (key : List ℕ) where
-  abbrev unopened : ℕ → TableOpening
-  unopened n = record { number = n; count = 0; day = day; table = t }
+module _ (allowance : ℕ) (t : Table) (g : ℕ) (key : List ℕ) where
+  abbrev refused-open : ℕ → TableOpening
+  refused-open n = record { number = n; count = 0; table = t }
 
-  open-stays : (n : ℕ) → _≡_ {A = TableOpening} (record { number = n; count = 0; day = addCount day 0; table = set t g (sessionAt t g) }) (unopened n)
-  open-stays n = ap₂ (λ (d : Day) (u : Table). record { number = n; count = 0; day = d; table = u }) (no-count day) (set-getD t g closed)
+  open-stays : (n : ℕ)
+      → _≡_ {A = TableOpening} (record { number = n; count = 0; table = set t g (record { session = sessionAt t g; count = groupAt t g .count + 0 }) }) (refused-open n)
+  open-stays n = ap (λ (u : Table). record { number = n; count = 0; table = u }) (put-back t g)
 
-  open-3 : Check3 t g → OpenExactly day t g key (unopened 3)
+  open-3 : Check3 t g → OpenExactly allowance t g key (refused-open 3)
   open-3 c =
       record {
         three = (λ _. c, λ _. refl);
@@ -258,7 +281,7 @@ module _ (day : Day) (t : Table) (g : ℕ) (key : List ℕ) where
   outside k (inr l) = omega (arith, k .1, l)
 
   module _ (in3 : (length t ≡ 32) × (g ≤ 31)) where
-    open-4 : (length key < 16) ⊎ (47 < length key) → OpenExactly day t g key (unopened 4)
+    open-4 : (length key < 16) ⊎ (47 < length key) → OpenExactly allowance t g key (refused-open 4)
     open-4 w =
         record {
           three = (λ e. absurd (omega (arith, e)), λ c. absurd (apart t g in3 c));
@@ -269,7 +292,7 @@ module _ (day : Day) (t : Table) (g : ℕ) (key : List ℕ) where
         }
 
     module _ (fits : (16 ≤ length key) × (length key ≤ 47)) where
-      open-10 : Check10 day 1 → OpenExactly day t g key (unopened 10)
+      open-10 : Check10 allowance t g 1 → OpenExactly allowance t g key (refused-open 10)
       open-10 above =
           record {
             three = (λ e. absurd (omega (arith, e)), λ c. absurd (apart t g in3 c));
@@ -279,8 +302,8 @@ module _ (day : Day) (t : Table) (g : ℕ) (key : List ℕ) where
             unaltered = λ _. refl;
           }
 
-      opened : day .spent + 1 ≤ day .allowance
-          → OpenExactly day t g key (record { number = 0; count = 1; day = addCount day 1; table = set t g (newSession key) })
+      opened : groupAt t g .count + 1 ≤ allowance
+          → OpenExactly allowance t g key (record { number = 0; count = 1; table = set t g (record { session = newSession key; count = groupAt t g .count + 1 }) })
       opened within =
           record {
             three = (λ e. absurd (omega (arith, e)), λ c. absurd (apart t g in3 c));
@@ -292,89 +315,89 @@ module _ (day : Day) (t : Table) (g : ℕ) (key : List ℕ) where
 
   -- what opening gives by the outcome o of the checks and the start
   abbrev back : Opening → TableOpening
-  back o = record { number = o .number; count = o .count; day = addCount day (o .count); table = set t g (o .session) }
+  back o = openedBack t g (chargedOpening (groupAt t g .count) o)
 
-  pub open-exactly : OpenExactly day t g key (openGroupAt day t g key)
+  pub open-exactly : OpenExactly allowance t g key (openGroupAt allowance t g key)
   unfolding openGroupAt openOnDay startAt
   open-exactly = go3 (noGroup (length t) g) (told3 t g)
     where
-      go10 : (w : Bool) → Told (Check10 day 1) (day .spent + 1 ≤ day .allowance) w → (length t ≡ 32) × (g ≤ 31) → (16 ≤ length key) × (length key ≤ 47)
-          → OpenExactly day t g key (back (openedUnless (cond w 10 0) (sessionAt t g) (record { number = 0; count = 1; session = newSession key })))
-      go10 true (holds above) in3 fits = subst (OpenExactly day t g key) (sym (open-stays 10)) (open-10 in3 fits above)
+      go10 : (w : Bool) → Told (Check10 allowance t g 1) (groupAt t g .count + 1 ≤ allowance) w → (length t ≡ 32) × (g ≤ 31) → (16 ≤ length key) × (length key ≤ 47)
+          → OpenExactly allowance t g key (back (openedUnless (cond w 10 0) (sessionAt t g) (record { number = 0; count = 1; session = newSession key })))
+      go10 true (holds above) in3 fits = subst (OpenExactly allowance t g key) (sym (open-stays 10)) (open-10 in3 fits above)
       go10 false (fails within) in3 fits = opened in3 fits within
 
       go4 : (v : Bool) → Told ((16 ≤ length key) × (length key ≤ 47)) ((length key < 16) ⊎ (47 < length key)) v → (length t ≡ 32) × (g ≤ 31)
-          → OpenExactly day t g key (back (openedUnless (cond (not v) 4 (cond (aboveAllowance day 1) 10 0)) (sessionAt t g)
+          → OpenExactly allowance t g key (back (openedUnless (cond (not v) 4 (cond (aboveAllowance allowance (groupAt t g .count) 1) 10 0)) (sessionAt t g)
           (cond v (record { number = 0; count = 1; session = newSession key }) (record { number = 4; count = 0; session = closed }))))
-      go4 true (holds fits) in3 = go10 (aboveAllowance day 1) (told10 day 1) in3 fits
-      go4 false (fails w) in3 = subst (OpenExactly day t g key) (sym (open-stays 4)) (open-4 in3 w)
+      go4 true (holds fits) in3 = go10 (aboveAllowance allowance (groupAt t g .count) 1) (told10 allowance t g 1) in3 fits
+      go4 false (fails w) in3 = subst (OpenExactly allowance t g key) (sym (open-stays 4)) (open-4 in3 w)
 
       go3 : (u : Bool) → Told (Check3 t g) ((length t ≡ 32) × (g ≤ 31)) u
-          → OpenExactly day t g key (cond u (record { number = 3; count = 0; day = day; table = t })
-          (back (openedUnless (cond (not (keyFits key)) 4 (cond (aboveAllowance day 1) 10 0)) (sessionAt t g)
+          → OpenExactly allowance t g key (cond u (record { number = 3; count = 0; table = t })
+          (back (openedUnless (cond (not (keyFits key)) 4 (cond (aboveAllowance allowance (groupAt t g .count) 1) 10 0)) (sessionAt t g)
           (cond (keyFits key) (record { number = 0; count = 1; session = newSession key }) (record { number = 4; count = 0; session = closed })))))
       go3 true (holds c) = open-3 c
       go3 false (fails in3) = go4 (keyFits key) (told-key key) in3
 
 -- ---- the claims leave nothing open: each is true of one outcome
 
-module _ (day : Day) (t : Table) (g : ℕ) (i : CallInput) (lone : Outcome DeckState) where
+module _ (allowance : ℕ) (t : Table) (g : ℕ) (i : CallInput) (lone : Outcome DeckState) where
   abbrev Only : TableOutcome → Type 0
-  Only w = (o : TableOutcome) → CallExactly day t g i lone o → o ≡ w
+  Only w = (o : TableOutcome) → CallExactly allowance t g i lone o → o ≡ w
 
-  stopped : (n : ℕ) → n ≢ 0 → n ≢ 11 → ((o : TableOutcome) → CallExactly day t g i lone o → o .number ≡ n) → Only (refusedBy n day t i)
+  stopped : (n : ℕ) → n ≢ 0 → n ≢ 11 → ((o : TableOutcome) → CallExactly allowance t g i lone o → o .number ≡ n) → Only (refusedBy n t i)
   stopped n n0 n11 is o x =
-      x .unaltered (λ z. n0 (sym (is o x) ∙ z)) (λ z. n11 (sym (is o x) ∙ z)) ∙ ap (λ (n : ℕ). refusedBy n day t i) (is o x)
+      x .unaltered (λ z. n0 (sym (is o x) ∙ z)) (λ z. n11 (sym (is o x) ∙ z)) ∙ ap (λ (n : ℕ). refusedBy n t i) (is o x)
 
   only : (w : TableOutcome) × Only w
   only = go (noGroup (length t) g) (told3 t g)
     where
-      at10 : (u : Bool) → Told (Check10 day (countOf sanse incremental i)) (day .spent + countOf sanse incremental i ≤ day .allowance) u
+      at10 : (u : Bool) → Told (Check10 allowance t g (countOf sanse incremental i)) (groupAt t g .count + countOf sanse incremental i ≤ allowance) u
           → (Check3 t g → ⊥) → checkNumber sanse incremental (sessionAt t g) i ≡ 0 → (w : TableOutcome) × Only w
       at10 true (holds above) in3 e =
-          (refusedBy 10 day t i, stopped 10 (λ z. omega (arith, z)) (λ z. omega (arith, z)) (λ o x. x .ten .1 (in3, e, above)))
+          (refusedBy 10 t i, stopped 10 (λ z. omega (arith, z)) (λ z. omega (arith, z)) (λ o x. x .ten .1 (in3, e, above)))
       at10 false (fails within) in3 e =
-          (writtenBack t g (charged day lone), λ o x. x .worked (record { three = in3; five-to-nine = e; ten = λ above. omega (arith, above, within) }))
+          (writtenBack t g (charged (groupAt t g .count) lone), λ o x. x .worked (record { three = in3; five-to-nine = e; ten = λ above. omega (arith, above, within) }))
 
       at5 : (n : ℕ) → checkNumber sanse incremental (sessionAt t g) i ≡ n → (n ≡ 0) ⊎ ((5 ≤ n) × (n ≤ 9)) → (Check3 t g → ⊥) → (w : TableOutcome) × Only w
-      at5 zero e z in3 = at10 (aboveAllowance day (countOf sanse incremental i)) (told10 day (countOf sanse incremental i)) in3 e
+      at5 zero e z in3 = at10 (aboveAllowance allowance (groupAt t g .count) (countOf sanse incremental i)) (told10 allowance t g (countOf sanse incremental i)) in3 e
       at5 (suc n) e (inl z) in3 = absurd (omega (arith, z))
       at5 (suc n) e (inr z) in3 = (
-        refusedBy (suc n) day t i,
+        refusedBy (suc n) t i,
         stopped (suc n) (λ q. omega (arith, q)) (λ q. omega (arith, q, z .1)) (λ o x. x .five-to-nine in3 (λ q. omega (arith, q, e)) ∙ e),
       )
 
       go : (u : Bool) → Told (Check3 t g) ((length t ≡ 32) × (g ≤ 31)) u → (w : TableOutcome) × Only w
-      go true (holds c) = (refusedBy 3 day t i, stopped 3 (λ z. omega (arith, z)) (λ z. omega (arith, z)) (λ o x. x .three .1 c))
+      go true (holds c) = (refusedBy 3 t i, stopped 3 (λ z. omega (arith, z)) (λ z. omega (arith, z)) (λ o x. x .three .1 c))
       go false (fails in3) = at5 (checkNumber sanse incremental (sessionAt t g) i) refl (check-range (sessionAt t g) i) (apart t g in3)
 
-  pub call-decided : (o o′ : TableOutcome) → CallExactly day t g i lone o → CallExactly day t g i lone o′ → o ≡ o′
+  pub call-decided : (o o′ : TableOutcome) → CallExactly allowance t g i lone o → CallExactly allowance t g i lone o′ → o ≡ o′
   call-decided o o′ x y = only .1 o x ∙ sym (only .1 o′ y)
 
-module _ (day : Day) (t : Table) (g : ℕ) (key : List ℕ) where
+module _ (allowance : ℕ) (t : Table) (g : ℕ) (key : List ℕ) where
   abbrev OnlyOpen : TableOpening → Type 0
-  OnlyOpen w = (o : TableOpening) → OpenExactly day t g key o → o ≡ w
+  OnlyOpen w = (o : TableOpening) → OpenExactly allowance t g key o → o ≡ w
 
-  unopened-only : (n : ℕ) → n ≢ 0 → ((o : TableOpening) → OpenExactly day t g key o → o .number ≡ n) → OnlyOpen (unopened day t g key n)
-  unopened-only n n0 is o x = x .unaltered (λ z. n0 (sym (is o x) ∙ z)) ∙ ap (unopened day t g key) (is o x)
+  refused-only : (n : ℕ) → n ≢ 0 → ((o : TableOpening) → OpenExactly allowance t g key o → o .number ≡ n) → OnlyOpen (refused-open allowance t g key n)
+  refused-only n n0 is o x = x .unaltered (λ z. n0 (sym (is o x) ∙ z)) ∙ ap (refused-open allowance t g key) (is o x)
 
   only-open : (w : TableOpening) × OnlyOpen w
   only-open = go (noGroup (length t) g) (told3 t g)
     where
-      at10 : (u : Bool) → Told (Check10 day 1) (day .spent + 1 ≤ day .allowance) u → (Check3 t g → ⊥) → (16 ≤ length key) × (length key ≤ 47) → (w : TableOpening) × OnlyOpen w
-      at10 true (holds above) in3 k = (unopened day t g key 10, unopened-only 10 (λ z. omega (arith, z)) (λ o x. x .ten .1 (in3, k, above)))
+      at10 : (u : Bool) → Told (Check10 allowance t g 1) (groupAt t g .count + 1 ≤ allowance) u → (Check3 t g → ⊥) → (16 ≤ length key) × (length key ≤ 47) → (w : TableOpening) × OnlyOpen w
+      at10 true (holds above) in3 k = (refused-open allowance t g key 10, refused-only 10 (λ z. omega (arith, z)) (λ o x. x .ten .1 (in3, k, above)))
       at10 false (fails within) in3 k = (
-        record { number = 0; count = 1; day = addCount day 1; table = set t g (newSession key) },
+        record { number = 0; count = 1; table = set t g (record { session = newSession key; count = groupAt t g .count + 1 }) },
         λ o x. x .accepted in3 (k .0) (k .1) (λ above. omega (arith, above, within)),
       )
 
       at4 : (u : Bool) → Told ((16 ≤ length key) × (length key ≤ 47)) ((length key < 16) ⊎ (47 < length key)) u → (Check3 t g → ⊥) → (w : TableOpening) × OnlyOpen w
-      at4 true (holds k) in3 = at10 (aboveAllowance day 1) (told10 day 1) in3 k
-      at4 false (fails k) in3 = (unopened day t g key 4, unopened-only 4 (λ z. omega (arith, z)) (λ o x. x .four .1 (in3, k)))
+      at4 true (holds k) in3 = at10 (aboveAllowance allowance (groupAt t g .count) 1) (told10 allowance t g 1) in3 k
+      at4 false (fails k) in3 = (refused-open allowance t g key 4, refused-only 4 (λ z. omega (arith, z)) (λ o x. x .four .1 (in3, k)))
 
       go : (u : Bool) → Told (Check3 t g) ((length t ≡ 32) × (g ≤ 31)) u → (w : TableOpening) × OnlyOpen w
-      go true (holds c) = (unopened day t g key 3, unopened-only 3 (λ z. omega (arith, z)) (λ o x. x .three .1 c))
+      go true (holds c) = (refused-open allowance t g key 3, refused-only 3 (λ z. omega (arith, z)) (λ o x. x .three .1 c))
       go false (fails in3) = at4 (keyFits key) (told-key key) (apart t g in3)
 
-  pub open-decided : (o o′ : TableOpening) → OpenExactly day t g key o → OpenExactly day t g key o′ → o ≡ o′
+  pub open-decided : (o o′ : TableOpening) → OpenExactly allowance t g key o → OpenExactly allowance t g key o′ → o ≡ o′
   open-decided o o′ x y = only-open .1 o x ∙ sym (only-open .1 o′ y)

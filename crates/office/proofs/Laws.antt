@@ -11,13 +11,11 @@ use borrow.Author.Tests.{ltb-false, eqb-true, eq-eqb, ne-eqb}
 use Rattle.deck.specs.declared.DeckState.{DeckState}
 use Rattle.modes.specs.Call.{CallInput}
 use Rattle.modes.specs.Rules.{SessionState, Outcome}
-use Rattle.sanse.specs.declared.Session.{Session}
-use Rattle.sanse.specs.Session.{stateOf}
-use Rattle.groups.specs.declared.Day.{Day}
-use Rattle.groups.specs.declared.GroupAnswer.{GroupAnswer}
+use Rattle.session.specs.declared.Answer.{Answer}
+use Rattle.groups.specs.declared.Record.{Record}
 use Rattle.groups.specs.declared.GroupResult.{GroupResult}
-use Rattle.groups.specs.Groups.{onDay, openOnDay, groupResult, groupOpeningResult}
-use Rattle.office.specs.Table.{Table, noGroup, sessionAt, refusedBy, writtenBack, callGroupAt, openedBack, openGroupAt, zeroRecord, refused3, tableOf, tableResult, openingResult}
+use Rattle.groups.specs.Groups.{GroupState, GroupOutcome, onDay, openOnDay, recordOf, groupResult, groupOpeningResult}
+use Rattle.office.specs.Table.{Table, noGroup, groupAt, sessionAt, TableOutcome, refusedBy, writtenBack, callGroupAt, openedBack, openGroupAt, zeroRecord, refused3, tableOf, tableResult, openingResult}
 
 -- ---- how a test comes out
 
@@ -59,65 +57,67 @@ pub inside : (n g : ℕ) → noGroup n g ≡ false → g < n
 inside n g z = let w = in-table n g z in omega (arith, w .0, w .1)
 
 -- the byte at which record g begins is a usize
-pub start-fits : (n g : ℕ) → noGroup n g ≡ false → g * 104 < 2 ^ 64
+pub start-fits : (n g : ℕ) → noGroup n g ≡ false → g * 108 < 2 ^ 64
 start-fits n g z = let w = in-table n g z in omega (arith, w .1)
 
--- ---- the records of a table and its sessions
+-- ---- the program's records and the table's
 
-pub session-at : (l : List Session) (g : ℕ) → stateOf (getD l g zeroRecord) ≡ sessionAt (tableOf l) g
-session-at l g = sym (List·getD-map stateOf l g zeroRecord)
+pub group-at : (l : List Record) (g : ℕ) → recordOf (getD l g zeroRecord) ≡ groupAt (tableOf l) g
+group-at l g = sym (List·getD-map recordOf l g zeroRecord)
 
-set-table : (l : List Session) (g : ℕ) (s : Session) → tableOf (set l g s) ≡ set (tableOf l) g (stateOf s)
-set-table [] g s = refl
-set-table (x ∷ l) zero s = refl
-set-table (x ∷ l) (suc g) s = ap (λ (t : Table). stateOf x ∷ t) (set-table l g s)
+set-table : (l : List Record) (g : ℕ) (r : Record) → tableOf (set l g r) ≡ set (tableOf l) g (recordOf r)
+set-table [] g r = refl
+set-table (x ∷ l) zero r = refl
+set-table (x ∷ l) (suc g) r = ap (λ (t : Table). recordOf x ∷ t) (set-table l g r)
 
-test-is : (l : List Session) (g : ℕ) (t : Bool) → noGroup (length l) g ≡ t → t ≡ noGroup (length (tableOf l)) g
-test-is l g t e = sym (ap (λ (n : ℕ). noGroup n g) (length-map l stateOf) ∙ e)
+test-is : (l : List Record) (g : ℕ) (t : Bool) → noGroup (length l) g ≡ t → t ≡ noGroup (length (tableOf l)) g
+test-is l g t e = sym (ap (λ (n : ℕ). noGroup n g) (length-map l recordOf) ∙ e)
 
 -- ---- wrap and unwrap for a group: `lone` is the lone call
 
-module _ (lone : SessionState DeckState → CallInput → Outcome DeckState) (day : Day) (i : CallInput) (l : List Session) (g : ℕ) where
+module _ (lone : SessionState DeckState → CallInput → Outcome DeckState) (allowance : ℕ) (i : CallInput) (l : List Record) (g : ℕ) where
+  -- what a group's own call gives, and what it gives of the table
+  abbrev own : GroupState → GroupOutcome
+  own r = onDay allowance r i (lone (r .session) i)
+
+  abbrev whole : TableOutcome
+  whole = callGroupAt allowance (tableOf l) g i (lone (sessionAt (tableOf l) g) i)
+
   -- how the test comes out decides what the call gives
   call-by : (t : Bool) → noGroup (length l) g ≡ t
-      → cond t (refusedBy 3 day (tableOf l) i) (writtenBack (tableOf l) g (onDay day (sessionAt (tableOf l) g) i (lone (sessionAt (tableOf l) g) i)))
-      ≡ callGroupAt day (tableOf l) g i (lone (sessionAt (tableOf l) g) i)
+      → cond t (refusedBy 3 (tableOf l) i) (writtenBack (tableOf l) g (own (groupAt (tableOf l) g))) ≡ whole
   unfolding callGroupAt
   call-by t e =
-      ap (λ (u : Bool). cond u (refusedBy 3 day (tableOf l) i) (writtenBack (tableOf l) g (onDay day (sessionAt (tableOf l) g) i (lone (sessionAt (tableOf l) g) i))))
-      (test-is l g t e)
+      ap (λ (u : Bool). cond u (refusedBy 3 (tableOf l) i) (writtenBack (tableOf l) g (own (groupAt (tableOf l) g)))) (test-is l g t e)
 
-  pub call-refused : noGroup (length l) g ≡ true → (r : GroupAnswer) → r ≡ refused3 day
-      → tableResult r l (i .out) (i .tag) ≡ callGroupAt day (tableOf l) g i (lone (sessionAt (tableOf l) g) i)
-  call-refused e r is = ap (λ (r : GroupAnswer). tableResult r l (i .out) (i .tag)) is ∙ call-by true e
+  pub call-refused : noGroup (length l) g ≡ true → (r : Answer) → r ≡ refused3 → tableResult r l (i .out) (i .tag) ≡ whole
+  call-refused e r is = ap (λ (r : Answer). tableResult r l (i .out) (i .tag)) is ∙ call-by true e
 
   -- what a group's call gave, with its record written back, is what the rules say of the whole table
-  pub call-stored : noGroup (length l) g ≡ false → (r : GroupResult) {out tag : List ℕ}
-      → groupResult r out tag ≡ onDay day (stateOf (getD l g zeroRecord)) i (lone (stateOf (getD l g zeroRecord)) i)
-      → tableResult (r .answer) (set l g (r .session)) out tag ≡ callGroupAt day (tableOf l) g i (lone (sessionAt (tableOf l) g) i)
+  pub call-stored : noGroup (length l) g ≡ false → (r : GroupResult) {out tag : List ℕ} → groupResult r out tag ≡ own (recordOf (getD l g zeroRecord))
+      → tableResult (record { number = r .number; count = r .count }) (set l g (r .left)) out tag ≡ whole
   call-stored e r {out} {tag} met =
-      ap (λ (t : Table). record { number = r .answer .number; count = r .answer .count; day = r .answer .day; table = t; out = out; tag = tag })
-      (set-table l g (r .session))
-      ∙ ap (writtenBack (tableOf l) g) (met ∙ ap (λ (s : SessionState DeckState). onDay day s i (lone s i)) (session-at l g))
+      ap (λ (t : Table). record { number = r .number; count = r .count; table = t; out = out; tag = tag }) (set-table l g (r .left))
+      ∙ ap (writtenBack (tableOf l) g) (met ∙ ap own (group-at l g))
       ∙ call-by false e
 
 -- ---- opening a group
 
-module _ (day : Day) (key : List ℕ) (l : List Session) (g : ℕ) where
+module _ (allowance : ℕ) (key : List ℕ) (l : List Record) (g : ℕ) where
   open-by : (t : Bool) → noGroup (length l) g ≡ t
-      → cond t (record { number = 3; count = 0; day = day; table = tableOf l }) (openedBack (tableOf l) g (openOnDay day (sessionAt (tableOf l) g) key))
-      ≡ openGroupAt day (tableOf l) g key
+      → cond t (record { number = 3; count = 0; table = tableOf l }) (openedBack (tableOf l) g (openOnDay allowance (groupAt (tableOf l) g) key))
+      ≡ openGroupAt allowance (tableOf l) g key
   unfolding openGroupAt
   open-by t e =
-      ap (λ (u : Bool). cond u (record { number = 3; count = 0; day = day; table = tableOf l }) (openedBack (tableOf l) g (openOnDay day (sessionAt (tableOf l) g) key)))
+      ap (λ (u : Bool). cond u (record { number = 3; count = 0; table = tableOf l }) (openedBack (tableOf l) g (openOnDay allowance (groupAt (tableOf l) g) key)))
       (test-is l g t e)
 
-  pub open-refused : noGroup (length l) g ≡ true → (r : GroupAnswer) → r ≡ refused3 day → openingResult r l ≡ openGroupAt day (tableOf l) g key
-  open-refused e r is = ap (λ (r : GroupAnswer). openingResult r l) is ∙ open-by true e
+  pub open-refused : noGroup (length l) g ≡ true → (r : Answer) → r ≡ refused3 → openingResult r l ≡ openGroupAt allowance (tableOf l) g key
+  open-refused e r is = ap (λ (r : Answer). openingResult r l) is ∙ open-by true e
 
-  pub open-stored : noGroup (length l) g ≡ false → (r : GroupResult) → groupOpeningResult r ≡ openOnDay day (stateOf (getD l g zeroRecord)) key
-      → openingResult (r .answer) (set l g (r .session)) ≡ openGroupAt day (tableOf l) g key
+  pub open-stored : noGroup (length l) g ≡ false → (r : GroupResult) → groupOpeningResult r ≡ openOnDay allowance (recordOf (getD l g zeroRecord)) key
+      → openingResult (record { number = r .number; count = r .count }) (set l g (r .left)) ≡ openGroupAt allowance (tableOf l) g key
   open-stored e r met =
-      ap (λ (t : Table). record { number = r .answer .number; count = r .answer .count; day = r .answer .day; table = t }) (set-table l g (r .session))
-      ∙ ap (openedBack (tableOf l) g) (met ∙ ap (λ (s : SessionState DeckState). openOnDay day s key) (session-at l g))
+      ap (λ (t : Table). record { number = r .number; count = r .count; table = t }) (set-table l g (r .left))
+      ∙ ap (openedBack (tableOf l) g) (met ∙ ap (λ (r : GroupState). openOnDay allowance r key) (group-at l g))
       ∙ open-by false e

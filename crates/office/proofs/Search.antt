@@ -8,14 +8,12 @@ use lib.Dec.{T as Holds, ltb, eqb}
 use lib.ListN.{length, getD, length-map}
 use borrow.Author.Tests.{ltb-true, lt-ltb, eqb-true, eqb-false}
 use borrow.Author.Count.{below-more}
-use Rattle.deck.specs.declared.DeckState.{DeckState}
-use Rattle.modes.specs.Rules.{SessionState}
-use Rattle.sanse.specs.declared.Session.{Session}
-use Rattle.sanse.specs.Session.{stateOf}
+use Rattle.groups.specs.declared.Record.{Record}
+use Rattle.groups.specs.Groups.{GroupState, recordOf}
 use Rattle.office.specs.declared.NearlyFull.{NearlyFull}
 use Rattle.office.specs.Table.{Table, sessionAt, aboveMark, NearlyFullIs, zeroRecord, tableOf}
 use Rattle.office.specs.Exactly.{OpenAbove, FoundExactly}
-use Rattle.office.proofs.Laws.{session-at}
+use Rattle.office.proofs.Laws.{group-at}
 
 -- ---- the test
 
@@ -28,38 +26,29 @@ mark-open true u e = refl
 mark-open false u e = absurd (subst Holds e tt)
 
 -- record g is open with an index above the mark
-abbrev pub over : List Session → (mark g : ℕ) → Bool
-over l mark g = aboveMark (stateOf (getD l g zeroRecord)) mark
+abbrev pub over : List Record → (mark g : ℕ) → Bool
+over l mark g = aboveMark (recordOf (getD l g zeroRecord) .session) mark
 
 -- ---- a turn: t records are left from g on, and none before g is over the mark
 
-abbrev pub Turn : List Session → (mark t g : ℕ) → Type 0
+abbrev pub Turn : List Record → (mark t g : ℕ) → Type 0
 Turn l mark t g = (g + t ≡ length l) × ((k : ℕ) → k < g → over l mark k ≡ false)
 
 -- where the search stops: none before g is over the mark, and g is, or is past the end
-pub record Stopped (l : List Session) (mark g : ℕ) : Type 0 where
+pub record Stopped (l : List Record) (mark g : ℕ) : Type 0 where
   pub before : (k : ℕ) → k < g → over l mark k ≡ false
   pub found : g < length l → over l mark g ≡ true
 
-pub past-end : (l : List Session) (mark t g : ℕ) → Turn l mark t g → length l ≤ g → Stopped l mark g
+pub past-end : (l : List Record) (mark t g : ℕ) → Turn l mark t g → length l ≤ g → Stopped l mark g
 past-end l mark t g inv past = record { before = inv .1; found = λ less. absurd (omega arith) }
 
-pub hit : (l : List Session) (mark t g : ℕ) → Turn l mark t g → over l mark g ≡ true → Stopped l mark g
+pub hit : (l : List Record) (mark t g : ℕ) → Turn l mark t g → over l mark g ≡ true → Stopped l mark g
 hit l mark t g inv e = record { before = inv .1; found = λ _. e }
 
-pub goes-on : (l : List Session) (mark t g : ℕ) → Turn l mark t g → g < length l → over l mark g ≡ false → Turn l mark (t - 1) (g + 1)
+pub goes-on : (l : List Record) (mark t g : ℕ) → Turn l mark t g → g < length l → over l mark g ≡ false → Turn l mark (t - 1) (g + 1)
 goes-on l mark t g inv less e = let z : g + t ≡ length l = inv .0 in (omega arith, below-more _ g (inv .1) e)
 
-pub falls : (l t g : ℕ) → g + t ≡ l → g < l → t - 1 < t
-falls l t g e less = omega arith
-
 -- ---- numbers fit
-
-pub record-fits : (l g : ℕ) → l * 104 < 2 ^ 63 → g < l → g * 104 < 2 ^ 64
-record-fits l g room less = omega arith
-
-pub next-fits : (l g : ℕ) → l < 2 ^ 64 → g < l → g + 1 < 2 ^ 64
-next-fits l g room less = omega arith
 
 pub at-most-fits : (l t g : ℕ) → l < 2 ^ 64 → g + t ≡ l → g < 2 ^ 64
 at-most-fits l t g room e = omega arith
@@ -69,13 +58,13 @@ at-most-fits l t g room e = omega arith
 never : {A : Type 0} → true ≡ false → A
 never e = absurd (subst Holds e tt)
 
-module _ (l : List Session) (mark : ℕ) where
+module _ (l : List Record) (mark : ℕ) where
   size : length (tableOf l) ≡ length l
-  size = length-map l stateOf
+  size = length-map l recordOf
 
   -- by the table's own sessions
   over-is : (g : ℕ) → aboveMark (sessionAt (tableOf l) g) mark ≡ over l mark g
-  over-is g = ap (λ (s : SessionState DeckState). aboveMark s mark) (sym (session-at l g))
+  over-is g = ap (λ (r : GroupState). aboveMark (r .session) mark) (sym (group-at l g))
 
   pub says-refused : (length l ≡ 32 → ⊥) → NearlyFullIs (tableOf l) mark (record { number = 3; found = false; group = 0 })
   says-refused other =

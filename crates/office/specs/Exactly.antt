@@ -1,6 +1,6 @@
 -- The numbers 3, 4 and 10 at the table, each given if and only if its condition holds and no earlier one does, with the conditions as plain
--- statements; what a call gives that meets none of them, and what it leaves of day and table; the nearly-full question's answer; and the
--- table at first (document 01, "What stops a call" and "The row"). Assumes nothing.
+-- statements; what a call gives that meets none of them, and what it leaves of the table; starting a day, record by record; the nearly-full
+-- question's answer; and the table at first (document 01, "What stops a call" and "The row"; document 02, request 4). Assumes nothing.
 use mathlib.Core.Bool.{true, false}
 use mathlib.Core.List.{List}
 use mathlib.Core.Logic.{_↔_, _≢_, _⊎_}
@@ -11,73 +11,82 @@ use Rattle.deck.specs.declared.DeckState.{DeckState}
 use Rattle.modes.specs.Call.{CallInput}
 use Rattle.modes.specs.Mode.{sanse, incremental}
 use Rattle.modes.specs.Rules.{Outcome, checkNumber, countOf, closed, newSession, wrapAt, unwrapAt}
-use Rattle.sanse.specs.Session.{stateOf}
-use Rattle.groups.specs.declared.Day.{Day}
-use Rattle.groups.specs.Groups.{addCount, charged}
+use Rattle.groups.specs.Groups.{charged, recordOf}
 use Rattle.office.specs.declared.NearlyFull.{NearlyFull}
-use Rattle.office.specs.Table.{Table, newTable, sessionAt, TableOutcome, TableOpening, refusedBy, writtenBack, wrapGroupAt, unwrapGroupAt, openGroupAt, NearlyFullIs, tableOf, zeroRecord}
+use Rattle.office.specs.Table.{Table, unopened, newTable, groupAt, sessionAt, DayStart, startDayAt, TableOutcome, TableOpening, refusedBy, writtenBack, wrapGroupAt, unwrapGroupAt, openGroupAt, NearlyFullIs, tableOf, zeroRecord}
 
 -- 3: the table does not hold 32 records, or the group is above 31
 abbrev pub Check3 : Table → (group : ℕ) → Type 0
 Check3 t group = (length t ≢ 32) ⊎ (31 < group)
 
--- 10: the allowance is smaller than the day's count plus this call's count
-abbrev pub Check10 : Day → (count : ℕ) → Type 0
-Check10 day count = day .allowance < day .spent + count
+-- 10: the allowance is smaller than the group's count of the day plus this call's count
+abbrev pub Check10 : (allowance : ℕ) → Table → (group count : ℕ) → Type 0
+Check10 allowance t group count = allowance < groupAt t group .count + count
+
+-- ---- starting a day
+
+-- the records o that are left of t, of any number
+pub record DayExactly (allowance : ℕ) (t : Table) (o : DayStart) : Type 0 where
+  pub given : o .allowance ≡ allowance
+  pub size : length (o .table) ≡ length t
+  -- every record's count is 0, and every session stays
+  pub counts : (k : ℕ) → groupAt (o .table) k .count ≡ 0
+  pub sessions : (k : ℕ) → sessionAt (o .table) k ≡ sessionAt t k
 
 -- ---- wrap and unwrap for a group
 
 -- a call meets none of 3 and 5 to 10 (`checkNumber` of the modes' rules gives the first of 5 to 9 that the group's own session meets, or 0)
-pub record NoCheckMet (day : Day) (t : Table) (group : ℕ) (i : CallInput) : Type 0 where
+pub record NoCheckMet (allowance : ℕ) (t : Table) (group : ℕ) (i : CallInput) : Type 0 where
   pub three : Check3 t group → ⊥
   pub five-to-nine : checkNumber sanse incremental (sessionAt t group) i ≡ 0
-  pub ten : Check10 day (countOf sanse incremental i) → ⊥
+  pub ten : Check10 allowance t group (countOf sanse incremental i) → ⊥
 
 -- the outcome o of a wrap or an unwrap for a group, where `lone` is what the lone call gives
-pub record CallExactly (day : Day) (t : Table) (group : ℕ) (i : CallInput) (lone : Outcome DeckState) (o : TableOutcome) : Type 0 where
+pub record CallExactly (allowance : ℕ) (t : Table) (group : ℕ) (i : CallInput) (lone : Outcome DeckState) (o : TableOutcome) : Type 0 where
   pub three : (o .number ≡ 3) ↔ Check3 t group
   pub five-to-nine : (Check3 t group → ⊥) → checkNumber sanse incremental (sessionAt t group) i ≢ 0
       → o .number ≡ checkNumber sanse incremental (sessionAt t group) i
   pub only-five-to-nine : 5 ≤ o .number → o .number ≤ 9 → (Check3 t group → ⊥) × (checkNumber sanse incremental (sessionAt t group) i ≡ o .number)
   pub ten : (o .number ≡ 10)
-      ↔ ((Check3 t group → ⊥) × (checkNumber sanse incremental (sessionAt t group) i ≡ 0) × Check10 day (countOf sanse incremental i))
+      ↔ ((Check3 t group → ⊥) × (checkNumber sanse incremental (sessionAt t group) i ≡ 0) × Check10 allowance t group (countOf sanse incremental i))
   -- a refusal by another number than 11 has count 0 and alters nothing
-  pub unaltered : o .number ≢ 0 → o .number ≢ 11 → o ≡ refusedBy (o .number) day t i
+  pub unaltered : o .number ≢ 0 → o .number ≢ 11 → o ≡ refusedBy (o .number) t i
   -- 0 or 11 is given if and only if none of the others is met, and then
-  pub none : ((o .number ≡ 0) ⊎ (o .number ≡ 11)) ↔ NoCheckMet day t group i
-  -- the call gives what the lone call gives, its session in the group's place, its count added
-  pub worked : NoCheckMet day t group i → o ≡ writtenBack t group (charged day lone)
+  pub none : ((o .number ≡ 0) ⊎ (o .number ≡ 11)) ↔ NoCheckMet allowance t group i
+  -- the call gives what the lone call gives, its session in the group's record, its count added to the group's
+  pub worked : NoCheckMet allowance t group i → o ≡ writtenBack t group (charged (groupAt t group .count) lone)
   -- and the count is the real one
-  pub counted : NoCheckMet day t group i → o .count ≡ countOf sanse incremental i
-  -- number 11 has the real count too, and leaves the records
-  pub eleven : o .number ≡ 11 → (o .count ≡ countOf sanse incremental i) × (o .table ≡ t)
-  -- the call's count is added to the day's
-  pub added : o .day ≡ addCount day (o .count)
-  -- the other groups' records do not alter
-  pub others : (k : ℕ) → k ≢ group → getD (o .table) k closed ≡ getD t k closed
+  pub counted : NoCheckMet allowance t group i → o .count ≡ countOf sanse incremental i
+  -- number 11 has the real count too, and leaves the session
+  pub eleven : o .number ≡ 11 → (o .count ≡ countOf sanse incremental i) × (sessionAt (o .table) group ≡ sessionAt t group)
+  -- the call's count is added to the group's
+  pub added : groupAt (o .table) group .count ≡ groupAt t group .count + o .count
+  -- the other groups' records do not alter, neither session nor count
+  pub others : (k : ℕ) → k ≢ group → groupAt (o .table) k ≡ groupAt t k
   pub size : length (o .table) ≡ length t
 
 -- a wrap, which never gets 11
-pub record WrapGroupExactly (day : Day) (t : Table) (group : ℕ) (i : CallInput) : Type 0 where
-  pub call : CallExactly day t group i (wrapAt sanse incremental (sessionAt t group) i) (wrapGroupAt day t group i)
-  pub never-11 : wrapGroupAt day t group i .number ≢ 11
+pub record WrapGroupExactly (allowance : ℕ) (t : Table) (group : ℕ) (i : CallInput) : Type 0 where
+  pub call : CallExactly allowance t group i (wrapAt sanse incremental (sessionAt t group) i) (wrapGroupAt allowance t group i)
+  pub never-11 : wrapGroupAt allowance t group i .number ≢ 11
 
 -- an unwrap, which gets 11 where the lone one does
-abbrev pub UnwrapGroupExactly : Day → Table → (group : ℕ) → CallInput → Type 0
-UnwrapGroupExactly day t group i = CallExactly day t group i (unwrapAt sanse incremental (sessionAt t group) i) (unwrapGroupAt day t group i)
+abbrev pub UnwrapGroupExactly : (allowance : ℕ) → Table → (group : ℕ) → CallInput → Type 0
+UnwrapGroupExactly allowance t group i =
+    CallExactly allowance t group i (unwrapAt sanse incremental (sessionAt t group) i) (unwrapGroupAt allowance t group i)
 
 -- ---- opening a group
 
 -- the outcome o of opening a group
-pub record OpenExactly (day : Day) (t : Table) (group : ℕ) (key : List ℕ) (o : TableOpening) : Type 0 where
+pub record OpenExactly (allowance : ℕ) (t : Table) (group : ℕ) (key : List ℕ) (o : TableOpening) : Type 0 where
   pub three : (o .number ≡ 3) ↔ Check3 t group
   pub four : (o .number ≡ 4) ↔ ((Check3 t group → ⊥) × ((length key < 16) ⊎ (47 < length key)))
-  pub ten : (o .number ≡ 10) ↔ ((Check3 t group → ⊥) × ((16 ≤ length key) × (length key ≤ 47)) × Check10 day 1)
-  -- accepted: it counts 1, and a fresh session stands in the group's place
-  pub accepted : (Check3 t group → ⊥) → 16 ≤ length key → length key ≤ 47 → (Check10 day 1 → ⊥)
-      → o ≡ record { number = 0; count = 1; day = addCount day 1; table = set t group (newSession key) }
+  pub ten : (o .number ≡ 10) ↔ ((Check3 t group → ⊥) × ((16 ≤ length key) × (length key ≤ 47)) × Check10 allowance t group 1)
+  -- accepted: it counts 1, and a fresh session stands in the group's record, whose count is not reset
+  pub accepted : (Check3 t group → ⊥) → 16 ≤ length key → length key ≤ 47 → (Check10 allowance t group 1 → ⊥)
+      → o ≡ record { number = 0; count = 1; table = set t group (record { session = newSession key; count = groupAt t group .count + 1 }) }
   -- a refusal has count 0 and alters nothing
-  pub unaltered : o .number ≢ 0 → o ≡ record { number = o .number; count = 0; day = day; table = t }
+  pub unaltered : o .number ≢ 0 → o ≡ record { number = o .number; count = 0; table = t }
 
 -- ---- the nearly-full question
 
@@ -102,13 +111,18 @@ pub record FoundExactly (t : Table) (mark : ℕ) (r : NearlyFull) : Type 0 where
 
 pub record NewTable : Type 0 where
   -- wrap and unwrap for a group get 5, and nothing is altered
-  pub wraps : (day : Day) (group : ℕ) (i : CallInput) → group ≤ 31 → wrapGroupAt day newTable group i ≡ refusedBy 5 day newTable i
-  pub unwraps : (day : Day) (group : ℕ) (i : CallInput) → group ≤ 31 → unwrapGroupAt day newTable group i ≡ refusedBy 5 day newTable i
+  pub wraps : (allowance group : ℕ) (i : CallInput) → group ≤ 31 → wrapGroupAt allowance newTable group i ≡ refusedBy 5 newTable i
+  pub unwraps : (allowance group : ℕ) (i : CallInput) → group ≤ 31 → unwrapGroupAt allowance newTable group i ≡ refusedBy 5 newTable i
   -- the nearly-full question says none
   pub none : (mark : ℕ) (r : NearlyFull) → NearlyFullIs newTable mark r → r ≡ record { number = 0; found = false; group = 0 }
-  -- a group can be opened
-  pub opens : (day : Day) (group : ℕ) (key : List ℕ) → group ≤ 31 → 16 ≤ length key → length key ≤ 47 → day .spent + 1 ≤ day .allowance
-      → openGroupAt day newTable group key ≡ record { number = 0; count = 1; day = addCount day 1; table = set newTable group (newSession key) }
-  -- zeroed memory holds such a session, and 32 of them are such a table
-  pub zero-record : stateOf zeroRecord ≡ closed
+  -- where anything is allowed a group can be opened, and before the first day, where the allowance is 0, none can
+  pub opens : (allowance group : ℕ) (key : List ℕ) → group ≤ 31 → 16 ≤ length key → length key ≤ 47 → 1 ≤ allowance
+      → openGroupAt allowance newTable group key
+      ≡ record { number = 0; count = 1; table = set newTable group (record { session = newSession key; count = 1 }) }
+  pub before : (group : ℕ) (key : List ℕ) → group ≤ 31 → 16 ≤ length key → length key ≤ 47
+      → openGroupAt 0 newTable group key ≡ record { number = 10; count = 0; table = newTable }
+  -- starting a day leaves it
+  pub day : (allowance : ℕ) → startDayAt allowance newTable ≡ record { allowance = allowance; table = newTable }
+  -- zeroed memory holds such a record, and 32 of them are such a table
+  pub zero-record : recordOf zeroRecord ≡ unopened
   pub zeroed : tableOf (replicate 32 zeroRecord) ≡ newTable

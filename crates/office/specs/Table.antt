@@ -1,5 +1,6 @@
--- The office's table of 32 sessions, which document 01 calls the row ("The row"), and check 3 of "What stops a call": what each call of the
--- table gives and leaves, refused ones included. A group's own call is that of `groups`' `Groups`, with the checks 4 to 11. Assumes nothing.
+-- The office's table of 32 records, which document 01 calls the row ("The row"; document 02, request 4), and check 3 of "What stops a call":
+-- what each call of the table gives and leaves, refused ones included, and what starting a day leaves. A group's own call is that of `groups`'
+-- `Groups`, with the checks 4 to 11. Assumes nothing.
 use mathlib.Core.Bool.{Bool, true, false, not, _||_, _&&_, cond}
 use mathlib.Core.List.{List, map}
 use mathlib.Core.Path.{_≡_}
@@ -10,84 +11,91 @@ use Rattle.deck.specs.declared.DeckState.{DeckState}
 use Rattle.modes.specs.Call.{CallInput}
 use Rattle.modes.specs.Mode.{sanse, incremental}
 use Rattle.modes.specs.Rules.{SessionState, Outcome, closed, wrapAt, unwrapAt}
-use Rattle.sanse.specs.declared.Session.{Session}
-use Rattle.sanse.specs.Session.{stateOf}
-use Rattle.groups.specs.declared.Day.{Day}
-use Rattle.groups.specs.declared.GroupAnswer.{GroupAnswer}
-use Rattle.groups.specs.Groups.{GroupOutcome, GroupOpening, onDay, openOnDay}
+use Rattle.session.specs.declared.Answer.{Answer}
+use Rattle.groups.specs.declared.Record.{Record}
+use Rattle.groups.specs.Groups.{GroupState, newDay, GroupOutcome, GroupOpening, onDay, openOnDay, recordOf}
 use Rattle.office.specs.declared.NearlyFull.{NearlyFull}
 
 -- ---- the table
 
--- the sessions of the table's groups, in order
+-- the records of the table's groups, in order
 abbrev pub Table : Type 0
-Table = List (SessionState DeckState)
+Table = List GroupState
 
--- a table begins with 32 closed sessions
+-- a group's record before the first day: a closed session and a count of 0
+abbrev pub unopened : GroupState
+unopened = record { session = closed; count = 0 }
+
+-- a table begins with 32 of them
 abbrev pub newTable : Table
-newTable = replicate 32 closed
+newTable = replicate 32 unopened
 
 -- check 3, by the number of records: the table does not hold 32, or the group is above 31
 abbrev pub noGroup : (records group : ℕ) → Bool
 noGroup records group = not (eqb records 32) || ltb 31 group
 
--- the session of a group
+-- the record of a group, and its session
+abbrev pub groupAt : Table → (group : ℕ) → GroupState
+groupAt t group = getD t group unopened
+
 abbrev pub sessionAt : Table → (group : ℕ) → SessionState DeckState
-sessionAt t group = getD t group closed
+sessionAt t group = groupAt t group .session
+
+-- ---- starting a day
+
+-- what starting a day gives: the allowance of every group, and the records, of any number
+pub record DayStart : Type 0 where
+  pub allowance : ℕ
+  pub table : Table
+
+-- the allowance is the one given, every record's count is 0, and every session stays
+abbrev pub startDayAt : (allowance : ℕ) → Table → DayStart
+startDayAt allowance t = record { allowance = allowance; table = map newDay t }
 
 -- ---- wrap and unwrap for a group
 
--- what such a call gives: its number (0: accepted), its count, the day, the whole table, and the output buffer and the tag after it
+-- what such a call gives: its number (0: accepted), its count, the whole table, and the output buffer and the tag after it
 pub record TableOutcome : Type 0 where
   pub number : ℕ
   pub count : ℕ
-  pub day : Day
   pub table : Table
   pub out : List ℕ
   pub tag : List ℕ
 
 -- refused with nothing altered
-abbrev pub refusedBy : (number : ℕ) → Day → Table → CallInput → TableOutcome
-refusedBy number day t i = record { number = number; count = 0; day = day; table = t; out = i .out; tag = i .tag }
+abbrev pub refusedBy : (number : ℕ) → Table → CallInput → TableOutcome
+refusedBy number t i = record { number = number; count = 0; table = t; out = i .out; tag = i .tag }
 
--- a group's call: its session is written back, and the others stay as they were
+-- a group's call: its record is written back, and the others stay as they were
 abbrev pub writtenBack : Table → (group : ℕ) → GroupOutcome → TableOutcome
-writtenBack t group o =
-    record {
-      number = o .outcome .number;
-      count = o .outcome .count;
-      day = o .day;
-      table = set t group (o .outcome .session);
-      out = o .outcome .out;
-      tag = o .outcome .tag;
-    }
+writtenBack t group o = record { number = o .number; count = o .count; table = set t group (o .left); out = o .out; tag = o .tag }
 
 -- a call for a group, where `lone` is what the lone call of the group's session gives
-unfoldable pub callGroupAt : Day → Table → (group : ℕ) → CallInput → (lone : Outcome DeckState) → TableOutcome
-callGroupAt day t group i lone = cond (noGroup (length t) group) (refusedBy 3 day t i) (writtenBack t group (onDay day (sessionAt t group) i lone))
+unfoldable pub callGroupAt : (allowance : ℕ) → Table → (group : ℕ) → CallInput → (lone : Outcome DeckState) → TableOutcome
+callGroupAt allowance t group i lone =
+    cond (noGroup (length t) group) (refusedBy 3 t i) (writtenBack t group (onDay allowance (groupAt t group) i lone))
 
-abbrev pub wrapGroupAt : Day → Table → (group : ℕ) → CallInput → TableOutcome
-wrapGroupAt day t group i = callGroupAt day t group i (wrapAt sanse incremental (sessionAt t group) i)
+abbrev pub wrapGroupAt : (allowance : ℕ) → Table → (group : ℕ) → CallInput → TableOutcome
+wrapGroupAt allowance t group i = callGroupAt allowance t group i (wrapAt sanse incremental (sessionAt t group) i)
 
-abbrev pub unwrapGroupAt : Day → Table → (group : ℕ) → CallInput → TableOutcome
-unwrapGroupAt day t group i = callGroupAt day t group i (unwrapAt sanse incremental (sessionAt t group) i)
+abbrev pub unwrapGroupAt : (allowance : ℕ) → Table → (group : ℕ) → CallInput → TableOutcome
+unwrapGroupAt allowance t group i = callGroupAt allowance t group i (unwrapAt sanse incremental (sessionAt t group) i)
 
 -- ---- opening a group
 
--- what opening gives: its number, its count, the day and the whole table
+-- what opening gives: its number, its count and the whole table
 pub record TableOpening : Type 0 where
   pub number : ℕ
   pub count : ℕ
-  pub day : Day
   pub table : Table
 
--- a group's opening: its session is written back
+-- a group's opening: its record is written back
 abbrev pub openedBack : Table → (group : ℕ) → GroupOpening → TableOpening
-openedBack t group o = record { number = o .opening .number; count = o .opening .count; day = o .day; table = set t group (o .opening .session) }
+openedBack t group o = record { number = o .number; count = o .count; table = set t group (o .left) }
 
-unfoldable pub openGroupAt : Day → Table → (group : ℕ) → (key : List ℕ) → TableOpening
-openGroupAt day t group key =
-    cond (noGroup (length t) group) (record { number = 3; count = 0; day = day; table = t }) (openedBack t group (openOnDay day (sessionAt t group) key))
+unfoldable pub openGroupAt : (allowance : ℕ) → Table → (group : ℕ) → (key : List ℕ) → TableOpening
+openGroupAt allowance t group key =
+    cond (noGroup (length t) group) (record { number = 3; count = 0; table = t }) (openedBack t group (openOnDay allowance (groupAt t group) key))
 
 -- ---- the nearly-full question
 
@@ -106,19 +114,22 @@ pub record NearlyFullIs (t : Table) (mark : ℕ) (r : NearlyFull) : Type 0 where
 -- ---- the program's records, and what its calls gave, in these words
 
 -- the record that zeroed memory holds
-abbrev pub zeroRecord : Session
-zeroRecord = record { acc = replicate 12 0; mask = replicate 12 0; index = 0; toggle = false; opened = false }
+abbrev pub zeroRecord : Record
+zeroRecord = record { session = record { acc = replicate 12 0; mask = replicate 12 0; index = 0; toggle = false; opened = false }; count = 0 }
 
 -- what a call answers that check 3 refuses
-abbrev pub refused3 : Day → GroupAnswer
-refused3 day = record { number = 3; count = 0; day = day }
+abbrev pub refused3 : Answer
+refused3 = record { number = 3; count = 0 }
 
--- the sessions that the records of a table hold
-abbrev pub tableOf : List Session → Table
-tableOf = map stateOf
+-- the table that some records are
+abbrev pub tableOf : List Record → Table
+tableOf = map recordOf
 
-abbrev pub tableResult : GroupAnswer → (table : List Session) → (out tag : List ℕ) → TableOutcome
-tableResult r table out tag = record { number = r .number; count = r .count; day = r .day; table = tableOf table; out = out; tag = tag }
+abbrev pub dayResult : (allowance : ℕ) → (table : List Record) → DayStart
+dayResult allowance table = record { allowance = allowance; table = tableOf table }
 
-abbrev pub openingResult : GroupAnswer → (table : List Session) → TableOpening
-openingResult r table = record { number = r .number; count = r .count; day = r .day; table = tableOf table }
+abbrev pub tableResult : Answer → (table : List Record) → (out tag : List ℕ) → TableOutcome
+tableResult r table out tag = record { number = r .number; count = r .count; table = tableOf table; out = out; tag = tag }
+
+abbrev pub openingResult : Answer → (table : List Record) → TableOpening
+openingResult r table = record { number = r .number; count = r .count; table = tableOf table }

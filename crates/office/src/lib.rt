@@ -1,12 +1,11 @@
-// The office's table: a lent run of 32 session records, one for each group, with one day's count and one allowance for all. Each function
-// reads one group's record, calls the function by value, and writes the record back.
+// The office's table: a lent run of 32 records, one for each group, each a session and the group's own day's count; the day's allowance is one
+// for all groups, and handed to each call. A call reads one group's record, calls the function by value, and writes the record back.
 ghost use mathlib.Core.Path.{_≡_};
-ghost use Rattle.sanse.specs.Session.{stateOf, handed};
-ghost use Rattle.groups.specs.Groups.{noDay, newDay};
-ghost use Rattle.office.specs.Table.{noGroup, refused3, aboveMark, tableOf, tableResult, openingResult, wrapGroupAt, unwrapGroupAt, openGroupAt, NearlyFullIs};
-use groups::Day;
-use groups::GroupAnswer;
-use sanse::Session;
+ghost use Rattle.sanse.specs.Session.{handed};
+ghost use Rattle.groups.specs.Groups.{recordOf};
+ghost use Rattle.office.specs.Table.{noGroup, refused3, aboveMark, tableOf, dayResult, tableResult, openingResult, startDayAt, wrapGroupAt, unwrapGroupAt, openGroupAt, NearlyFullIs};
+use groups::Record;
+use session::Answer;
 
 // The records of a table, and its highest group.
 const GROUPS: usize = 32;
@@ -22,18 +21,16 @@ pub struct NearlyFull {
 
 // ---- the day
 
-// Before the first day both numbers are 0.
-pub fn no_day() -> Day
-    ensures { λ r. ⌜ r ≡ noDay ⌝ }
+// A day begins: a count of 0 in every record handed in, of any number, and the allowance that is given. It is never refused.
+pub fn start_day(records: &mut [Record], allowance: u32) -> u32
+    ensures { λ r. ⌜ dayResult r (now (records .exit)) ≡ startDayAt allowance (tableOf (now (records .entry))) ⌝ }
 {
-    groups::no_day()
-}
-
-// A day begins: any allowance, and a count of 0. It is never refused.
-pub fn start_day(allowance: u32) -> Day
-    ensures { λ r. ⌜ r ≡ newDay allowance ⌝ }
-{
-    groups::start_day(allowance)
+    let mut g = 0;
+    while g < records.len() {
+        records[g] = groups::new_day(records[g]);
+        g += 1;
+    }
+    allowance
 }
 
 // ---- check 3
@@ -48,81 +45,90 @@ fn no_group(records: usize, group: usize) -> bool
     HIGHEST_GROUP < group
 }
 
-// Refused by 3: nothing counted, and the day as it was.
-fn refused3(day: Day) -> GroupAnswer
-    ensures { λ r. ⌜ r ≡ refused3 day ⌝ }
+// Refused by 3: nothing counted.
+fn refused3() -> Answer
+    ensures { λ r. ⌜ r ≡ refused3 ⌝ }
 {
-    GroupAnswer {
+    Answer {
         number: 3,
         count: 0,
-        day,
     }
 }
 
 // ---- calls for a group
 
-// Opens a group: a fresh session in the place of its record, which stays as it was where the call is refused. Checks 3, 4 and 10.
-pub fn open_group(table: &mut [Session], group: usize, day: Day, key: &[u8]) -> GroupAnswer
-    ensures { λ r. ⌜ openingResult r (now (table .exit)) ≡ openGroupAt day (tableOf (now (table .entry))) group (now (key .entry)) ⌝ }
+// Opens a group: a fresh session in its record, and its count plus 1. The record stays as it was where the call is refused. Checks 3, 4 and 10.
+pub fn open_group(table: &mut [Record], group: usize, allowance: u32, key: &[u8]) -> Answer
+    ensures { λ r. ⌜ openingResult r (now (table .exit)) ≡ openGroupAt allowance (tableOf (now (table .entry))) group (now (key .entry)) ⌝ }
 {
     if no_group(table.len(), group) {
-        return refused3(day);
+        return refused3();
     }
-    let r = groups::open(table[group], day, key);
-    table[group] = r.session;
-    r.answer
+    let r = groups::open(table[group], allowance, key);
+    table[group] = r.left;
+    Answer {
+        number: r.number,
+        count: r.count,
+    }
 }
 
 // Wraps a message for a group: the cryptogram goes to the start of `out`, and the tag fills `tag`. Checks 3 and 5 to 10.
 pub fn wrap_group(
-    table: &mut [Session],
+    table: &mut [Record],
     group: usize,
-    day: Day,
+    allowance: u32,
     metadata: &[u8],
     message: &[u8],
     out: &mut [u8],
     tag: &mut [u8],
-) -> GroupAnswer
+) -> Answer
     ensures { λ r. ⌜ tableResult r (now (table .exit)) (now (out .exit)) (now (tag .exit))
-        ≡ wrapGroupAt day (tableOf (now (table .entry))) group
+        ≡ wrapGroupAt allowance (tableOf (now (table .entry))) group
         (handed (now (metadata .entry)) (now (message .entry)) (now (out .entry)) (now (tag .entry))) ⌝ }
 {
     if no_group(table.len(), group) {
-        return refused3(day);
+        return refused3();
     }
-    let r = groups::wrap(table[group], day, metadata, message, out, tag);
-    table[group] = r.session;
-    r.answer
+    let r = groups::wrap(table[group], allowance, metadata, message, out, tag);
+    table[group] = r.left;
+    Answer {
+        number: r.number,
+        count: r.count,
+    }
 }
 
 // Unwraps a cryptogram for a group: the message goes to the start of `out`. Checks 3, 5 to 10 and 11.
 pub fn unwrap_group(
-    table: &mut [Session],
+    table: &mut [Record],
     group: usize,
-    day: Day,
+    allowance: u32,
     metadata: &[u8],
     cryptogram: &[u8],
     tag: &[u8],
     out: &mut [u8],
-) -> GroupAnswer
+) -> Answer
     ensures { λ r. ⌜ tableResult r (now (table .exit)) (now (out .exit)) (now (tag .entry))
-        ≡ unwrapGroupAt day (tableOf (now (table .entry))) group
+        ≡ unwrapGroupAt allowance (tableOf (now (table .entry))) group
         (handed (now (metadata .entry)) (now (cryptogram .entry)) (now (out .entry)) (now (tag .entry))) ⌝ }
 {
     if no_group(table.len(), group) {
-        return refused3(day);
+        return refused3();
     }
-    let r = groups::unwrap(table[group], day, metadata, cryptogram, tag, out);
-    table[group] = r.session;
-    r.answer
+    let r = groups::unwrap(table[group], allowance, metadata, cryptogram, tag, out);
+    table[group] = r.left;
+    Answer {
+        number: r.number,
+        count: r.count,
+    }
 }
 
 // ---- the nearly-full question
 
-// Whether a session is open with an index above the mark.
-fn above_mark(s: Session, mark: u32) -> bool
-    ensures { λ r. ⌜ r ≡ aboveMark (stateOf s) mark ⌝ }
+// Whether a group's session is open with an index above the mark.
+fn above_mark(r: Record, mark: u32) -> bool
+    ensures { λ b. ⌜ b ≡ aboveMark (recordOf r .session) mark ⌝ }
 {
+    let s = r.session;
     if !s.opened {
         return false;
     }
@@ -130,7 +136,7 @@ fn above_mark(s: Session, mark: u32) -> bool
 }
 
 // The nearly-full question: names a group that is open with an index above the mark, or says that there is none. Check 3.
-pub fn nearly_full(table: &[Session], mark: u32) -> NearlyFull
+pub fn nearly_full(table: &[Record], mark: u32) -> NearlyFull
     ensures { λ r. ⌜ NearlyFullIs (tableOf (now (table .entry))) mark r ⌝ }
 {
     if table.len() != GROUPS {

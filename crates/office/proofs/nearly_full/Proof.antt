@@ -49,17 +49,18 @@ use denote.Triple.Table.{entered, cited}
 use denote.Triple.Walked.{says, Stays, stay-dropped, walkOf, AllGo, goes-dropped, Walks, ends-at, walked, walk-meets}
 use denote.Exit.{yes}
 use borrow.Author.Tests.{not-false, eqb-true, eq-eqb}
-use Rattle.sanse.specs.declared.Session.{Session}
-use Rattle.sanse.specs.Session.{stateOf}
-use Rattle.sanse.proofs.Session as T
-use Rattle.sanse.proofs.Session.Laws as T′
+use Rattle.groups.specs.declared.Record.{Record}
+use Rattle.groups.specs.Groups.{recordOf}
+use Rattle.groups.proofs.Record as T
+use Rattle.groups.proofs.Record.Laws as T′
 use Rattle.session.proofs.Env.{envAt}
 use Rattle.office.specs.declared.NearlyFull.{NearlyFull}
 use Rattle.office.specs.Table.{aboveMark, NearlyFullIs, zeroRecord, tableOf}
 use Rattle.office.proofs.NearlyFull as R
 use Rattle.office.proofs.NearlyFull.Laws as R′
 use Rattle.office.proofs.Laws.{is-true, is-false}
-use Rattle.office.proofs.Search.{Turn, Stopped, past-end, hit, goes-on, falls, record-fits, next-fits, at-most-fits, says-refused, says-named, says-none}
+use Rattle.office.proofs.Search.{Turn, Stopped, past-end, hit, goes-on, at-most-fits, says-refused, says-named, says-none}
+use Rattle.office.proofs.Turns.{falls, record-fits, next-fits}
 use Rattle.office.proofs.Walk.{after}
 use Rattle.office.proofs.above_mark as core
 use Rattle.office.proofs.above_mark.Symbol as core-def
@@ -101,7 +102,7 @@ none-ok : Is R.the-row no-group (mach-r no-group ∷ [])
 none-ok = LL.owes R.the-type R′.the-laws no-group ((refl, lit< tt), (refl, ((refl, lit< tt), tt)))
 
 abbrev Arg : Type 0
-Arg = RefT (List Session) × (ℕ × Unit {0})
+Arg = RefT (List Record) × (ℕ × Unit {0})
 
 abbrev stayed : Stays (f.ended .signature .params) (f.ended .kept)
 stayed = (stay-dropped (shrSliceOf (0 ∷ []) tt (plain (λ _. T.the-row))) yes, (stay-dropped (plain (λ _. u32)) yes, tt))
@@ -118,10 +119,10 @@ module _ {M : Type 1} (𝓤 : URA M) (H : Heap 𝓤) (A : Atoms 𝓤) (at-mem : 
   Core = tripleOf 𝓤 H A core.signature (core.spec 𝓤 H A at-mem run)
 
   -- of its `ensured`, the clause alone
-  said-of : (h : Session) (n : ℕ) (r : Bool) → ent 𝓤 (ensured 𝓤 H A core.ended (core.clauses 𝓤 H A at-mem run) tt (h, (n, tt)) tt r) (fact 𝓤 (r ≡ aboveMark (stateOf h) n))
-  said-of h n r = exE 𝓤 _ (λ ws. snd∗ 𝓤 (sem 𝓤 H A (lasts core.ended tt (h, (n, tt)) ws)) (fact 𝓤 (r ≡ aboveMark (stateOf h) n)))
+  said-of : (h : Record) (n : ℕ) (r : Bool) → ent 𝓤 (ensured 𝓤 H A core.ended (core.clauses 𝓤 H A at-mem run) tt (h, (n, tt)) tt r) (fact 𝓤 (r ≡ aboveMark (recordOf h .session) n))
+  said-of h n r = exE 𝓤 _ (λ ws. snd∗ 𝓤 (sem 𝓤 H A (lasts core.ended tt (h, (n, tt)) ws)) (fact 𝓤 (r ≡ aboveMark (recordOf h .session) n)))
 
-module _ {M : Type 1} (𝓤 : URA M) (H : Heap 𝓤) (A : Atoms 𝓤) (W : Given 𝓤 H A) (at-mem : Memory → SProp 𝓤) (run : Routine → Fun 𝓤) (κ : Lft) (q : Share) (b o : ℕ) (γ : GName) (ys : List Session) (n : ℕ) (n-fits : n < 2 ^ 32) (room : Room T.the-row (length ys)) where
+module _ {M : Type 1} (𝓤 : URA M) (H : Heap 𝓤) (A : Atoms 𝓤) (W : Given 𝓤 H A) (at-mem : Memory → SProp 𝓤) (run : Routine → Fun 𝓤) (κ : Lft) (q : Share) (b o : ℕ) (γ : GName) (ys : List Record) (n : ℕ) (n-fits : n < 2 ^ 32) (room : Room T.the-row (length ys)) where
   abbrev s : Val
   s = sliceVal (b, o) (length ys)
 
@@ -131,10 +132,10 @@ module _ {M : Type 1} (𝓤 : URA M) (H : Heap 𝓤) (A : Atoms 𝓤) (W : Given
   abbrev at : List Val × (List Val × Unit {0})
   at = (s ∷ [], (vint w32 n ∷ [], tt))
 
-  abbrev mach : Session → Val
+  abbrev mach : Record → Val
   mach d = LL.tuple-val T.the-type T′.the-laws (T.the-type .to d)
 
-  abbrev h : ℕ → Session
+  abbrev h : ℕ → Record
   h g = getD ys g zeroRecord
 
   abbrev Post : Val → SProp 𝓤
@@ -233,7 +234,7 @@ module _ {M : Type 1} (𝓤 : URA M) (H : Heap 𝓤) (A : Atoms 𝓤) (W : Given
           -- record g is copied
           assigns ! (bin ! (load ! (from ! (stop !)) (look ! 0 refl)) (lit ! tt) (record { fits = record-fits (length ys) g (room .1) (ltb→lt g (length ys) less) })) (from ! (stop !)) (store ! 17 refl (tt, record { fits = record-fits (length ys) g (room .1) (ltb→lt g (length ys) less) })) $
           assigns ! (bin ! (load ! (from ! (fld ! refl (stop !))) (look-in ! 22 (sub ! 0 refl (whole !)))) (load ! (from ! (stop !)) (look ! 17 refl)) tt) (from ! (stop !)) (init ! 11 refl (tt, tt)) $
-          rewrite ! 11 (λ (p : ℕ). ‵ (fat fullShare tyPtr l₉ 0 (vptr b p))) (sym (place-is 104 o g)) refl $
+          rewrite ! 11 (λ (p : ℕ). ‵ (fat fullShare tyPtr l₉ 0 (vptr b p))) (sym (place-is 108 o g)) refl $
           move ! (1 ∷ []) $ elem-out ! T.the-row (Is T.the-row) (shows 𝓤 H A T.the-row) (LL.vals T.the-type T′.the-laws) (LL.tells T.the-type T′.the-laws) q′ ys g zeroRecord b o (ltb→lt g (length ys) less) (λ was.
           -- [the record's cell; what it owns; the others; _3; the open borrow; _8; …; _7; …]
           assigns ! (of-opd ! (load ! (from ! (hop ! (look ! 13 refl) (stop !))) (look-raw ! 0 refl))) (from ! (stop !)) (init ! 11 refl (LL.lawful T.the-type T′.the-laws 𝓤 H A W .typed (h g) _ was .0)) $
@@ -242,7 +243,7 @@ module _ {M : Type 1} (𝓤 : URA M) (H : Heap 𝓤) (A : Atoms 𝓤) (W : Given
           owned ! T.the-row (Is T.the-row) (LL.makes T.the-type T′.the-plain 𝓤 H A) (h g) _ was $ use1 W (raw (Core 𝓤 H A at-mem run .pre (to-core g))) (goes-core g) $
           calls-at ! (fmOf 𝓤 H (W .laws) 𝓣) (Core 𝓤 H A at-mem run) known (to-core g) (and-then ! (load ! (from ! (stop !)) (look ! 10 refl)) (and-then ! (load ! (from ! (stop !)) (look ! 21 refl)) (no-more !))) (λ v.
           use1 W (later (some (λ (r : Bool). (‵ ftrue ⊛ ‵ (Boolean .own r (v ∷ []))) ⊛ raw (ensured 𝓤 H A core.ended (core.clauses 𝓤 H A at-mem run) tt (h g, (n, tt)) tt r)))) (id⊢ 𝓤 _) $ await ! tt $ pick ! (λ r.
-          split ! $ move ! (1 ∷ []) $ use1 W (raw (fact 𝓤 (r ≡ aboveMark (stateOf (h g)) n))) (said-of 𝓤 H A at-mem run (h g) n r) $ heard ! (r ≡ aboveMark (stateOf (h g)) n) (λ e. split ! $ drop ! $
+          split ! $ move ! (1 ∷ []) $ use1 W (raw (fact 𝓤 (r ≡ aboveMark (recordOf (h g) .session) n))) (said-of 𝓤 H A at-mem run (h g) n r) $ heard ! (r ≡ aboveMark (recordOf (h g) .session) n) (λ e. split ! $ drop ! $
           peeks ! Boolean (Is Boolean) (shows 𝓤 H A Boolean) r (v ∷ []) (λ is.
           land ! (from ! (stop !)) (init ! 14 refl (bool-lawful 𝓤 H A W .typed r _ is .0)) $ rewrite ! 14 (λ (u : Val). ‵ (fat fullShare tyBool l₈ 0 u)) (ap only is) refl $ drop ! $
           -- [the records; _3; the open borrow; _8; …]: as it was, but that the turn's own locals are written
