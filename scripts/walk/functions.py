@@ -140,4 +140,4 @@ use Rattle.codes.specs.Code.{codeResult, Coded}''',
 PASSING = (
     [f'capi::c_session::pevghazo_{function}' for function in ('start', 'wrap', 'unwrap')] + ['capi::c_codes::pevghazo_code']
     + [f'capi::c_sane::pevghazo_sane_{function}' for function in ('start', 'wrap', 'unwrap')]
-    + [f'capi::c_table::pevghazo_{function}' for function in ('open_group', 'wrap_group', 'unwrap_group')])
+    + [f'capi::c_table::pevghazo_{function}' for function in ('start_day', 'open_group', 'wrap_group', 'unwrap_group')])

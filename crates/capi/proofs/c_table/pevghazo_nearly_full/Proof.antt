@@ -36,7 +36,7 @@ use Rattle.capi.specs.Found.{narrowed, widened}
 use Rattle.capi.specs.declared.c_table.Found.{Found}
 use Rattle.capi.proofs.c_table.Below.{group-below}
 use Rattle.capi.proofs.Pass.{passes, ends}
-use Rattle.sanse.proofs.Session as T
+use Rattle.groups.proofs.Record as T
 use Rattle.office.proofs.NearlyFull as N
 use Rattle.office.proofs.NearlyFull.Laws as N′
 use Rattle.capi.proofs.c_table.Found as F

@@ -34,11 +34,9 @@ use denote.Triple.Call.{calls-at}
 use denote.Triple.Entry.{Args, Res, alive}
 use denote.Triple.Spec.{Meets, tripleOf}
 use denote.Triple.Table.{entered, cited}
-use Rattle.sanse.proofs.Session as T
-use Rattle.groups.proofs.Day as T₁
-use Rattle.groups.proofs.Day.Laws as T₁′
-use Rattle.groups.proofs.GroupAnswer as T₂
-use Rattle.groups.proofs.GroupAnswer.Laws as T₂′
+use Rattle.groups.proofs.Record as T
+use Rattle.session.proofs.Answer as T₁
+use Rattle.session.proofs.Answer.Laws as T₁′
 use Rattle.capi.proofs.Pass.{passes, ends}
 use Rattle.office.proofs.unwrap_group as callee
 use Rattle.office.proofs.unwrap_group.Symbol as callee-def
@@ -58,13 +56,13 @@ Own 𝓤 H A at-mem run = tripleOf 𝓤 H A f.signature (f.spec 𝓤 H A at-mem 
 
 -- how each parameter's machine values are written
 abbrev sp : (κs : Lfts (f.signature .lifetimes)) → Spells (typesAt (f.signature .params) κs)
-sp κs = (slice-vals, (uint-vals w32, (LL.vals T₁.the-type T₁′.the-laws, (slice-vals, (slice-vals, (slice-vals, (slice-vals, tt)))))))
+sp κs = (slice-vals, (uint-vals w32, (uint-vals w32, (slice-vals, (slice-vals, (slice-vals, (slice-vals, tt)))))))
 
 tl : (κs : Lfts (f.signature .lifetimes)) → Tellss (typesAt (f.signature .params) κs) (Ises (typesAt (f.signature .params) κs)) (sp κs)
-tl κs = (mut-slice-tells (named 0) (κs .0) T.the-row, (uint-tells w32, (LL.tells T₁.the-type T₁′.the-laws, (shr-slice-tells (named 1) (κs .1 .0) u8, (shr-slice-tells (named 2) (κs .1 .1 .0) u8, (shr-slice-tells (named 3) (κs .1 .1 .1 .0) u8, (mut-slice-tells (named 4) (κs .1 .1 .1 .1 .0) u8, tt)))))))
+tl κs = (mut-slice-tells (named 0) (κs .0) T.the-row, (uint-tells w32, (uint-tells w32, (shr-slice-tells (named 1) (κs .1 .0) u8, (shr-slice-tells (named 2) (κs .1 .1 .0) u8, (shr-slice-tells (named 3) (κs .1 .1 .1 .0) u8, (mut-slice-tells (named 4) (κs .1 .1 .1 .1 .0) u8, tt)))))))
 
 abbrev sp′ : (κs : Lfts (callee.signature .lifetimes)) → Spells (typesAt (callee.signature .params) κs)
-sp′ κs = (slice-vals, (uint-vals w64, (LL.vals T₁.the-type T₁′.the-laws, (slice-vals, (slice-vals, (slice-vals, (slice-vals, tt)))))))
+sp′ κs = (slice-vals, (uint-vals w64, (uint-vals w32, (slice-vals, (slice-vals, (slice-vals, (slice-vals, tt)))))))
 
 module _ {M : Type 1} (𝓤 : URA M) (H : Heap 𝓤) (A : Atoms 𝓤) (W : Given 𝓤 H A) (at-mem : Memory → SProp 𝓤) (run : Routine → Fun 𝓤) (C : Calls 𝓤 H) (Λ : Loops 𝓤 H) (fm : FmC 𝓤 H (W .laws) C) (known : Triple 𝓤 (C #callee) (Callee 𝓤 H A at-mem run)) where
   module _ (κs : Lfts (f.signature .lifetimes)) (qs : Shares (f.signature .lifetimes)) (bounds : AllOutlive (f.signature .lifetimes) (f.signature .outlives) κs) (a : Args f.signature κs) (are : Are (typesAt (f.signature .params) κs) (Ises (typesAt (f.signature .params) κs)) a (valss (typesAt (f.signature .params) κs) (sp κs) a)) where
@@ -83,11 +81,11 @@ module _ {M : Type 1} (𝓤 : URA M) (H : Heap 𝓤) (A : Atoms 𝓤) (W : Given
 
     walk : ent 𝓤 (Own 𝓤 H A at-mem run .pre bound) (WpFn 𝓤 H C Λ code.function (Own 𝓤 H A at-mem run .args bound) (Own 𝓤 H A at-mem run .post bound))
     walk =
-        qed W (raw (Own 𝓤 H A at-mem run .pre bound) ∷ []) ∵ enter ! C Λ code.function (sliceVal (a .0 .ptr) (length (a .0 .now)) ∷ vint w32 (a .1 .0) ∷ LL.val T₁.the-type T₁′.the-laws (a .1 .1 .0) ∷ sliceVal (a .1 .1 .1 .0 .ptr) (length (a .1 .1 .1 .0 .now)) ∷ sliceVal (a .1 .1 .1 .1 .0 .ptr) (length (a .1 .1 .1 .1 .0 .now)) ∷ sliceVal (a .1 .1 .1 .1 .1 .0 .ptr) (length (a .1 .1 .1 .1 .1 .0 .now)) ∷ sliceVal (a .1 .1 .1 .1 .1 .1 .0 .ptr) (length (a .1 .1 .1 .1 .1 .1 .0 .now)) ∷ []) _ $
+        qed W (raw (Own 𝓤 H A at-mem run .pre bound) ∷ []) ∵ enter ! C Λ code.function (sliceVal (a .0 .ptr) (length (a .0 .now)) ∷ vint w32 (a .1 .0) ∷ vint w32 (a .1 .1 .0) ∷ sliceVal (a .1 .1 .1 .0 .ptr) (length (a .1 .1 .1 .0 .now)) ∷ sliceVal (a .1 .1 .1 .1 .0 .ptr) (length (a .1 .1 .1 .1 .0 .now)) ∷ sliceVal (a .1 .1 .1 .1 .1 .0 .ptr) (length (a .1 .1 .1 .1 .1 .0 .now)) ∷ sliceVal (a .1 .1 .1 .1 .1 .1 .0 .ptr) (length (a .1 .1 .1 .1 .1 .1 .0 .now)) ∷ []) _ $
         alloc1 ! (λ l₀. alloc1 ! (λ l₁. alloc1 ! (λ l₂. alloc1 ! (λ l₃. alloc1 ! (λ l₄. alloc1 ! (λ l₅. alloc1 ! (λ l₆. alloc1 ! (λ l₇. alloc1 ! (λ l₈. alloc1 ! (λ l₉. alloc1 ! (λ l₁₀. alloc1 ! (λ l₁₁. alloc1 ! (λ l₁₂. alloc0 ! $ params1 ! $
         pass1 ! (init ! 22 refl (tt, (tt, (record { fits = are .0 .0 .1 .0 }, tt)))) $
         pass1 ! (init ! 20 refl (tt, record { fits = are .1 .0 .1 })) $
-        pass1 ! (init ! 18 refl (LL.lawful T₁.the-type T₁′.the-laws 𝓤 H A W .typed (a .1 .1 .0) _ (are .1 .1 .0) .0)) $
+        pass1 ! (init ! 18 refl (tt, record { fits = are .1 .1 .0 .1 })) $
         pass1 ! (init ! 16 refl (tt, (tt, (record { fits = are .1 .1 .1 .0 .0 .1 .0 }, tt)))) $
         pass1 ! (init ! 14 refl (tt, (tt, (record { fits = are .1 .1 .1 .1 .0 .0 .1 .0 }, tt)))) $
         pass1 ! (init ! 12 refl (tt, (tt, (record { fits = are .1 .1 .1 .1 .1 .0 .0 .1 .0 }, tt)))) $
@@ -98,8 +96,8 @@ module _ {M : Type 1} (𝓤 : URA M) (H : Heap 𝓤) (A : Atoms 𝓤) (W : Given
         assigns ! (addr ! (from ! (fld ! refl (hop ! (look-in ! 10 (sub ! 0 refl (whole !))) (stop !))))) (from ! (stop !)) (init ! 2 refl (tt, tt)) $
         assigns ! (agg ! (and-then ! (load ! (from ! (stop !)) (look ! 2 refl)) (and-then ! (load ! (from ! (fld ! refl (stop !))) (look-in ! 10 (sub ! 1 refl (whole !)))) (no-more !)))) (from ! (stop !)) (init ! 0 refl (tt, (tt, (record { fits = are .1 .1 .1 .1 .1 .1 .0 .0 .1 .0 }, tt)))) $
         move ! (26 ∷ []) $ use1 W (raw (Callee 𝓤 H A at-mem run .pre to-callee)) goes $ calls-at ! fm (Callee 𝓤 H A at-mem run) known to-callee (and-then ! (load ! (from ! (stop !)) (look ! 7 refl)) (and-then ! (load ! (from ! (stop !)) (look ! 5 refl)) (and-then ! (load ! (from ! (stop !)) (look ! 19 refl)) (and-then ! (load ! (from ! (stop !)) (look ! 17 refl)) (and-then ! (load ! (from ! (stop !)) (look ! 15 refl)) (and-then ! (load ! (from ! (stop !)) (look ! 13 refl)) (and-then ! (load ! (from ! (stop !)) (look ! 1 refl)) (no-more !)))))))) (λ v.
-        use1 W (later (some (λ (r : Res f.signature κs). (raw (alive 𝓤 H A f.signature κs qs) ⊛ ‵ (T₂.the-row .own r (v ∷ []))) ⊛ raw (f.spec 𝓤 H A at-mem run κs a .ensures tt r)))) (id⊢ 𝓤 _) $ await ! tt $ pick ! (λ r. split ! $ split ! $ move ! (1 ∷ []) $
-        peeks ! T₂.the-row (Is T₂.the-row) (shows 𝓤 H A T₂.the-row) r (v ∷ []) (λ is. land ! (from ! (stop !)) (init ! 27 refl (LL.lawful T₂.the-type T₂′.the-laws 𝓤 H A W .typed r _ is .0)) $
+        use1 W (later (some (λ (r : Res f.signature κs). (raw (alive 𝓤 H A f.signature κs qs) ⊛ ‵ (T₁.the-row .own r (v ∷ []))) ⊛ raw (f.spec 𝓤 H A at-mem run κs a .ensures tt r)))) (id⊢ 𝓤 _) $ await ! tt $ pick ! (λ r. split ! $ split ! $ move ! (1 ∷ []) $
+        peeks ! T₁.the-row (Is T₁.the-row) (shows 𝓤 H A T₁.the-row) r (v ∷ []) (λ is. land ! (from ! (stop !)) (init ! 27 refl (LL.lawful T₁.the-type T₁′.the-laws 𝓤 H A W .typed r _ is .0)) $
         returns ! (look ! 27 refl) $
         forget ! 3 refl $ forget ! 5 refl $ forget ! 7 refl $ forget ! 9 refl $ forget ! 11 refl $ forget ! 13 refl $ forget ! 15 refl $ forget ! 17 refl $ forget ! 19 refl $ forget ! 21 refl $ forget ! 23 refl $ forget ! 25 refl $ forget ! 27 refl $
         move ! (27 ∷ 28 ∷ []) $ free1 ! $ move ! (25 ∷ 26 ∷ []) $ free1 ! $ move ! (23 ∷ 24 ∷ []) $ free1 ! $ move ! (21 ∷ 22 ∷ []) $ free1 ! $ move ! (19 ∷ 20 ∷ []) $ free1 ! $ move ! (17 ∷ 18 ∷ []) $ free1 ! $ move ! (15 ∷ 16 ∷ []) $ free1 ! $ move ! (13 ∷ 14 ∷ []) $ free1 ! $ move ! (11 ∷ 12 ∷ []) $ free1 ! $ move ! (9 ∷ 10 ∷ []) $ free1 ! $ move ! (7 ∷ 8 ∷ []) $ free1 ! $ move ! (5 ∷ 6 ∷ []) $ free1 ! $ move ! (3 ∷ 4 ∷ []) $ free1 ! $ free0 ! $
