@@ -1,0 +1,180 @@
+-- What a group's calls give and leave, worked out from its own record and nothing else; and that a call of the table gives and leaves that for
+-- its own group, and leaves the others. Assumes nothing.
+use mathlib.Core.Path.{_≡_, refl, sym, ap, _∙_}
+use mathlib.Core.Logic.{_≢_}
+use mathlib.Core.Bool.{Bool, true, false, not, _||_, cond}
+use mathlib.Core.List.{List, [], _∷_}
+use Prim.Native.Nat.{ℕ, _<_}
+use native.Mathlib.Omega.{arith}
+use lib.Dec.{ltb}
+use lib.ListN.{length, set, length-set, length-map}
+use lib.Seq.{getD-set-same, getD-set-other}
+use borrow.Author.Tests.{eq-eqb, le-ltb}
+use Rattle.deck.specs.declared.DeckState.{DeckState}
+use Rattle.modes.specs.Call.{CallInput}
+use Rattle.modes.specs.Mode.{sanse, incremental}
+use Rattle.modes.specs.Rules.{SessionState, Outcome, wrapAt, unwrapAt}
+use Rattle.session.specs.declared.Answer.{Answer}
+use Rattle.groups.specs.declared.Record.{Record}
+use Rattle.groups.specs.Groups.{GroupState, GroupOutcome, GroupOpening, onDay, wrapOnDay, unwrapOnDay, openOnDay, recordOf}
+use Rattle.office.specs.Table.{Table, unopened, noGroup, groupAt, sessionAt, TableOutcome, TableOpening, refusedBy, writtenBack, openedBack, callGroupAt, wrapGroupAt, unwrapGroupAt, openGroupAt, tableOf, tableResult, openingResult}
+use Rattle.office.specs.Exactly.{CallExactly}
+use Rattle.office.proofs.Exactly.{wrap-exactly, unwrap-exactly}
+use Rattle.isolation.specs.Calls.{Opened, Wrapped, Unwrapped, Request, opening, wrap, unwrap, GroupCall, Given}
+
+-- ---- from a group's own record
+
+module _ (allowance : ℕ) where
+  -- what a request gives
+  abbrev pub givenBy : Request → GroupState → Given
+  givenBy (opening key) s =
+      record {
+        answer = record { number = openOnDay allowance s key .number; count = openOnDay allowance s key .count };
+        out = [];
+        tag = [];
+      }
+  givenBy (wrap i) s =
+      record {
+        answer = record { number = wrapOnDay allowance s i .number; count = wrapOnDay allowance s i .count };
+        out = wrapOnDay allowance s i .out;
+        tag = wrapOnDay allowance s i .tag;
+      }
+  givenBy (unwrap i) s =
+      record {
+        answer = record { number = unwrapOnDay allowance s i .number; count = unwrapOnDay allowance s i .count };
+        out = unwrapOnDay allowance s i .out;
+        tag = unwrapOnDay allowance s i .tag;
+      }
+
+  -- the record that it leaves
+  abbrev pub leftBy : Request → GroupState → GroupState
+  leftBy (opening key) s = openOnDay allowance s key .left
+  leftBy (wrap i) s = wrapOnDay allowance s i .left
+  leftBy (unwrap i) s = unwrapOnDay allowance s i .left
+
+  -- what requests give, one after the other, and the record that they leave
+  unfoldable pub allGiven : List Request → GroupState → List Given
+  allGiven [] s = []
+  allGiven (q ∷ qs) s = givenBy q s ∷ allGiven qs (leftBy q s)
+
+  unfoldable pub allLeft : List Request → GroupState → GroupState
+  allLeft [] s = s
+  allLeft (q ∷ qs) s = allLeft qs (leftBy q s)
+
+-- ---- one call of the table
+
+-- the record of a group in the table that some records are
+abbrev pub held : List Record → (g : ℕ) → GroupState
+held l g = groupAt (tableOf l) g
+
+-- the call c gave x, from the records `from`, and left `next`: by its own group's record, and of the others' nothing is altered
+pub record Step (allowance : ℕ) (c : GroupCall) (x : Given) (from next : List Record) : Type 0 where
+  pub size : length next ≡ length from
+  pub given : length from ≡ 32 → c .group < 32 → x ≡ givenBy allowance (c .request) (held from (c .group))
+  pub left : length from ≡ 32 → c .group < 32 → held next (c .group) ≡ leftBy allowance (c .request) (held from (c .group))
+  pub others : (g : ℕ) → g ≢ c .group → held next g ≡ held from g
+
+-- check 3 is not met
+present : (l : List Record) (k : ℕ) → length l ≡ 32 → k < 32 → noGroup (length (tableOf l)) k ≡ false
+present l k n less = rw (eq-eqb (length (tableOf l)) 32 (length-map l recordOf ∙ n), le-ltb 31 k (omega arith))
+
+in-table : (l : List Record) (k : ℕ) → length l ≡ 32 → k < 32 → k < length (tableOf l)
+in-table l k n less = omega (arith, length-map l recordOf)
+
+-- a wrap or an unwrap, where `lone` is what the lone call gives
+module _ (allowance : ℕ) (from next : List Record) (k : ℕ) (i : CallInput) (lone : Outcome DeckState) (r : Answer) (out tag : List ℕ)
+    (promised : tableResult r next out tag ≡ callGroupAt allowance (tableOf from) k i lone)
+    (exactly : CallExactly allowance (tableOf from) k i lone (callGroupAt allowance (tableOf from) k i lone)) where
+  call-size : length next ≡ length from
+  call-size =
+      sym (length-map next recordOf) ∙ ap (λ (o : TableOutcome). length (o .table)) promised ∙ exactly .size ∙ length-map from recordOf
+
+  call-others : (g : ℕ) → g ≢ k → held next g ≡ held from g
+  call-others g n = ap (λ (o : TableOutcome). groupAt (o .table) g) promised ∙ exactly .others g n
+
+  module _ (n : length from ≡ 32) (less : k < 32) where
+    abbrev own : GroupOutcome
+    own = onDay allowance (held from k) i lone
+
+    is-own : tableResult r next out tag ≡ writtenBack (tableOf from) k own
+    unfolding callGroupAt
+    is-own = promised ∙ ap (λ (b : Bool). cond b (refusedBy 3 (tableOf from) i) (writtenBack (tableOf from) k own)) (present from k n less)
+
+    call-given : _≡_ {A = Given} (record { answer = r; out = out; tag = tag })
+        (record { answer = record { number = own .number; count = own .count }; out = own .out; tag = own .tag })
+    call-given =
+        ap (λ (o : TableOutcome). record { answer = record { number = o .number; count = o .count }; out = o .out; tag = o .tag }) is-own
+
+    call-left : held next k ≡ own .left
+    call-left =
+        ap (λ (o : TableOutcome). groupAt (o .table) k) is-own ∙ getD-set-same (tableOf from) k (own .left) unopened (in-table from k n less)
+
+pub wrap-step : (allowance : ℕ) (from next : List Record) (k : ℕ) (i : CallInput) (r : Answer) (out tag : List ℕ)
+    → Wrapped allowance from k i r next out tag
+    → Step allowance (record { group = k; request = wrap i }) (record { answer = r; out = out; tag = tag }) from next
+wrap-step allowance from next k i r out tag e =
+    let lone = wrapAt sanse incremental (sessionAt (tableOf from) k) i in
+    let x = wrap-exactly allowance (tableOf from) k i .call in
+    record {
+      size = call-size allowance from next k i lone r out tag e x;
+      given = call-given allowance from next k i lone r out tag e x;
+      left = call-left allowance from next k i lone r out tag e x;
+      others = call-others allowance from next k i lone r out tag e x;
+    }
+
+pub unwrap-step : (allowance : ℕ) (from next : List Record) (k : ℕ) (i : CallInput) (r : Answer) (out tag : List ℕ)
+    → Unwrapped allowance from k i r next out tag
+    → Step allowance (record { group = k; request = unwrap i }) (record { answer = r; out = out; tag = tag }) from next
+unwrap-step allowance from next k i r out tag e =
+    let lone = unwrapAt sanse incremental (sessionAt (tableOf from) k) i in
+    let x = unwrap-exactly allowance (tableOf from) k i in
+    record {
+      size = call-size allowance from next k i lone r out tag e x;
+      given = call-given allowance from next k i lone r out tag e x;
+      left = call-left allowance from next k i lone r out tag e x;
+      others = call-others allowance from next k i lone r out tag e x;
+    }
+
+-- an opening
+module _ (allowance : ℕ) (from next : List Record) (k : ℕ) (key : List ℕ) (r : Answer) (promised : Opened allowance from k key r next) where
+  abbrev fresh : GroupOpening
+  fresh = openOnDay allowance (held from k) key
+
+  -- what it gives, by how check 3 comes out
+  abbrev by3 : Bool → TableOpening
+  by3 b = cond b (record { number = 3; count = 0; table = tableOf from }) (openedBack (tableOf from) k fresh)
+
+  is-by3 : openingResult r next ≡ by3 (noGroup (length (tableOf from)) k)
+  unfolding openGroupAt
+  is-by3 = promised
+
+  open-size : length next ≡ length from
+  open-size =
+      sym (length-map next recordOf) ∙ ap (λ (o : TableOpening). length (o .table)) is-by3 ∙ go (noGroup (length (tableOf from)) k)
+      ∙ length-map from recordOf
+    where
+      go : (b : Bool) → length (by3 b .table) ≡ length (tableOf from)
+      go true = refl
+      go false = length-set (tableOf from) k (fresh .left)
+
+  open-others : (g : ℕ) → g ≢ k → held next g ≡ held from g
+  open-others g n = ap (λ (o : TableOpening). groupAt (o .table) g) is-by3 ∙ go (noGroup (length (tableOf from)) k)
+    where
+      go : (b : Bool) → groupAt (by3 b .table) g ≡ held from g
+      go true = refl
+      go false = getD-set-other (tableOf from) k g (fresh .left) unopened n
+
+  module _ (n : length from ≡ 32) (less : k < 32) where
+    is-open : openingResult r next ≡ openedBack (tableOf from) k fresh
+    is-open = is-by3 ∙ ap by3 (present from k n less)
+
+    open-given : _≡_ {A = Given} (record { answer = r; out = []; tag = [] })
+        (record { answer = record { number = fresh .number; count = fresh .count }; out = []; tag = [] })
+    open-given = ap (λ (o : TableOpening). record { answer = record { number = o .number; count = o .count }; out = []; tag = [] }) is-open
+
+    open-left : held next k ≡ fresh .left
+    open-left =
+        ap (λ (o : TableOpening). groupAt (o .table) k) is-open ∙ getD-set-same (tableOf from) k (fresh .left) unopened (in-table from k n less)
+
+  pub open-step : Step allowance (record { group = k; request = opening key }) (record { answer = r; out = []; tag = [] }) from next
+  open-step = record { size = open-size; given = open-given; left = open-left; others = open-others }

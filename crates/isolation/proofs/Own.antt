@@ -1,0 +1,51 @@
+-- The calls for a group are those that name it (`OwnCalls` of `specs/Isolation.antt`). Assumes nothing.
+use mathlib.Core.Path.{_≡_, refl, ap}
+use mathlib.Core.Logic.{_≢_}
+use mathlib.Core.Bool.{Bool, true, false, cond}
+use mathlib.Core.List.{List, [], _∷_, _++_}
+use Prim.Native.Nat.{ℕ, suc}
+use native.Mathlib.Omega.{arith}
+use lib.Dec.{eqb}
+use lib.ListN.{length}
+use borrow.Author.Tests.{eq-eqb, ne-eqb}
+use Rattle.groups.specs.declared.Record.{Record}
+use Rattle.isolation.specs.Calls.{Request, GroupCall, Given, Run, none, opened, wrapped, unwrapped, callsFor, givenTo}
+use Rattle.isolation.specs.Isolation.{OwnCalls}
+
+-- one more in front, or not
+front : {A : Type 0} (b : Bool) (x : A) (s t u : List A) → u ≡ s ++ t → cond b (x ∷ u) u ≡ cond b (x ∷ s) s ++ t
+front true x s t u e = ap (λ (v : List _). x ∷ v) e
+front false x s t u e = e
+
+each-given : (allowance : ℕ) {cs : List GroupCall} {gs : List Given} {from to : List Record} → Run allowance cs from gs to → length cs ≡ length gs
+each-given allowance none = refl
+each-given allowance (opened e run) = ap suc (each-given allowance run)
+each-given allowance (wrapped e run) = ap suc (each-given allowance run)
+each-given allowance (unwrapped e run) = ap suc (each-given allowance run)
+
+module _ (g : ℕ) where
+  parts : (cs ds : List GroupCall) → callsFor g (cs ++ ds) ≡ callsFor g cs ++ callsFor g ds
+  unfolding callsFor
+  parts [] ds = refl
+  parts (c ∷ cs) ds = front (eqb (c .group) g) (c .request) (callsFor g cs) (callsFor g ds) (callsFor g (cs ++ ds)) (parts cs ds)
+
+  parts-given : (cs ds : List GroupCall) (gs hs : List Given) → length cs ≡ length gs → givenTo g (cs ++ ds) (gs ++ hs) ≡ givenTo g cs gs ++ givenTo g ds hs
+  unfolding givenTo
+  parts-given [] ds [] hs e = refl
+  parts-given [] ds (x ∷ gs) hs e = absurd (omega arith)
+  parts-given (c ∷ cs) ds [] hs e = absurd (omega arith)
+  parts-given (c ∷ cs) ds (x ∷ gs) hs e =
+      front (eqb (c .group) g) x (givenTo g cs gs) (givenTo g ds hs) (givenTo g (cs ++ ds) (gs ++ hs)) (parts-given cs ds gs hs (omega arith))
+
+  pub own-calls : OwnCalls g
+  unfolding callsFor givenTo
+  own-calls =
+      record {
+        own = λ c e. ap (λ (b : Bool). cond b (c .request ∷ []) []) (eq-eqb (c .group) g e);
+        other = λ c n. ap (λ (b : Bool). cond b (c .request ∷ []) []) (ne-eqb (c .group) g n);
+        parts = parts;
+        own-given = λ c x e. ap (λ (b : Bool). cond b (x ∷ []) []) (eq-eqb (c .group) g e);
+        other-given = λ c x n. ap (λ (b : Bool). cond b (x ∷ []) []) (ne-eqb (c .group) g n);
+        parts-given = parts-given;
+        each-given = λ allowance cs gs from to run. each-given allowance run;
+      }

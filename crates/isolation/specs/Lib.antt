@@ -1,0 +1,3 @@
+-- The definitions that the theorems cite.
+pub mod Calls
+pub mod Isolation
