@@ -25,10 +25,10 @@ pub struct NearlyFull {
 pub fn start_day(records: &mut [Record], allowance: u32) -> u32
     ensures { λ r. ⌜ dayResult r (now (records .exit)) ≡ startDayAt allowance (tableOf (now (records .entry))) ⌝ }
 {
-    let mut g = 0;
-    while g < records.len() {
-        records[g] = groups::new_day(records[g]);
-        g += 1;
+    let mut k = 0;
+    while k < records.len() {
+        records[k] = groups::new_day(records[k]);
+        k += 1;
     }
     allowance
 }
