@@ -83,7 +83,18 @@ pub enum Failure {
     },
     /// The proved library refused the call, which was one of this letter's mode.
     Refused(Refusal, Letter),
-    /// The library found a wrong tag, and the day's count could not be committed, or not as it should.
+    /// The library refused the call, as the group's allowance of the day does not cover it.
+    Spent {
+        /// What the library gave.
+        refusal: Refusal,
+        /// The group.
+        group: u32,
+        /// Its count of the day.
+        count: u32,
+        /// The allowance that each group has.
+        allowance: u32,
+    },
+    /// The library found a wrong tag, and the group's count could not be committed, or not as it should.
     NotCounted(Refusal, store::Error),
     /// The call was made and is in the state file, but what belongs to it was not handed out.
     Kept {
@@ -133,7 +144,7 @@ impl Failure {
             Failure::OtherGroup { .. } | Failure::OtherLetter(_) => 6,
             Failure::UsedKey | Failure::UsedNonce | Failure::UsedCounter { .. } => 7,
             Failure::Mismatch { .. } | Failure::OtherTag => 9,
-            Failure::Refused(refusal, _) => 10 + refusal.number.number(),
+            Failure::Refused(refusal, _) | Failure::Spent { refusal, .. } => 10 + refusal.number.number(),
             Failure::Kept { source, .. } => source.status(),
         }
     }
@@ -185,9 +196,13 @@ impl fmt::Display for Failure {
             Failure::OtherTag => f.write_str(OTHER_TAG),
             Failure::Mismatch { group, packet, index } => mismatch(f, *group, *packet, *index),
             Failure::Refused(refusal, letter) => refused(f, refusal, *letter),
+            Failure::Spent { refusal, group, count, allowance } => {
+                refused(f, refusal, Letter::S)?;
+                spent(f, *group, *count, *allowance)
+            }
             Failure::NotCounted(refusal, error) => {
                 refused(f, refusal, Letter::S)?;
-                let not_added = if error.is_committed() { "" } else { "Its count could not be added to the day's: " };
+                let not_added = if error.is_committed() { "" } else { "Its count could not be added to the group's: " };
                 write!(f, " {not_added}{error}")
             }
             Failure::Kept { what, command, source } => {
@@ -266,6 +281,16 @@ fn hint(number: Number, letter: Letter) -> Option<&'static str> {
 fn refused(f: &mut fmt::Formatter<'_>, refusal: &Refusal, letter: Letter) -> fmt::Result {
     write!(f, "Refused, number {}: {}", refusal.number.number(), refusal.number.sentence())?;
     hint(refusal.number, letter).map_or(Ok(()), |hint| write!(f, " {hint}"))
+}
+
+/// What is said of a group whose allowance does not cover a call.
+fn spent(f: &mut fmt::Formatter<'_>, group: u32, count: u32, allowance: u32) -> fmt::Result {
+    let left = allowance.saturating_sub(count);
+    write!(
+        f,
+        " Group {group} has spent {count} of {allowance} permutations on this day, and the call needs more than the {left} that \
+         are left. Other groups are not affected."
+    )
 }
 
 /// The sentences of a code that does not match.
