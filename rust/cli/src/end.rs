@@ -68,8 +68,8 @@ impl End for Office {
 
     fn refused(&self, group: u32, refusal: Refusal) -> Failure {
         match self.table.group(group) {
-            Some(pevghazo::Group { count, .. }) if refusal.number == Number::Allowance => {
-                Failure::Spent { refusal, group, count, allowance: self.table.allowance() }
+            Some(group) if refusal.number == Number::Allowance => {
+                Failure::Spent { refusal, group, allowance: self.table.allowance() }
             }
             _ => Failure::Refused(refusal, Self::LETTER),
         }

@@ -3,7 +3,7 @@
 use std::path::{Path, PathBuf};
 use std::{fmt, io};
 
-use pevghazo::{Letter, Number, Refusal};
+use pevghazo::{Group, Letter, Number, Refusal};
 use pevghazo_store::{self as store, shown};
 
 use crate::state::Bad;
@@ -87,10 +87,8 @@ pub enum Failure {
     Spent {
         /// What the library gave.
         refusal: Refusal,
-        /// The group.
-        group: u32,
-        /// Its count of the day.
-        count: u32,
+        /// The group, with its count of the day.
+        group: Group,
         /// The allowance that each group has.
         allowance: u32,
     },
@@ -196,9 +194,9 @@ impl fmt::Display for Failure {
             Failure::OtherTag => f.write_str(OTHER_TAG),
             Failure::Mismatch { group, packet, index } => mismatch(f, *group, *packet, *index),
             Failure::Refused(refusal, letter) => refused(f, refusal, *letter),
-            Failure::Spent { refusal, group, count, allowance } => {
+            Failure::Spent { refusal, group, allowance } => {
                 refused(f, refusal, Letter::S)?;
-                spent(f, *group, *count, *allowance)
+                spent(f, group, *allowance)
             }
             Failure::NotCounted(refusal, error) => {
                 refused(f, refusal, Letter::S)?;
@@ -284,12 +282,13 @@ fn refused(f: &mut fmt::Formatter<'_>, refusal: &Refusal, letter: Letter) -> fmt
 }
 
 /// What is said of a group whose allowance does not cover a call.
-fn spent(f: &mut fmt::Formatter<'_>, group: u32, count: u32, allowance: u32) -> fmt::Result {
-    let left = allowance.saturating_sub(count);
+fn spent(f: &mut fmt::Formatter<'_>, group: &Group, allowance: u32) -> fmt::Result {
+    let Group { group, count, .. } = group;
+    let left = allowance.saturating_sub(*count);
     write!(
         f,
-        " Group {group} has spent {count} of {allowance} permutations on this day, and the call needs more than the {left} that \
-         are left. Other groups are not affected."
+        " Group {group} has spent {count} of {allowance} permutations on this day, and the call needs more than the \
+         remaining {left}. Other groups are not affected."
     )
 }
 

@@ -197,7 +197,7 @@ mod tests {
         let bytes = office().encode();
         let mut back = Office::decode(&bytes).unwrap();
         assert_eq!(back.encode(), bytes);
-        assert_eq!(back.table.day().allowance, 1_000);
+        assert_eq!((back.table.allowance(), back.table.left(5), back.table.left(6)), (1_000, Some(999), Some(1_000)));
         assert_eq!(back.kept(5).unwrap(), &kept(40, 9));
         assert_eq!(back.kept(6).unwrap(), &Kept::default());
         assert_eq!(back.kept(32).unwrap_err().number, Number::BadGroup);
@@ -208,6 +208,33 @@ mod tests {
         let back = Sane::decode(&bytes).unwrap();
         assert_eq!((back.encode(), back.group, back.kept), (bytes, 5, kept(40, 9)));
         assert_eq!((back.starts.counter(), back.starts), (Some(6), sane().starts));
+    }
+
+    /// The bytes of the office after their start, with the table as it was before each group had a count.
+    fn before(bytes: &[u8], count: u32) -> Vec<u8> {
+        let (table, rest) = bytes[8..].split_at(Table::BYTES);
+        let (records, allowance) = table.split_at(Table::BYTES - 4);
+        let sessions = records.chunks(Session::BYTES + 4).flat_map(|record| &record[..Session::BYTES]);
+        sessions.chain(&count.to_le_bytes()).chain(allowance).chain(rest).copied().collect()
+    }
+
+    #[test]
+    fn the_count_of_version_2_is_that_of_every_group() {
+        let office = office();
+        let bytes = office.encode();
+        for count in [0, 1, 1_000, u32::MAX] {
+            let old = [b"office-2", &before(&bytes, count)[..]].concat();
+            let back = Office::decode(&old).unwrap();
+            assert!(back.table.groups().all(|group| group.count == count));
+            assert_eq!(back.table.allowance(), 1_000);
+            assert_eq!((&back.kept, &back.keys), (&office.kept, &office.keys));
+            let new = back.encode();
+            assert!(new.starts_with(b"office-3"));
+            assert_eq!(Office::decode(&new).unwrap().encode(), new);
+        }
+        // The bytes of one version under the start of another.
+        assert!(Office::decode(&[b"office-2", &bytes[8..]].concat()).is_err());
+        assert!(Office::decode(&[b"office-3", &before(&bytes, 1)[..]].concat()).is_err());
     }
 
     /// The bytes of version 1 are those of version 2 up to the keys.
@@ -223,7 +250,8 @@ mod tests {
         assert_eq!(Office::decode(&old).unwrap_err().to_string(), "it is a group's and not the office's");
         let office = office();
         let bytes = office.encode();
-        let back = Office::decode(&[b"office-1", &bytes[8..bytes.len() - keys]].concat()).unwrap();
+        let old = before(&bytes, 1);
+        let back = Office::decode(&[b"office-1", &old[..old.len() - keys]].concat()).unwrap();
         assert_eq!((back.kept, back.keys), (office.kept, Keys::default()));
     }
 
@@ -260,7 +288,11 @@ mod tests {
             }
         }
         assert_eq!(Group::decode(b"").unwrap_err(), Bad::Format);
-        assert_eq!(Sane::decode(b"sane---2").unwrap_err(), Bad::Format);
+        assert_eq!(Sane::decode(b"sane---2").unwrap_err(), Bad::Version(2));
+        assert_eq!(Office::decode(b"office-4").unwrap_err(), Bad::Version(4));
+        for start in [&b"office-0"[..], b"office--", b"office3", b"offices3", b"office\xff3"] {
+            assert_eq!(Office::decode(start).unwrap_err(), Bad::Format);
+        }
     }
 
     fn any_bytes<S: State>(bytes: &[u8]) {
