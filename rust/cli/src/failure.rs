@@ -283,12 +283,15 @@ fn refused(f: &mut fmt::Formatter<'_>, refusal: &Refusal, letter: Letter) -> fmt
 
 /// What is said of a group whose allowance does not cover a call.
 fn spent(f: &mut fmt::Formatter<'_>, group: &Group, allowance: u32) -> fmt::Result {
+    if allowance == 0 {
+        return f.write_str(" It is 0, for every group: `pevghazo office day` begins a day with another one.");
+    }
     let Group { group, count, .. } = group;
     let left = allowance.saturating_sub(*count);
     write!(
         f,
         " Group {group} has spent {count} of {allowance} permutations on this day, and the call needs more than the \
-         remaining {left}. Other groups are not affected."
+         remaining {left}. The other groups have counts of their own."
     )
 }
 

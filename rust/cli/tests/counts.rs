@@ -159,6 +159,8 @@ struct Season {
     counts: [u32; 3],
     waiting: [Option<usize>; 3],
     keys: u32,
+    /// How often each status was met: 0, 20 and 21.
+    met: [u32; 3],
 }
 
 impl Season {
@@ -166,7 +168,9 @@ impl Season {
     fn counted(&mut self, place: usize, count: u32, status: i32) -> i32 {
         let covered = u64::from(self.counts[place]) + u64::from(count) <= u64::from(self.allowance);
         self.counts[place] += if covered { count } else { 0 };
-        if covered { status } else { 20 }
+        let status = if covered { status } else { 20 };
+        self.met[[0, 20, 21].iter().position(|known| *known == status).unwrap()] += 1;
+        status
     }
 
     /// Runs the program, which must have this status.
@@ -245,7 +249,7 @@ impl Season {
 fn calls_at_random_count_for_their_group_alone() {
     let (folder, allowance) = (three_groups(50), 50);
     let random = Random::new(11);
-    let mut season = Season { folder, random, allowance, counts: [1; 3], waiting: [None; 3], keys: 0 };
+    let mut season = Season { folder, random, allowance, counts: [1; 3], waiting: [None; 3], keys: 0, met: [0; 3] };
     for _ in 0..150 {
         let place = season.random.below(3);
         match season.random.below(12) {
@@ -257,4 +261,5 @@ fn calls_at_random_count_for_their_group_alone() {
         }
         shows(&season.folder, season.allowance, season.counts);
     }
+    assert!(season.met.iter().all(|times| *times >= 10), "{:?}", season.met);
 }

@@ -160,28 +160,29 @@ fn number_9_a_session_that_is_full() {
 fn number_10_a_day_whose_allowance_is_spent() {
     let folder = Folder::pair(5);
     folder.write("text", b"20001");
-    // Refused, with what the group has spent and what remains of the allowance.
-    let spent = |group: u32, count: u32, allowance: u32, line: &str| {
+    // Refused, with what group 5 has spent and what remains of the allowance.
+    let spent = |count: u32, allowance: u32, line: &str| {
         let more = format!(
-            " Group {group} has spent {count} of {allowance} permutations on this day, and the call needs more than the \
-             remaining {}. Other groups are not affected.",
+            " Group 5 has spent {count} of {allowance} permutations on this day, and the call needs more than the remaining \
+             {}. The other groups have counts of their own.",
             allowance - count
         );
         refused_with(&folder, 10, &more, line);
     };
     // One block of message and one of output: 1 + 4 + 1.
     folder.done("office --state office day --allowance 5");
-    spent(5, 0, 5, "office --state office seal --group 5 --message text --out OUT");
+    spent(0, 5, "office --state office seal --group 5 --message text --out OUT");
     folder.done_anew("group --state group seal --message text --out in");
-    spent(5, 0, 5, "office --state office open --in in --out OUT");
+    spent(0, 5, "office --state office open --in in --out OUT");
     folder.done("office --state office day --allowance 0");
     folder.write("new-key", b"another key of group 5");
-    spent(6, 0, 0, "office --state office open-group --group 6 --key new-key");
-    spent(5, 0, 0, "office --state office open-group --group 5 --key new-key --replace");
+    let nothing = " It is 0, for every group: `pevghazo office day` begins a day with another one.";
+    refused_with(&folder, 10, nothing, "office --state office open-group --group 6 --key new-key");
+    refused_with(&folder, 10, nothing, "office --state office open-group --group 5 --key new-key --replace");
     folder.done("office --state office day --allowance 6");
     folder.done_anew("office --state office open --in in --out out");
-    spent(5, 6, 6, "office --state office open-group --group 5 --key new-key --replace");
-    spent(5, 6, 6, "office --state office seal --group 5 --message text --out OUT");
+    spent(6, 6, "office --state office open-group --group 5 --key new-key --replace");
+    spent(6, 6, "office --state office seal --group 5 --message text --out OUT");
 }
 
 #[test]

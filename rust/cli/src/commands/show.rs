@@ -53,7 +53,7 @@ pub fn office(arguments: &Arguments, out: &mut dyn Write) -> Result<(), Failure>
     let mut used = Used::<Office>::open(arguments)?;
     let (commit, keys, allowance) = (used.generation(), used.state.keys.count(), used.state.table.allowance());
     let groups: Vec<_> = used.state.table.groups().filter(|group| group.is_open || group.count > 0).collect();
-    // No count is wider.
+    // What is left is never wider, nor is a count that the library let through.
     let width = allowance.to_string().len();
     let mut lines = String::new();
     let mut objects = Vec::new();
