@@ -194,10 +194,7 @@ impl fmt::Display for Failure {
             Failure::OtherTag => f.write_str(OTHER_TAG),
             Failure::Mismatch { group, packet, index } => mismatch(f, *group, *packet, *index),
             Failure::Refused(refusal, letter) => refused(f, refusal, *letter),
-            Failure::Spent { refusal, group, allowance } => {
-                refused(f, refusal, Letter::S)?;
-                spent(f, group, *allowance)
-            }
+            Failure::Spent { refusal, group, allowance } => spent(f, refusal, group, *allowance),
             Failure::NotCounted(refusal, error) => {
                 refused(f, refusal, Letter::S)?;
                 let not_added = if error.is_committed() { "" } else { "Its count could not be added to the group's: " };
@@ -281,8 +278,9 @@ fn refused(f: &mut fmt::Formatter<'_>, refusal: &Refusal, letter: Letter) -> fmt
     hint(refusal.number, letter).map_or(Ok(()), |hint| write!(f, " {hint}"))
 }
 
-/// What is said of a group whose allowance does not cover a call.
-fn spent(f: &mut fmt::Formatter<'_>, group: &Group, allowance: u32) -> fmt::Result {
+/// The sentences of a refusal by a group's allowance.
+fn spent(f: &mut fmt::Formatter<'_>, refusal: &Refusal, group: &Group, allowance: u32) -> fmt::Result {
+    refused(f, refusal, Letter::S)?;
     if allowance == 0 {
         return f.write_str(" It is 0, for every group: `pevghazo office day` begins a day with another one.");
     }

@@ -237,6 +237,7 @@ impl Season {
         }
     }
 
+    /// A day with any allowance.
     fn day(&mut self) {
         self.allowance = self.random.below(60) as u32;
         self.counts = [0; 3];

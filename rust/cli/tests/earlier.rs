@@ -13,7 +13,7 @@ use pevghazo_reference::{envelope, sanse};
 const SHOWS: &str = "office --state office show --json";
 const OPENS: &str = "office --state office open --in from-4 --out opened --metadata-out metadata";
 
-/// What each group had spent on the day of the file of version 2, and the allowance: both stand in `data/README.md`.
+/// What all groups together had spent on the day of the file of version 2, and its allowance: both stand in `data/README.md`.
 const SPENT: u32 = 16;
 const ALLOWANCE: u32 = 100;
 
