@@ -77,7 +77,7 @@ impl<S: Mode> State for Lone<S> {
         let group = reader.number()?;
         let session = S::from_bytes(reader.take(S::BYTES)?).map_err(|_| Bad::Format)?;
         let kept = Kept::read(&mut reader)?;
-        // The version before the newest knows of no starts.
+        // Only the newest version of each kind knows the starts.
         let newest = version == S::KIND.version;
         let starts = if newest { S::Starts::read(&mut reader)? } else { S::Starts::default() };
         reader.end(Lone { group, session, kept, starts })

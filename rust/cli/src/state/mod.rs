@@ -1,9 +1,9 @@
 //! What a state file holds, and its bytes.
 //!
-//! The office's file holds the table of sessions with their counts and, for each group, what is *kept*: the last envelope that was
-//! sealed and the last message that was opened. A group's file, and that of a session in SANE, holds the group's number, the session and what is
-//! kept. They are in the file because a call and what belongs to it must be committed together: a kill between the commit and the
-//! handing out must not lose it. All hold the fingerprint of every key that was ever used in the file.
+//! The office's file holds the table of sessions with the groups' counts and, for each group, what is *kept*: the last envelope that
+//! was sealed and the last message that was opened. A group's file, and that of a session in SANE, holds the group's number, the
+//! session and what is kept. They are in the file because a call and what belongs to it must be committed together: a kill between
+//! the commit and the handing out must not lose it. All hold the fingerprint of every key that was ever used in the file.
 //!
 //! | bytes | content |
 //! |---|---|
