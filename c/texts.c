@@ -17,7 +17,7 @@ const char *pevghazo_number_text(uint32_t number) {
     case PEVGHAZO_BAD_TAG_LENGTH: return "The tag must have 32 bytes in SANSE (letter S), and 16 in SANE (letter N).";
     case PEVGHAZO_NO_ROOM: return "The output buffer is too short.";
     case PEVGHAZO_INDEX_FULL: return "The session is full: start a new one with a new key, or in SANE with a new nonce.";
-    case PEVGHAZO_ALLOWANCE: return "The day's allowance does not cover this call.";
+    case PEVGHAZO_ALLOWANCE: return "The group's allowance for the day does not cover this call.";
     case PEVGHAZO_WRONG_TAG: return "The tag is wrong: the arrival is damaged, repeated, out of order or not meant for this session.";
     case PEVGHAZO_NO_CODE: return "There is no such code: no message was accepted yet, or the packet is above 2,047.";
     case PEVGHAZO_STORED_LENGTH: return "The stored bytes are too few or too many.";

@@ -2,7 +2,7 @@
  *
  *     pevghazo/session.h    a lone session in SANSE
  *     pevghazo/sane.h       a lone session in SANE, for groups that keep a counter; a nonce must not repeat under one key
- *     pevghazo/table.h      the office's table of 32 sessions, and its day
+ *     pevghazo/table.h      the office's table of 32 sessions, each with its count of the day
  *     pevghazo/envelope.h   the bytes in which a message travels
  *     pevghazo/codes.h      codes for packets of rings
  *     pevghazo/stored.h     a session of either mode as bytes, for storing it
@@ -16,12 +16,13 @@
  * pevghazo_number_text and pevghazo_version.
  *
  * Every proved function takes any bytes and returns. Its number is 0 where the call was accepted, and otherwise the number of the first check
- * that it met (PEVGHAZO_* in numbers.h). A refusal has count 0 and leaves sessions, buffers and the day's count as they were, but for two:
+ * that it met (PEVGHAZO_* in numbers.h); pevghazo_start_day alone has no number, as it is never refused. A refusal has count 0 and leaves
+ * sessions, buffers and the groups' counts as they were, but for two:
  *
  *   - A refused pevghazo_start or pevghazo_sane_start closes the record that it was lent. The session that the record held is lost with all
  *     that it could still seal or open; no call gives it back. Who wants to keep it until the new one has started hands over another record.
- *     (A refused pevghazo_open_group leaves the group's session.)
- *   - Number 11 returns the real count, adds it to the day's count in the table, and sets the first bytes of the output buffer, as many as
+ *     (A refused pevghazo_open_group leaves the group's record.)
+ *   - Number 11 returns the real count, adds it to the group's count in the table, and sets the first bytes of the output buffer, as many as
  *     the cryptogram has, to zero. The session stays as it was.
  *
  * On success the bytes of a buffer beyond the text keep their content. A refused wrap leaves the output buffer as it was, so a program that

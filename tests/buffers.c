@@ -11,6 +11,7 @@
 void rust_start(pevghazo_session *s, const uint8_t *key, size_t n);
 bool rust_wrap(pevghazo_session *s, const uint8_t *metadata, size_t a, const uint8_t *message, size_t m, uint8_t *out, uint8_t *tag);
 bool rust_unwrap(pevghazo_session *s, const uint8_t *metadata, size_t a, const uint8_t *cryptogram, size_t m, const uint8_t *tag, uint8_t *out);
+uint32_t rust_count(size_t a, size_t m);
 
 /* Of metadata, messages and nonces; SANE's keystream is the output from byte 16 on, so that its blocks begin and end 16 bytes earlier. */
 static const size_t lengths[] = {0, 1, 31, 32, 33, 47, 48, 49, 79, 80, 81, 95, 96, 97, PEVGHAZO_TEXT_MAX - 1, PEVGHAZO_TEXT_MAX};
@@ -26,9 +27,9 @@ static row rows[BUFFERS];
 static size_t n[BUFFERS];
 static _Alignas(16) uint8_t other[BUFFERS][PEVGHAZO_TEXT_MAX];
 
-/* A record of either kind, and its fields; behind them anything may stand. */
-enum { ONE_RECORD = sizeof(pevghazo_session), FIELDS = offsetof(pevghazo_session, opened) + 1 };
-PEVGHAZO_LAYOUT(one_layout, sizeof(pevghazo_sane_session) == ONE_RECORD && offsetof(pevghazo_sane_session, opened) == FIELDS - 1);
+/* A session of either mode, and its fields; behind them anything may stand. In a table the group's count follows it. */
+enum { ONE_SESSION = sizeof(pevghazo_session), FIELDS = offsetof(pevghazo_session, opened) + 1, IN_TABLE = sizeof(pevghazo_record) };
+PEVGHAZO_LAYOUT(one_layout, sizeof(pevghazo_sane_session) == ONE_SESSION && offsetof(pevghazo_sane_session, opened) == FIELDS - 1);
 
 static int where;
 static uint32_t packet;
@@ -36,29 +37,34 @@ static unsigned calls;
 
 /* ---- the calls */
 
-/* Those of a lone session, of a group of a table and of a session in SANE, three each; and a packet's code. */
+/* Those of a lone session, of a group of a table and of a session in SANE, three each; a packet's code; and the start of a day. */
 enum { LONE, GROUP, SANE, KINDS };
-enum { START, WRAP, UNWRAP, OPEN_GROUP, WRAP_GROUP, UNWRAP_GROUP, SANE_START, SANE_WRAP, SANE_UNWRAP, CODE, CALLS, OF_A_KIND = 3 };
+enum { START, WRAP, UNWRAP, OPEN_GROUP, WRAP_GROUP, UNWRAP_GROUP, SANE_START, SANE_WRAP, SANE_UNWRAP, CODE, DAY, CALLS, OF_A_KIND = 3 };
 static const char *const names[CALLS] = {"start", "wrap", "unwrap", "open a group", "wrap for a group", "unwrap for a group",
-                                         "start in SANE", "wrap in SANE", "unwrap in SANE", "code"};
-static const uint32_t group = 7;
+                                         "start in SANE", "wrap in SANE", "unwrap in SANE", "code", "start of a day"};
+static const uint32_t group = 7, allowance = UINT32_MAX;
+
+/* Whether a call's records are those of a table, and how many there are then. */
+static bool in_table(int call) { return call / OF_A_KIND == GROUP || call == DAY; }
+static size_t table_len(void) { return n[RECORD] / IN_TABLE; }
 
 /* The number that the library gives. */
 static uint32_t called(int call, uint8_t *const b[BUFFERS]) {
-    const pevghazo_day day = pevghazo_start_day(UINT32_MAX);
     pevghazo_session *session = (void *)b[RECORD];
+    pevghazo_record *table = (void *)b[RECORD];
     pevghazo_sane_session *sane = (void *)b[RECORD];
     switch (call) {
     case START: return pevghazo_start(session, b[KEY], n[KEY]).number;
     case WRAP: return pevghazo_wrap(session, b[METADATA], n[METADATA], b[INPUT], n[INPUT], b[OUTPUT], n[OUTPUT], b[TAG], n[TAG]).number;
     case UNWRAP: return pevghazo_unwrap(session, b[METADATA], n[METADATA], b[INPUT], n[INPUT], b[TAG], n[TAG], b[OUTPUT], n[OUTPUT]).number;
-    case OPEN_GROUP: return pevghazo_open_group(session, PEVGHAZO_GROUPS, group, day, b[KEY], n[KEY]).number;
+    case OPEN_GROUP: return pevghazo_open_group(table, table_len(), group, allowance, b[KEY], n[KEY]).number;
     case WRAP_GROUP:
-        return pevghazo_wrap_group(session, PEVGHAZO_GROUPS, group, day, b[METADATA], n[METADATA], b[INPUT], n[INPUT], b[OUTPUT], n[OUTPUT],
+        return pevghazo_wrap_group(table, table_len(), group, allowance, b[METADATA], n[METADATA], b[INPUT], n[INPUT], b[OUTPUT], n[OUTPUT],
                                    b[TAG], n[TAG]).number;
     case UNWRAP_GROUP:
-        return pevghazo_unwrap_group(session, PEVGHAZO_GROUPS, group, day, b[METADATA], n[METADATA], b[INPUT], n[INPUT], b[TAG], n[TAG],
+        return pevghazo_unwrap_group(table, table_len(), group, allowance, b[METADATA], n[METADATA], b[INPUT], n[INPUT], b[TAG], n[TAG],
                                      b[OUTPUT], n[OUTPUT]).number;
+    case DAY: return pevghazo_start_day(table, table_len(), allowance) == allowance ? PEVGHAZO_ACCEPTED : PEVGHAZO_ALLOWANCE;
     case SANE_START: return pevghazo_sane_start(sane, b[KEY], n[KEY], b[NONCE], n[NONCE], b[TAG], n[TAG]).number;
     case SANE_WRAP: return pevghazo_sane_wrap(sane, b[METADATA], n[METADATA], b[INPUT], n[INPUT], b[OUTPUT], n[OUTPUT], b[TAG], n[TAG]).number;
     case SANE_UNWRAP:
@@ -67,11 +73,13 @@ static uint32_t called(int call, uint8_t *const b[BUFFERS]) {
     }
 }
 
-/* The same on the other side. */
+/* A group's record on the other side. */
+static pevghazo_record *other_record(size_t i) { return (pevghazo_record *)(void *)other[RECORD] + i; }
+
+/* The same on the other side, but for what a table counts. */
 static uint32_t expected(int call) {
     uint8_t *const b[BUFFERS] = {other[RECORD], other[KEY], other[NONCE], other[METADATA], other[INPUT], other[OUTPUT], other[TAG]};
-    pevghazo_session *session = (void *)b[RECORD];
-    if (call / OF_A_KIND == GROUP) session += group;
+    pevghazo_session *session = in_table(call) ? &other_record(group)->session : (void *)b[RECORD];
     switch (call) {
     case START:
     case OPEN_GROUP: return rust_start(session, b[KEY], n[KEY]), PEVGHAZO_ACCEPTED;
@@ -82,23 +90,33 @@ static uint32_t expected(int call) {
     case UNWRAP:
     case UNWRAP_GROUP:
         return rust_unwrap(session, b[METADATA], n[METADATA], b[INPUT], n[INPUT], b[TAG], b[OUTPUT]) ? PEVGHAZO_ACCEPTED : PEVGHAZO_WRONG_TAG;
+    case DAY: return PEVGHAZO_ACCEPTED;
     default: return called(call, b);
     }
 }
 
+/* What a table counts on the other side: the call's permutations in its group, a wrong tag's too, and 0 in every record where a day begins. */
+static void expected_counts(int call) {
+    if (call == OPEN_GROUP) other_record(group)->count += 1;
+    if (call == WRAP_GROUP || call == UNWRAP_GROUP) other_record(group)->count += rust_count(n[METADATA], n[INPUT]);
+    for (size_t i = 0; call == DAY && i < table_len(); i++) other_record(i)->count = 0;
+}
+
 /* Lays out what stands on the other side, makes the call there and here, and compares number and buffers. */
 static void both(int call, uint32_t number) {
+    const size_t step = in_table(call) ? IN_TABLE : ONE_SESSION;
     uint8_t *b[BUFFERS];
-    snprintf(doing, sizeof doing, "%s, lengths %zu (key), %zu (nonce), %zu (metadata), %zu (message), %s (place %d)", names[call], n[KEY], n[NONCE],
-             n[METADATA], n[INPUT], place_name(where), where);
+    snprintf(doing, sizeof doing, "%s, lengths %zu (records), %zu (key), %zu (nonce), %zu (metadata), %zu (message), %s (place %d)", names[call],
+             n[RECORD], n[KEY], n[NONCE], n[METADATA], n[INPUT], place_name(where), where);
     for (int i = 0; i < BUFFERS; i++) {
         lay(&rows[i], where, steps[i], other[i], n[i]);
         b[i] = rows[i].at;
     }
     if (expected(call) != number) fail("another number on the other side");
+    expected_counts(call);
     for (int i = KEY; i <= INPUT; i++) holds(&rows[i], other[i], otherwise[i]);
     if (called(call, b) != number) fail("another number");
-    for (size_t i = FIELDS; i < n[RECORD]; i += ONE_RECORD) memcpy(&other[RECORD][i], b[RECORD] + i, ONE_RECORD - FIELDS);
+    for (size_t i = FIELDS; i < n[RECORD]; i += step) memcpy(&other[RECORD][i], b[RECORD] + i, ONE_SESSION - FIELDS);
     for (int i = 0; i < BUFFERS; i++) holds(&rows[i], other[i], otherwise[i]);
     calls++;
 }
@@ -112,7 +130,7 @@ static void fill(int buffer, size_t length) {
 
 /* Under a key of each length, in SANE with a nonce of each length; the last session stays. */
 static void starts(int kind) {
-    n[RECORD] = kind == GROUP ? PEVGHAZO_GROUPS * ONE_RECORD : ONE_RECORD;
+    n[RECORD] = kind == GROUP ? PEVGHAZO_GROUPS * IN_TABLE : ONE_SESSION;
     memset(other[RECORD], 0, n[RECORD]);
     for (size_t length = PEVGHAZO_KEY_MIN; length <= PEVGHAZO_KEY_MAX; length++) {
         fill(KEY, length);
@@ -144,7 +162,7 @@ static void message(int kind, size_t a, size_t m) {
     if (memcmp(other[OUTPUT], sent, m) != 0) fail("another message comes back");
 }
 
-/* A packet's code; a group's is that of its record. */
+/* A packet's code; a group's is that of its session. */
 static void code(void) {
     packet = (packet + 5) % (PEVGHAZO_PACKET_MAX + 1);
     fill(OUTPUT, PEVGHAZO_CODE_LENGTH);
@@ -160,9 +178,22 @@ static void session(int kind) {
         }
 }
 
+/* A day over a run of so many records, of any content. */
+static void day(size_t records) {
+    fill(RECORD, records * IN_TABLE);
+    for (size_t i = 0; i < records; i++) {
+        uint8_t *flags = (uint8_t *)other_record(i) + offsetof(pevghazo_session, toggle);
+        flags[0] &= 1, flags[1] &= 1;
+    }
+    both(DAY, PEVGHAZO_ACCEPTED);
+}
+
 static void everywhere(void) {
-    for (where = 0; where < PLACES; where++)
+    static const size_t runs[] = {0, 1, PEVGHAZO_GROUPS - 1, PEVGHAZO_GROUPS, PEVGHAZO_GROUPS + 1};
+    for (where = 0; where < PLACES; where++) {
         for (int kind = 0; kind < KINDS; kind++) session(kind);
+        for (int i = 0; i < 5; i++) day(runs[i]);
+    }
 }
 
 int main(void) {

@@ -1,14 +1,15 @@
 /* Constant time: which branches and addresses depend on a secret?
  *
  * Valgrind's memcheck follows every bit that was never set, and reports a branch or an address that depends on one. Here the secrets are
- * marked so: the key, the lanes of a record, and the message, before they are handed to the library. Start, wrap and codes must give no report.
+ * marked so: the key, the lanes of a record, and the message, before they are handed to the library. Start, wrap, codes and the start of a day
+ * must give no report.
  * Unwrap may give one, once in a call: its verdict on the tag, which everybody may know. tests/constant_time.sh runs this for lone sessions, for a
  * group of a table and for sessions in SANE, and checks that all these reports come from one branch. The lengths go up to the limit of
  * 16,384 bytes. A second argument N plants a leak in every wrap of a message of more than N bytes, and 'early' and N a comparison that ends at
  * the first difference in every unwrap of one; they must be seen.
  *
- * A record's index, toggle and openness and all lengths are no secrets: anybody who sees the messages can count them. Metadata,
- * cryptograms, tags and nonces travel in the clear, and packets are numbered in the open. */
+ * A record's index, toggle and openness, a group's count, the allowance and all lengths are no secrets: anybody who sees the messages can count
+ * them. Metadata, cryptograms, tags and nonces travel in the clear, and packets are numbered in the open. */
 #include <pevghazo.h>
 #include <stdio.h>
 #include <stdlib.h>
@@ -17,7 +18,7 @@
 
 enum { LONGEST = PEVGHAZO_TEXT_MAX, ROOM = LONGEST + 16 };
 
-/* A record's bytes, of either kind: the lanes, then index, toggle and openness, which are no secret. */
+/* A session's bytes, in either mode: the lanes, then index, toggle and openness, which are no secret. */
 enum { LANES = offsetof(pevghazo_session, index), PUBLIC = offsetof(pevghazo_session, opened) + 1 - LANES, RECORD = sizeof(pevghazo_session) };
 PEVGHAZO_LAYOUT(one_layout, sizeof(pevghazo_sane_session) == RECORD && offsetof(pevghazo_sane_session, index) == LANES);
 
@@ -104,23 +105,21 @@ static void leaks_are_seen(void) {
 
 /* ---- the calls */
 
-/* A group's record stands in a table, and so does the lone one. */
-static pevghazo_session table[PEVGHAZO_GROUPS];
+/* A group's session stands in a table, and so does the lone one; one more record is for a day over 33. */
+static pevghazo_record table[PEVGHAZO_GROUPS + 1];
 static pevghazo_sane_session sane;
-static const uint32_t group = 7;
-static pevghazo_day day;
+static const uint32_t group = 7, allowance = UINT32_MAX;
 
-static uint8_t *record(void) { return kind == SANE ? (uint8_t *)&sane : (uint8_t *)&table[group]; }
+static uint8_t *record(void) { return kind == SANE ? (uint8_t *)&sane : (uint8_t *)&table[group].session; }
 static size_t tag_len(void) { return kind == SANE ? PEVGHAZO_SANE_TAG_LENGTH : PEVGHAZO_TAG_LENGTH; }
 static void hide_lanes(void) { hide(record(), LANES); }
 
-static void numbers_are_public(void) { is_public(record() + LANES, PUBLIC, "index, toggle or openness depend on a secret"); }
+/* The group's count is public after an unwrap too, whatever the verdict: a wrong tag counts as much. */
+static void count_is_public(void) { is_public(&table[group].count, sizeof table[group].count, "the group's count depends on a secret"); }
 
-static pevghazo_answer of_group(pevghazo_group_answer given) {
-    is_public(&given.count, sizeof given.count, "the count depends on a secret");
-    reveal(&given, sizeof given);
-    day = given.day;
-    return (pevghazo_answer){given.number, given.count};
+static void numbers_are_public(void) {
+    is_public(record() + LANES, PUBLIC, "index, toggle or openness depend on a secret");
+    count_is_public();
 }
 
 static uint8_t metadata[ROOM], message[ROOM], cryptogram[ROOM], tag[PEVGHAZO_TAG_LENGTH], back[ROOM];
@@ -128,26 +127,26 @@ static uint8_t metadata[ROOM], message[ROOM], cryptogram[ROOM], tag[PEVGHAZO_TAG
 /* A nonce is used in SANE alone, and is no secret. */
 static pevghazo_answer call_start(const uint8_t *key, size_t key_len, size_t nonce_len) {
     switch (kind) {
-    case LONE: return pevghazo_start(&table[group], key, key_len);
-    case GROUP: return of_group(pevghazo_open_group(table, PEVGHAZO_GROUPS, group, day, key, key_len));
+    case LONE: return pevghazo_start(&table[group].session, key, key_len);
+    case GROUP: return pevghazo_open_group(table, PEVGHAZO_GROUPS, group, allowance, key, key_len);
     default: return pevghazo_sane_start(&sane, key, key_len, metadata, nonce_len, tag, tag_len());
     }
 }
 
 static pevghazo_answer call_wrap(size_t a, size_t m) {
     switch (kind) {
-    case LONE: return pevghazo_wrap(&table[group], metadata, a, message, m, cryptogram, ROOM, tag, tag_len());
+    case LONE: return pevghazo_wrap(&table[group].session, metadata, a, message, m, cryptogram, ROOM, tag, tag_len());
     case GROUP:
-        return of_group(pevghazo_wrap_group(table, PEVGHAZO_GROUPS, group, day, metadata, a, message, m, cryptogram, ROOM, tag, tag_len()));
+        return pevghazo_wrap_group(table, PEVGHAZO_GROUPS, group, allowance, metadata, a, message, m, cryptogram, ROOM, tag, tag_len());
     default: return pevghazo_sane_wrap(&sane, metadata, a, message, m, cryptogram, ROOM, tag, tag_len());
     }
 }
 
 static pevghazo_answer call_unwrap(size_t a, size_t m, const uint8_t *arrived) {
     switch (kind) {
-    case LONE: return pevghazo_unwrap(&table[group], metadata, a, cryptogram, m, arrived, tag_len(), back, ROOM);
+    case LONE: return pevghazo_unwrap(&table[group].session, metadata, a, cryptogram, m, arrived, tag_len(), back, ROOM);
     case GROUP:
-        return of_group(pevghazo_unwrap_group(table, PEVGHAZO_GROUPS, group, day, metadata, a, cryptogram, m, arrived, tag_len(), back, ROOM));
+        return pevghazo_unwrap_group(table, PEVGHAZO_GROUPS, group, allowance, metadata, a, cryptogram, m, arrived, tag_len(), back, ROOM);
     default: return pevghazo_sane_unwrap(&sane, metadata, a, cryptogram, m, arrived, tag_len(), back, ROOM);
     }
 }
@@ -203,6 +202,7 @@ static void unwrap(size_t a, size_t m, unsigned wrong) {
     if (seen > 1) fail("a branch or an address depends on a secret, beside the verdict on the tag");
     verdicts += seen;
     is_public(&answer.count, sizeof answer.count, "the count depends on a secret");
+    count_is_public();
     /* The verdict is public, and what follows from it: which index and toggle the session has now. */
     reveal(&answer, sizeof answer);
     reveal(record() + LANES, PUBLIC);
@@ -219,11 +219,11 @@ static void store_and_load(void) {
     doing = "store and load";
     hide_lanes();
     reports();
-    number = kind == SANE ? pevghazo_store_sane_session(&sane, bytes, sizeof bytes) : pevghazo_store_session(&table[group], bytes, sizeof bytes);
+    number = kind == SANE ? pevghazo_store_sane_session(&sane, bytes, sizeof bytes) : pevghazo_store_session(&table[group].session, bytes, sizeof bytes);
     if (number != PEVGHAZO_ACCEPTED) fail("storing is refused");
     no_report();
     is_secret(bytes, LANES, "the stored bytes do not depend on the session");
-    number = kind == SANE ? pevghazo_load_sane_session(&sane, bytes, sizeof bytes) : pevghazo_load_session(&table[group], bytes, sizeof bytes);
+    number = kind == SANE ? pevghazo_load_sane_session(&sane, bytes, sizeof bytes) : pevghazo_load_session(&table[group].session, bytes, sizeof bytes);
     if (number != PEVGHAZO_ACCEPTED) fail("loading is refused");
     no_report();
     numbers_are_public();
@@ -238,7 +238,7 @@ static void code(uint32_t packet, size_t out_len, uint32_t number) {
     doing = text;
     hide_lanes();
     reports();
-    pevghazo_answer answer = pevghazo_code(&table[group], packet, out, out_len);
+    pevghazo_answer answer = pevghazo_code(&table[group].session, packet, out, out_len);
     no_report();
     is_public(&answer, sizeof answer, "the answer depends on a secret");
     numbers_are_public();
@@ -255,9 +255,33 @@ static void codes(void) {
         code(packets[i], PEVGHAZO_CODE_LENGTH - 1, PEVGHAZO_NO_ROOM);
     }
     code(PEVGHAZO_PACKET_MAX + 1, PEVGHAZO_CODE_LENGTH, PEVGHAZO_NO_CODE);
-    table[group].opened = false;
+    table[group].session.opened = false;
     code(0, PEVGHAZO_CODE_LENGTH, PEVGHAZO_NOT_OPEN);
-    table[group].opened = true;
+    table[group].session.opened = true;
+}
+
+/* A day over a run of so many records, whose lanes are all secret and stay so. */
+static void day(size_t records) {
+    static char text[64];
+    snprintf(text, sizeof text, "start of a day over %zu records", records);
+    doing = text;
+    for (size_t i = 0; i < records; i++) hide(&table[i].session, LANES);
+    reports();
+    const uint32_t given = pevghazo_start_day(table, records, allowance);
+    no_report();
+    is_public(&given, sizeof given, "the allowance depends on a secret");
+    if (given != allowance) fail("the allowance is another one");
+    for (size_t i = 0; i < records; i++) {
+        is_public(&table[i].count, sizeof table[i].count, "a count depends on a secret");
+        is_public((uint8_t *)&table[i].session + LANES, PUBLIC, "index, toggle or openness depend on a secret");
+        is_secret(&table[i].session, LANES, "a session was altered");
+        reveal(&table[i].session, LANES);
+    }
+}
+
+static void days(void) {
+    static const size_t runs[] = {0, 1, PEVGHAZO_GROUPS - 1, PEVGHAZO_GROUPS, PEVGHAZO_GROUPS + 1};
+    for (size_t i = 0; i < sizeof runs / sizeof runs[0]; i++) day(runs[i]);
 }
 
 /* Both ends of a session are played in turn with one record: what it was before a wrap is put back for the unwrap. */
@@ -312,12 +336,12 @@ int main(int argc, char **argv) {
     if (early) planted_early = (size_t)strtoul(argv[3], NULL, 10);
     for (int i = 0; i < ROOM; i++) metadata[i] = (uint8_t)(3 * i), message[i] = (uint8_t)(5 * i + 1);
     leaks_are_seen();
-    day = pevghazo_start_day(UINT32_MAX);
     starts();
     if (kind != SANE) code(0, PEVGHAZO_CODE_LENGTH, PEVGHAZO_NO_CODE);
     store_and_load();
     messages();
     if (kind != SANE) codes();
+    if (kind == GROUP) days();
     printf("constant time, %s: %u calls, %u verdicts on tags seen, nothing else\n", argv[1], calls, verdicts);
     return 0;
 }

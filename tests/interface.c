@@ -1,5 +1,5 @@
-/* What a C program sees of the installed library: the table and the day of zeros, what a refused start leaves, codes of packets, and a message
- * from the office to a group and back. */
+/* What a C program sees of the installed library: the table of zeros, what a refused start leaves, codes of packets, and a message from the office
+ * to a group and back. */
 #include <pevghazo.h>
 #include <stdio.h>
 #include <stdlib.h>
@@ -14,43 +14,43 @@ static void check(const char *what, uint32_t found, uint32_t expected) {
 static const uint8_t key[] = "the key of group 7", metadata[] = "size C", message[] = "12001-12100";
 enum { key_len = sizeof key - 1, metadata_len = sizeof metadata - 1, message_len = sizeof message - 1 };
 
-/* Zeroed memory is the table that no group has opened yet, and a day of zeros is the day before the first. */
+/* Zeroed memory is the table before the first day, when the allowance is 0. */
 static void zeros(void) {
-    pevghazo_session office[PEVGHAZO_GROUPS];
-    pevghazo_day day, none = pevghazo_no_day();
+    pevghazo_record office[PEVGHAZO_GROUPS];
     uint8_t out[message_len], tag[PEVGHAZO_TAG_LENGTH] = {0};
     memset(office, 0, sizeof office);
-    memset(&day, 0, sizeof day);
-    check("the day before the first", (uint32_t)memcmp(&none, &day, sizeof day), 0);
     for (uint32_t group = 0; group < PEVGHAZO_GROUPS; group++) {
         check("wrapping before a group is opened",
-              pevghazo_wrap_group(office, PEVGHAZO_GROUPS, group, pevghazo_start_day(UINT32_MAX), metadata, metadata_len, message, message_len, out,
-                                  sizeof out, tag, sizeof tag).number,
+              pevghazo_wrap_group(office, PEVGHAZO_GROUPS, group, UINT32_MAX, metadata, metadata_len, message, message_len, out, sizeof out, tag,
+                                  sizeof tag).number,
               PEVGHAZO_NOT_OPEN);
         check("unwrapping before a group is opened",
-              pevghazo_unwrap_group(office, PEVGHAZO_GROUPS, group, pevghazo_start_day(UINT32_MAX), metadata, metadata_len, message, message_len, tag,
-                                    sizeof tag, out, sizeof out).number,
+              pevghazo_unwrap_group(office, PEVGHAZO_GROUPS, group, UINT32_MAX, metadata, metadata_len, message, message_len, tag, sizeof tag, out,
+                                    sizeof out).number,
               PEVGHAZO_NOT_OPEN);
     }
     pevghazo_found full = pevghazo_nearly_full(office, PEVGHAZO_GROUPS, 0);
     check("the nearly-full question of zeros", full.number, PEVGHAZO_ACCEPTED);
     check("the group that it finds", full.found, false);
     for (uint32_t group = 0; group < PEVGHAZO_GROUPS; group++) {
-        check("opening a group before the first day", pevghazo_open_group(office, PEVGHAZO_GROUPS, group, day, key, key_len).number, PEVGHAZO_ALLOWANCE);
-        check("opening a group", pevghazo_open_group(office, PEVGHAZO_GROUPS, group, pevghazo_start_day(1), key, key_len).number, PEVGHAZO_ACCEPTED);
-        check("an opened group", office[group].opened, true);
+        check("opening a group before the first day", pevghazo_open_group(office, PEVGHAZO_GROUPS, group, 0, key, key_len).number, PEVGHAZO_ALLOWANCE);
+        check("opening a group", pevghazo_open_group(office, PEVGHAZO_GROUPS, group, 1, key, key_len).number, PEVGHAZO_ACCEPTED);
+        check("an opened group", office[group].session.opened, true);
+        check("its count", office[group].count, 1);
     }
 }
 
-/* A refused start closes the record, and a refused opening leaves the group's. */
+/* A refused start closes the session's record, and a refused opening leaves the group's. */
 static void refused_start(void) {
-    static pevghazo_session table[PEVGHAZO_GROUPS], closed;
-    pevghazo_session before, *session = &table[31];
+    static pevghazo_record table[PEVGHAZO_GROUPS];
+    static pevghazo_session closed;
+    pevghazo_session before, *session = &table[31].session;
     check("starting", pevghazo_start(session, key, key_len).number, PEVGHAZO_ACCEPTED);
     before = *session;
-    pevghazo_group_answer refused = pevghazo_open_group(table, PEVGHAZO_GROUPS, 31, pevghazo_start_day(9), key, PEVGHAZO_KEY_MIN - 1);
+    pevghazo_answer refused = pevghazo_open_group(table, PEVGHAZO_GROUPS, 31, 9, key, PEVGHAZO_KEY_MIN - 1);
     check("opening with a short key", refused.number, PEVGHAZO_BAD_KEY);
-    check("the group's record after it", (uint32_t)memcmp(session, &before, sizeof before), 0);
+    check("the group's session after it", (uint32_t)memcmp(session, &before, offsetof(pevghazo_session, opened) + 1), 0);
+    check("the group's count after it", table[31].count, 0);
     pevghazo_answer answer = pevghazo_start(session, key, PEVGHAZO_KEY_MIN - 1);
     check("starting with a short key", answer.number, PEVGHAZO_BAD_KEY);
     check("its count", answer.count, 0);
@@ -88,7 +88,7 @@ static void codes(void) {
     check("the session after its codes", (uint32_t)memcmp(&session, &before, sizeof before), 0);
 }
 
-/* Both ends give a packet one code; the office's is that of the group's record. */
+/* Both ends give a packet one code; the office's is that of the session in the group's record. */
 static void same_code(const pevghazo_session *office, const pevghazo_session *group, uint32_t packet) {
     uint8_t here[PEVGHAZO_CODE_LENGTH] = {0}, there[PEVGHAZO_CODE_LENGTH] = {1};
     check("a code of the office", pevghazo_code(office, packet, here, sizeof here).number, PEVGHAZO_ACCEPTED);
@@ -98,18 +98,20 @@ static void same_code(const pevghazo_session *office, const pevghazo_session *gr
 
 /* A message from the office to a group, in an envelope, and an answer. */
 static void both_ways(void) {
-    static pevghazo_session office[PEVGHAZO_GROUPS], group; /* all zero: closed sessions */
+    static pevghazo_record office[PEVGHAZO_GROUPS]; /* all zero: closed sessions, before the first day */
+    static pevghazo_session group;
 
     /* The office begins a day, opens group 7 and wraps a message for it. */
-    pevghazo_day day = pevghazo_start_day(1000);
-    pevghazo_group_answer opened = pevghazo_open_group(office, PEVGHAZO_GROUPS, 7, day, key, key_len);
+    const uint32_t allowance = pevghazo_start_day(office, PEVGHAZO_GROUPS, 1000);
+    check("the allowance", allowance, 1000);
+    pevghazo_answer opened = pevghazo_open_group(office, PEVGHAZO_GROUPS, 7, allowance, key, key_len);
     check("opening a group", opened.number, PEVGHAZO_ACCEPTED);
     uint8_t cryptogram[sizeof message], tag[PEVGHAZO_TAG_LENGTH];
-    pevghazo_group_answer wrapped = pevghazo_wrap_group(office, PEVGHAZO_GROUPS, 7, opened.day, metadata, metadata_len, message, message_len,
-                                                       cryptogram, sizeof cryptogram, tag, sizeof tag);
+    pevghazo_answer wrapped = pevghazo_wrap_group(office, PEVGHAZO_GROUPS, 7, allowance, metadata, metadata_len, message, message_len, cryptogram,
+                                                  sizeof cryptogram, tag, sizeof tag);
     check("wrapping", wrapped.number, PEVGHAZO_ACCEPTED);
     check("the count of wrapping", wrapped.count, 7);
-    check("the day's count", wrapped.day.spent, 8);
+    check("the group's count", office[7].count, 8);
 
     /* It travels in an envelope. */
     uint8_t envelope[PEVGHAZO_HEADER_MAX + sizeof metadata + sizeof message + PEVGHAZO_TAG_LENGTH];
@@ -136,15 +138,16 @@ static void both_ways(void) {
         check("the count of unwrapping", answer.count, 7);
         if (i == 0) check("the message", (uint32_t)memcmp(out, message, message_len), 0);
     }
-    same_code(&office[7], &group, 12);
+    same_code(&office[7].session, &group, 12);
 
     /* The group answers, and the office asks which group is nearly full. */
     pevghazo_answer back = pevghazo_wrap(&group, metadata, metadata_len, message, 0, out, sizeof out, tag, sizeof tag);
     check("wrapping an answer", back.number, PEVGHAZO_ACCEPTED);
-    pevghazo_group_answer arrived = pevghazo_unwrap_group(office, PEVGHAZO_GROUPS, 7, wrapped.day, metadata, metadata_len, out, 0, tag, sizeof tag, out,
-                                                          sizeof out);
+    pevghazo_answer arrived = pevghazo_unwrap_group(office, PEVGHAZO_GROUPS, 7, allowance, metadata, metadata_len, out, 0, tag, sizeof tag, out,
+                                                    sizeof out);
     check("unwrapping the answer", arrived.number, PEVGHAZO_ACCEPTED);
-    check("the ends' records", (uint32_t)memcmp(office[7].acc, group.acc, sizeof group.acc), 0);
+    check("the group's count after it", office[7].count, 8 + arrived.count);
+    check("the ends' sessions", (uint32_t)memcmp(office[7].session.acc, group.acc, sizeof group.acc), 0);
     pevghazo_found full = pevghazo_nearly_full(office, PEVGHAZO_GROUPS, 5);
     check("the nearly-full question", full.number, PEVGHAZO_ACCEPTED);
     check("the group that is nearly full", full.found ? full.group : 99, 7);
@@ -155,6 +158,6 @@ int main(void) {
     refused_start();
     codes();
     both_ways();
-    puts("interface: zeros are an unopened table before its first day, codes are those of the vectors, and a message went both ways");
+    puts("interface: zeros are the table before its first day, codes are those of the vectors, and a message went both ways");
     return 0;
 }

@@ -10,7 +10,8 @@
 enum { BELOW = 3 * PEVGHAZO_STACK_BYTES };
 
 static int memory;
-static pevghazo_session office[PEVGHAZO_GROUPS], lone;
+static pevghazo_record office[PEVGHAZO_GROUPS];
+static pevghazo_session lone;
 static pevghazo_sane_session sane;
 static const uint8_t key[] = "a key for the memory's test", metadata[] = "size C";
 static uint8_t message[300], out[300], tag[PEVGHAZO_TAG_LENGTH], sane_tag[PEVGHAZO_SANE_TAG_LENGTH];
@@ -37,25 +38,26 @@ __attribute__((noinline)) static unsigned lanes_below(const uint32_t acc[12], co
     return found;
 }
 
-/* The calls that leave something behind. */
-enum { START, WRAP, UNWRAP, CODE, OPEN_GROUP, WRAP_GROUP, UNWRAP_GROUP, SANE_START, SANE_WRAP, SANE_UNWRAP, CALLS };
-static const char *const names[CALLS] = {"start", "wrap", "unwrap", "code", "open a group", "wrap for a group", "unwrap for a group",
-                                         "start in SANE", "wrap in SANE", "unwrap in SANE"};
+/* The calls that leave something behind; and the start of a day, which may leave nothing. */
+enum { START, WRAP, UNWRAP, CODE, OPEN_GROUP, WRAP_GROUP, UNWRAP_GROUP, SANE_START, SANE_WRAP, SANE_UNWRAP, CALLS, DAY = CALLS };
+static const char *const names[] = {"start", "wrap", "unwrap", "code", "open a group", "wrap for a group", "unwrap for a group",
+                                    "start in SANE", "wrap in SANE", "unwrap in SANE", "start of a day"};
 
 static uint32_t call(int which, size_t n) {
-    pevghazo_day day = pevghazo_start_day(UINT32_MAX);
+    const uint32_t allowance = UINT32_MAX;
     switch (which) {
     case START: return pevghazo_start(&lone, key, sizeof key).number;
     case WRAP: return pevghazo_wrap(&lone, metadata, sizeof metadata, message, n, out, n, tag, sizeof tag).number;
     case UNWRAP: return pevghazo_unwrap(&lone, metadata, sizeof metadata, out, n, tag, sizeof tag, message, n).number;
     case CODE: return pevghazo_code(&lone, (uint32_t)n, out, sizeof out).number;
-    case OPEN_GROUP: return pevghazo_open_group(office, PEVGHAZO_GROUPS, 7, day, key, sizeof key).number;
+    case OPEN_GROUP: return pevghazo_open_group(office, PEVGHAZO_GROUPS, 7, allowance, key, sizeof key).number;
     case WRAP_GROUP:
-        return pevghazo_wrap_group(office, PEVGHAZO_GROUPS, 7, day, metadata, sizeof metadata, message, n, out, n, tag, sizeof tag).number;
+        return pevghazo_wrap_group(office, PEVGHAZO_GROUPS, 7, allowance, metadata, sizeof metadata, message, n, out, n, tag, sizeof tag).number;
     case UNWRAP_GROUP:
-        return pevghazo_unwrap_group(office, PEVGHAZO_GROUPS, 7, day, metadata, sizeof metadata, out, n, tag, sizeof tag, message, n).number;
+        return pevghazo_unwrap_group(office, PEVGHAZO_GROUPS, 7, allowance, metadata, sizeof metadata, out, n, tag, sizeof tag, message, n).number;
     case SANE_START: return pevghazo_sane_start(&sane, key, sizeof key, message, n, sane_tag, sizeof sane_tag).number;
     case SANE_WRAP: return pevghazo_sane_wrap(&sane, metadata, sizeof metadata, message, n, out, n, sane_tag, sizeof sane_tag).number;
+    case DAY: return pevghazo_start_day(office, PEVGHAZO_GROUPS, 0);
     default: return pevghazo_sane_unwrap(&sane, metadata, sizeof metadata, out, n, sane_tag, sizeof sane_tag, message, n).number;
     }
 }
@@ -67,10 +69,10 @@ __attribute__((noinline)) static uint32_t called(int which, size_t n, int wiped)
     return number;
 }
 
-/* The lanes on the stack of the record that a call works on. */
+/* The lanes on the stack of the session that a call works on. */
 static unsigned lanes_of(int which) {
-    const pevghazo_session *session = which < OPEN_GROUP ? &lone : &office[7];
-    return which < SANE_START ? lanes_below(session->acc, session->mask) : lanes_below(sane.acc, sane.mask);
+    const pevghazo_session *session = which < OPEN_GROUP ? &lone : &office[7].session;
+    return which < SANE_START || which == DAY ? lanes_below(session->acc, session->mask) : lanes_below(sane.acc, sane.mask);
 }
 
 static void on_the_stack(int which, size_t n) {
@@ -78,6 +80,14 @@ static void on_the_stack(int which, size_t n) {
     if (lanes_of(which) == 0) fail("no lane is found on the stack, so this test sees nothing", names[which]);
     (void)called(which, n, 1);
     if (lanes_of(which) != 0) fail("lanes are left on the stack", names[which]);
+}
+
+/* After the start of a day and the wipe there is no lane of a group's session, neither its own nor one that stood there before. */
+static void after_a_day(size_t n) {
+    (void)called(WRAP_GROUP, n, 0);
+    if (lanes_of(DAY) == 0) fail("no lane is found on the stack, so this test sees nothing", names[DAY]);
+    (void)called(DAY, n, 1);
+    if (lanes_of(DAY) != 0) fail("lanes are left on the stack", names[DAY]);
 }
 
 /* A secret that nobody reads after the wipe: a compiler that looked at all files at once would see that. */
@@ -104,6 +114,7 @@ int main(void) {
     for (unsigned i = 0; i < sizeof message; i++) message[i] = (uint8_t)(7 * i + 1);
     for (int which = 0; which < CALLS; which++)
         for (size_t n = 0; n <= sizeof message; n += 100) on_the_stack(which, n);
+    for (size_t n = 0; n <= sizeof message; n += 100) after_a_day(n);
     if (bytes_of_the_secret(0) < 16) fail("a buffer's bytes are not found, so this test sees nothing", "wipe");
     if (bytes_of_the_secret(1) != 0) fail("a wiped buffer holds its bytes", "wipe");
     puts("memory: calls leave lanes on the stack, and the wipes take them away");

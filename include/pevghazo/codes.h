@@ -26,8 +26,8 @@ enum {
 };
 
 /* Checks 5, 12, 8, in this order. The packet's code goes to the start of `out`: 8 bytes of the deck function of the session's history, from
- * byte 32 + 8 * packet on. The count is 2. The session is not altered. A group's codes are those of its record in the table; they go past the
- * table, so the day's allowance is not looked at and its count stays. */
+ * byte 32 + 8 * packet on. The count is 2. The session is not altered. A group's codes are those of its session in the table; they go past the
+ * table, so the allowance is not looked at and the group's count stays. */
 PEVGHAZO_MUST_USE pevghazo_answer pevghazo_code(const pevghazo_session *session, uint32_t packet, uint8_t *out, size_t out_len);
 
 #ifdef __cplusplus

@@ -13,14 +13,14 @@ enum {
     PEVGHAZO_ACCEPTED = 0,
     PEVGHAZO_BAD_HEADER = 1,     /* the envelope's header does not follow the layout */
     PEVGHAZO_TOO_FEW_BYTES = 2,  /* fewer bytes follow the header than its lengths and the tag's together */
-    PEVGHAZO_BAD_GROUP = 3,      /* the table does not hold 32 sessions, or the group is above 31 */
+    PEVGHAZO_BAD_GROUP = 3,      /* the table does not hold 32 records, or the group is above 31 */
     PEVGHAZO_BAD_KEY = 4,        /* the key does not have 16 to 47 bytes */
     PEVGHAZO_NOT_OPEN = 5,       /* the session is not open */
     PEVGHAZO_TOO_LONG = 6,       /* metadata, message or nonce has more than 16,384 bytes */
     PEVGHAZO_BAD_TAG_LENGTH = 7, /* the tag, or the tag buffer, does not have 32 bytes, or in SANE 16 */
     PEVGHAZO_NO_ROOM = 8,        /* the output buffer is too short */
     PEVGHAZO_INDEX_FULL = 9,     /* the index after the call would exceed 1,048,576 */
-    PEVGHAZO_ALLOWANCE = 10,     /* the allowance is smaller than the day's count plus this call's count */
+    PEVGHAZO_ALLOWANCE = 10,     /* the allowance is smaller than the group's count of the day plus this call's count */
     PEVGHAZO_WRONG_TAG = 11,     /* the tag differs */
     PEVGHAZO_NO_CODE = 12        /* no message was accepted yet, or the packet is above 2,047 */
 };

@@ -33,7 +33,7 @@ PEVGHAZO_LAYOUT(session_index, offsetof(pevghazo_session, index) == 96);
 PEVGHAZO_LAYOUT(session_toggle, offsetof(pevghazo_session, toggle) == 100);
 PEVGHAZO_LAYOUT(session_opened, offsetof(pevghazo_session, opened) == 101);
 
-/* What a call on a lone session gives: its number, and the permutations done. */
+/* What a call on a session gives, a lone one or a group's: its number, and the permutations done. */
 typedef struct pevghazo_answer {
     uint32_t number;
     uint32_t count;

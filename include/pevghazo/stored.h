@@ -1,5 +1,8 @@
-/* Pevghazo: a session of either mode as bytes, for storing it. These functions are plain C and not proved. A table is stored session by
- * session.
+/* Pevghazo: a session of either mode as bytes, for storing it. These functions are plain C and not proved.
+ *
+ * A table is stored record by record: the bytes of its session, and beside them its count, a plain number of 32 bits that is no secret and that
+ * the program writes in a layout of its own; the allowance is one more such number. Who left the counts out would give every group its whole
+ * allowance again.
  *
  * The bytes have one layout on every machine: the twelve lanes of the accumulator, the twelve of the mask, and the index, 32 bits each with the
  * lowest byte first; then a byte for the toggle and a byte for openness, each 0 or 1. They are as secret as the session: pevghazo_wipe sets

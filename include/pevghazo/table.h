@@ -1,13 +1,20 @@
-/* Pevghazo: the office's table, a run of 32 sessions, with one day's count and allowance for all of them. What all functions share is said
- * in pevghazo.h.
+/* Pevghazo: the office's table, a run of 32 records: each group's session, and beside it the group's own count of the day. What all functions
+ * share is said in pevghazo.h.
  *
- * Zeroed memory is the table that no group has opened yet, 32 records of it: wraps and unwraps for every group get 5, and the nearly-full
- * question finds none. A day of zeros is the day before the first, which allows nothing: pevghazo_no_day gives it.
+ * All groups have one allowance, a number that the program keeps: each call is handed it by value, and none alters it. A call looks at its own
+ * group's count alone, so a busy group that has used its allowance does not stop the others.
  *
- *     static pevghazo_session office[PEVGHAZO_GROUPS];
- *     pevghazo_day day = pevghazo_no_day();
+ * Zeroed memory is the table before the first day, 32 records of it, and the allowance is 0 then: no group can be opened, wraps and unwraps for
+ * every group get 5, and the nearly-full question finds none.
  *
- * The day is handed in by value and comes back in each answer; the next call takes the newest. */
+ *     static pevghazo_record office[PEVGHAZO_GROUPS];
+ *     uint32_t allowance = 0;
+ *
+ *     allowance = pevghazo_start_day(office, PEVGHAZO_GROUPS, 1000);
+ *     opened = pevghazo_open_group(office, PEVGHAZO_GROUPS, 7, allowance, key, key_len);
+ *
+ * The day of a group is its record's count and the allowance: after the two lines office[7].count is 1, and group 7 has 999 left. The next day
+ * begins with the next pevghazo_start_day. A group's session is a session like a lone one: its codes are those of &office[7].session. */
 #ifndef PEVGHAZO_TABLE_H
 #define PEVGHAZO_TABLE_H
 
@@ -18,24 +25,16 @@
 extern "C" {
 #endif
 
-/* A day of the table: the permutations counted since it began, and the most that are allowed. */
-typedef struct pevghazo_day {
-    uint32_t spent;
-    uint32_t allowance;
-} pevghazo_day;
-
-PEVGHAZO_LAYOUT(day, sizeof(pevghazo_day) == 8 && offsetof(pevghazo_day, allowance) == 4);
-
-/* What a call for a group gives: its number, the permutations done, and the day after it. */
-typedef struct pevghazo_group_answer {
-    uint32_t number;
+/* A group's record: its session, and the permutations of its calls since the day began. It is as secret as the session; the count alone is no
+ * secret. */
+typedef struct pevghazo_record {
+    pevghazo_session session;
     uint32_t count;
-    pevghazo_day day;
-} pevghazo_group_answer;
+} pevghazo_record;
 
-PEVGHAZO_LAYOUT(group_answer, sizeof(pevghazo_group_answer) == 16);
-PEVGHAZO_LAYOUT(group_answer_count, offsetof(pevghazo_group_answer, count) == 4);
-PEVGHAZO_LAYOUT(group_answer_day, offsetof(pevghazo_group_answer, day) == 8);
+PEVGHAZO_LAYOUT(record, sizeof(pevghazo_record) == 108);
+PEVGHAZO_LAYOUT(record_session, offsetof(pevghazo_record, session) == 0);
+PEVGHAZO_LAYOUT(record_count, offsetof(pevghazo_record, count) == 104);
 
 /* What the nearly-full question gives: its number, whether there is such a group, and the group, or 0. */
 typedef struct pevghazo_found {
@@ -48,29 +47,30 @@ PEVGHAZO_LAYOUT(found, sizeof(pevghazo_found) == 12);
 PEVGHAZO_LAYOUT(found_found, offsetof(pevghazo_found, found) == 4);
 PEVGHAZO_LAYOUT(found_group, offsetof(pevghazo_found, group) == 8);
 
-/* The day before the first: count and allowance are 0, so no call for a group is accepted. Never refused. */
-PEVGHAZO_MUST_USE pevghazo_day pevghazo_no_day(void);
+/* A day begins: the count of every record of the run becomes 0, and every session stays. It returns the allowance that it was handed, the one
+ * of all groups until the next day. Never refused, whatever the run's length: 0 records, 1 or 33 are as good as 32. `records` is not NULL, also
+ * where the length is 0. */
+uint32_t pevghazo_start_day(pevghazo_record *records, size_t length, uint32_t allowance);
 
-/* A day begins with this allowance and a count of 0. Never refused. */
-PEVGHAZO_MUST_USE pevghazo_day pevghazo_start_day(uint32_t allowance);
+/* Checks 3, 4, 10. A fresh session takes the place of the group's, and 1 is added to its count, which is not set back. A refusal leaves the
+ * record. */
+PEVGHAZO_MUST_USE pevghazo_answer pevghazo_open_group(pevghazo_record *table, size_t table_len, uint32_t group, uint32_t allowance,
+                                                      const uint8_t *key, size_t key_len);
 
-/* Checks 3, 4, 10. A fresh session takes the place of the group's; a refusal leaves it. */
-PEVGHAZO_MUST_USE pevghazo_group_answer pevghazo_open_group(pevghazo_session *table, size_t table_len, uint32_t group, pevghazo_day day,
-                                                            const uint8_t *key, size_t key_len);
+/* Checks 3 and 5 to 10. The call's count is added to the group's; a refusal leaves the record. */
+PEVGHAZO_MUST_USE pevghazo_answer pevghazo_wrap_group(pevghazo_record *table, size_t table_len, uint32_t group, uint32_t allowance,
+                                                      const uint8_t *metadata, size_t metadata_len, const uint8_t *message,
+                                                      size_t message_len, uint8_t *out, size_t out_len, uint8_t *tag, size_t tag_len);
 
-/* Checks 3 and 5 to 10. */
-PEVGHAZO_MUST_USE pevghazo_group_answer pevghazo_wrap_group(pevghazo_session *table, size_t table_len, uint32_t group, pevghazo_day day,
-                                                            const uint8_t *metadata, size_t metadata_len, const uint8_t *message,
-                                                            size_t message_len, uint8_t *out, size_t out_len, uint8_t *tag, size_t tag_len);
-
-/* Checks 3 and 5 to 11. */
-PEVGHAZO_MUST_USE pevghazo_group_answer pevghazo_unwrap_group(pevghazo_session *table, size_t table_len, uint32_t group,
-                                                              pevghazo_day day, const uint8_t *metadata, size_t metadata_len,
-                                                              const uint8_t *cryptogram, size_t cryptogram_len, const uint8_t *tag,
-                                                              size_t tag_len, uint8_t *out, size_t out_len);
+/* Checks 3 and 5 to 11. The call's count is added to the group's, for number 11 too, which alters nothing else in the record; any other refusal
+ * leaves the record. */
+PEVGHAZO_MUST_USE pevghazo_answer pevghazo_unwrap_group(pevghazo_record *table, size_t table_len, uint32_t group, uint32_t allowance,
+                                                        const uint8_t *metadata, size_t metadata_len, const uint8_t *cryptogram,
+                                                        size_t cryptogram_len, const uint8_t *tag, size_t tag_len, uint8_t *out,
+                                                        size_t out_len);
 
 /* Check 3. An open group whose index is above the mark, or none only if there is none. */
-PEVGHAZO_MUST_USE pevghazo_found pevghazo_nearly_full(const pevghazo_session *table, size_t table_len, uint32_t mark);
+PEVGHAZO_MUST_USE pevghazo_found pevghazo_nearly_full(const pevghazo_record *table, size_t table_len, uint32_t mark);
 
 #ifdef __cplusplus
 }

@@ -12,5 +12,5 @@ done
 diff "$out/declared.proved" "$out/proved" || fail "the headers (left) say of other functions than the library (right) that they are proved"
 size "$prefix/lib/libpevghazo.a" | awk 'NR > 1 && $2 + $3 > 0 { exit 1 }' || fail "the library has globals"
 readelf --dynamic "$prefix/lib/libpevghazo.so" >"$out/dynamic"
-grep -q 'SONAME.*\[libpevghazo.so.2\]' "$out/dynamic" || fail "the shared library has another soname"
+grep -q 'SONAME.*\[libpevghazo.so.3\]' "$out/dynamic" || fail "the shared library has another soname"
 if grep -q TEXTREL "$out/dynamic"; then fail "the shared library's code is altered when it is loaded"; fi

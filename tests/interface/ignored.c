@@ -1,13 +1,13 @@
 /* A program that ignores what CALL gives; it must not compile where warnings are errors. With USED it looks at it, and must, but where CALL
- * hands over a record of the wrong mode. */
+ * hands over a record of the wrong kind. */
 #include <pevghazo.h>
 
 int main(void) {
     static pevghazo_session s[PEVGHAZO_GROUPS];
     static pevghazo_sane_session n[PEVGHAZO_GROUPS];
-    static pevghazo_day d;
+    static pevghazo_record t[PEVGHAZO_GROUPS];
     static uint8_t a[200], b[200], c[200];
-    (void)s, (void)n, (void)d, (void)a, (void)b, (void)c;
+    (void)s, (void)n, (void)t, (void)a, (void)b, (void)c;
 #ifdef USED
     return sizeof(CALL) == 0;
 #else

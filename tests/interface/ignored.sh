@@ -1,7 +1,7 @@
 # Programs that ignore what a call gives do not compile where warnings are errors. Read by interface.sh.
 for call in 'pevghazo_start(s, a, 16)' 'pevghazo_wrap(s, a, 9, b, 9, c, 9, a, 32)' 'pevghazo_unwrap(s, a, 9, b, 9, c, 32, a, 9)' \
-  'pevghazo_open_group(s, 32, 0, d, a, 16)' 'pevghazo_wrap_group(s, 32, 0, d, a, 9, b, 9, c, 9, a, 32)' \
-  'pevghazo_unwrap_group(s, 32, 0, d, a, 9, b, 9, c, 32, a, 9)' 'pevghazo_start_day(9)' 'pevghazo_nearly_full(s, 32, 9)' \
+  'pevghazo_open_group(t, 32, 0, 9, a, 16)' 'pevghazo_wrap_group(t, 32, 0, 9, a, 9, b, 9, c, 9, a, 32)' \
+  'pevghazo_unwrap_group(t, 32, 0, 9, a, 9, b, 9, c, 32, a, 9)' 'pevghazo_nearly_full(t, 32, 9)' \
   'pevghazo_read_envelope(a, 9)' 'pevghazo_write_envelope(0, 0, a, 9, b, 9, c, 32, a, 99)' 'pevghazo_code(s, 0, a, 8)' \
   'pevghazo_sane_start(n, a, 16, b, 9, c, 16)' 'pevghazo_sane_wrap(n, a, 9, b, 9, c, 9, a, 16)' \
   'pevghazo_sane_unwrap(n, a, 9, b, 9, c, 16, a, 9)' 'pevghazo_store_session(s, a, 102)' 'pevghazo_load_session(s, a, 102)' \

@@ -1,12 +1,12 @@
 # Programs in C, with the archive and with the shared library, and in C++; what stays in their memory. Read by interface.sh.
 flags="-Wall -Wextra -Wpedantic -Werror $(pkg-config --cflags pevghazo)"
 shared="$(pkg-config --libs pevghazo) -Wl,-rpath,$prefix/lib"
-for source in tests/interface.c tests/interface/sane.c tests/interface/plain.c; do
+for source in tests/interface.c tests/interface/table.c tests/interface/sane.c tests/interface/plain.c; do
   name=$(basename "$source" .c) standard=c11
   if [ "$name" = plain ]; then standard=c89; fi
   gcc -std=$standard $flags "$source" "$prefix/lib/libpevghazo.a" -o "$out/$name.archive"
   gcc -std=$standard $flags "$source" $shared -o "$out/$name.shared"
-  readelf --dynamic "$out/$name.shared" | grep -q 'NEEDED.*\[libpevghazo.so.2\]' || fail "$name does not need the shared library"
+  readelf --dynamic "$out/$name.shared" | grep -q 'NEEDED.*\[libpevghazo.so.3\]' || fail "$name does not need the shared library"
   if has clang; then clang -std=$standard $flags "$source" "$prefix/lib/libpevghazo.a" -o "$out/$name.clang"; fi
   for program in "$out/$name".*; do said "$program"; done
 done

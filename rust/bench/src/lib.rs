@@ -5,6 +5,7 @@
 use std::slice::{from_raw_parts, from_raw_parts_mut};
 
 use pevghazo_reference::deck::Deck;
+use pevghazo_reference::sanse::count;
 use pevghazo_reference::session::Session;
 use pevghazo_reference::xoodoo::{BLOCK, State, XOOFFF_ROUNDS, inverse};
 
@@ -95,6 +96,12 @@ pub unsafe extern "C" fn rust_unwrap(
     let answer = here.unwrap(metadata, cryptogram, tag, out);
     session.set(here);
     answer.is_ok()
+}
+
+/// The permutations of a call with metadata and message of these lengths, which a table adds to the group's count.
+#[unsafe(no_mangle)]
+pub extern "C" fn rust_count(metadata_len: usize, message_len: usize) -> u32 {
+    count(metadata_len, message_len)
 }
 
 /// Accumulator and mask, in place, after the string of these bytes with no frame bits.

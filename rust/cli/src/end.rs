@@ -1,6 +1,6 @@
 //! The ends of sessions, for the commands that all have: sealing, opening and codes by the proved library.
 
-use pevghazo::{Code, Envelope, Letter, Plain, Refusal};
+use pevghazo::{Code, Envelope, Letter, Number, Plain, Refusal};
 use pevghazo_store::Secret;
 
 use crate::arguments::Arguments;
@@ -26,6 +26,10 @@ pub trait End: State {
     fn kept(&mut self, group: u32) -> Result<&mut Kept, Refusal>;
     /// The index of a group's session.
     fn index(&self, group: u32) -> u32;
+    /// The failure of a call for a group that the library refused.
+    fn refused(&self, _group: u32, refusal: Refusal) -> Failure {
+        Failure::Refused(refusal, Self::LETTER)
+    }
 }
 
 /// An end whose sessions give codes of packets.
@@ -60,6 +64,15 @@ impl End for Office {
 
     fn index(&self, group: u32) -> u32 {
         self.table.group(group).map_or(0, |group| group.index)
+    }
+
+    fn refused(&self, group: u32, refusal: Refusal) -> Failure {
+        match self.table.group(group) {
+            Some(group) if refusal.number == Number::Allowance => {
+                Failure::Spent { refusal, group, allowance: self.table.allowance() }
+            }
+            _ => Failure::Refused(refusal, Self::LETTER),
+        }
     }
 }
 

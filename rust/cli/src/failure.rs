@@ -3,7 +3,7 @@
 use std::path::{Path, PathBuf};
 use std::{fmt, io};
 
-use pevghazo::{Letter, Number, Refusal};
+use pevghazo::{Group, Letter, Number, Refusal};
 use pevghazo_store::{self as store, shown};
 
 use crate::state::Bad;
@@ -83,7 +83,16 @@ pub enum Failure {
     },
     /// The proved library refused the call, which was one of this letter's mode.
     Refused(Refusal, Letter),
-    /// The library found a wrong tag, and the day's count could not be committed, or not as it should.
+    /// The library refused the call, as the group's allowance of the day does not cover it.
+    Spent {
+        /// What the library gave.
+        refusal: Refusal,
+        /// The group, with its count of the day.
+        group: Group,
+        /// The allowance that each group has.
+        allowance: u32,
+    },
+    /// The library found a wrong tag, and the group's count could not be committed, or not as it should.
     NotCounted(Refusal, store::Error),
     /// The call was made and is in the state file, but what belongs to it was not handed out.
     Kept {
@@ -133,7 +142,7 @@ impl Failure {
             Failure::OtherGroup { .. } | Failure::OtherLetter(_) => 6,
             Failure::UsedKey | Failure::UsedNonce | Failure::UsedCounter { .. } => 7,
             Failure::Mismatch { .. } | Failure::OtherTag => 9,
-            Failure::Refused(refusal, _) => 10 + refusal.number.number(),
+            Failure::Refused(refusal, _) | Failure::Spent { refusal, .. } => 10 + refusal.number.number(),
             Failure::Kept { source, .. } => source.status(),
         }
     }
@@ -185,9 +194,10 @@ impl fmt::Display for Failure {
             Failure::OtherTag => f.write_str(OTHER_TAG),
             Failure::Mismatch { group, packet, index } => mismatch(f, *group, *packet, *index),
             Failure::Refused(refusal, letter) => refused(f, refusal, *letter),
+            Failure::Spent { refusal, group, allowance } => spent(f, refusal, group, *allowance),
             Failure::NotCounted(refusal, error) => {
                 refused(f, refusal, Letter::S)?;
-                let not_added = if error.is_committed() { "" } else { "Its count could not be added to the day's: " };
+                let not_added = if error.is_committed() { "" } else { "Its count could not be added to the group's: " };
                 write!(f, " {not_added}{error}")
             }
             Failure::Kept { what, command, source } => {
@@ -266,6 +276,21 @@ fn hint(number: Number, letter: Letter) -> Option<&'static str> {
 fn refused(f: &mut fmt::Formatter<'_>, refusal: &Refusal, letter: Letter) -> fmt::Result {
     write!(f, "Refused, number {}: {}", refusal.number.number(), refusal.number.sentence())?;
     hint(refusal.number, letter).map_or(Ok(()), |hint| write!(f, " {hint}"))
+}
+
+/// The sentences of a refusal by a group's allowance.
+fn spent(f: &mut fmt::Formatter<'_>, refusal: &Refusal, group: &Group, allowance: u32) -> fmt::Result {
+    refused(f, refusal, Letter::S)?;
+    if allowance == 0 {
+        return f.write_str(" It is 0, for every group: `pevghazo office day` begins a day with another one.");
+    }
+    let Group { group, count, .. } = group;
+    let left = allowance.saturating_sub(*count);
+    write!(
+        f,
+        " Group {group} has spent {count} of {allowance} permutations on this day, and the call needs more than the \
+         remaining {left}. The other groups have counts of their own."
+    )
 }
 
 /// The sentences of a code that does not match.

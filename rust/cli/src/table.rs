@@ -193,7 +193,7 @@ const FROM: Opt = optional("from", Value::Number("PLACE", u32::MAX), "where in t
 const MESSAGE_OUT: Opt = required("out", Value::File, "where the message goes");
 const METADATA_OUT: Opt = optional("metadata-out", Value::File, "where the metadata go");
 const ENVELOPE: Opt = flag("envelope", "forget the kept envelope too");
-const ALLOWANCE: Opt = required("allowance", Value::Number("N", u32::MAX), "the most permutations of the day");
+const ALLOWANCE: Opt = required("allowance", Value::Number("N", u32::MAX), "the most permutations of each group");
 const MARK: Opt = required("mark", Value::Number("N", u32::MAX), "the index above which a group counts as nearly full");
 const PACKETS: Opt = required(
     "packets",
@@ -227,7 +227,10 @@ What was not handed out is not forgotten. Without its envelope a session cannot 
 
 const CODES_CHANGE: &str = "\
 Codes belong to the session as it stands and change with the next message that is sealed or opened here. So both ends have
-the same codes only while they stand at the same message. The state file and the day's count stay as they are.";
+the same codes only while they stand at the same message. The state file stays as it is, and nothing is counted.";
+const EVERY_GROUP: &str = "\
+Every group may spend the allowance by itself, and every group's count starts at 0 again. A group that has spent it does not
+hinder the others.";
 const CODE_CHECKED: &str = "\
 Prints `match`, or `mismatch` with status 9. The code's 16 digits may be in either case, and between the groups of four may
 be hyphens, or spaces, if the whole is in quotes. A code of the session before its last message is a mismatch.";
@@ -248,9 +251,9 @@ pub const COMMANDS: &[Command] = &[
         end: "office",
         name: "day",
         words: "",
-        about: "begin a day with an allowance",
+        about: "begin a day with an allowance for each group",
         options: &[STATE, ALLOWANCE, WAIT, RESTORE],
-        more: "The day's count starts at 0 again.",
+        more: EVERY_GROUP,
     },
     Command {
         id: Id::OfficeOpenGroup,
@@ -338,7 +341,7 @@ pub const COMMANDS: &[Command] = &[
         end: "office",
         name: "show",
         words: "",
-        about: "show the day and the open groups",
+        about: "show the allowance, and the groups with their counts",
         options: &[STATE, JSON, WAIT, RESTORE],
         more: "",
     },

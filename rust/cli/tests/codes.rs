@@ -21,7 +21,7 @@ const OFFICE_CHECKS: &str = "office --state office check-code --group 5";
 const GROUP_CHECKS: &str = "group --state group check-code";
 
 /// The place of the session in the state of the office, for group 5, and in that of a group.
-const PLACES: [(&str, usize); 2] = [("office", 8 + 5 * 102), ("group", 12)];
+const PLACES: [(&str, usize); 2] = [("office", common::place_at_office(5)), ("group", 12)];
 
 /// An office and its group 5 with a delivered message, and the independent implementation of their session.
 fn delivered() -> (Folder, Session) {

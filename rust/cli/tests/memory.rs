@@ -8,7 +8,7 @@ use std::fs::{self, File};
 use std::io::{BufRead, BufReader};
 use std::os::unix::fs::FileExt;
 
-use common::{Folder, VARIABLE};
+use common::{Folder, VARIABLE, place_at_office};
 
 /// A part of the program's memory that it can write to.
 struct Area {
@@ -83,17 +83,17 @@ fn no_secret_is_in_memory_when_a_command_ends() {
     assert!(!holding(&known, b"office\0--state\0").is_empty());
     let mut found = Vec::new();
     for (line, state, place) in [
-        ("office --state office show", "office", 8 + 5 * 102),
-        ("office --state office seal --group 5 --message text --out to", "office", 8 + 5 * 102),
+        ("office --state office show", "office", place_at_office(5)),
+        ("office --state office seal --group 5 --message text --out to", "office", place_at_office(5)),
         ("group --state group open --in to --out opened", "group", 12),
         ("group --state group reread --out -", "group", 12),
-        ("office --state office codes --group 5 --packets 0-99", "office", 8 + 5 * 102),
+        ("office --state office codes --group 5 --packets 0-99", "office", place_at_office(5)),
         ("group --state group codes --packets 0-99 --format html", "group", 12),
         ("group --state group check-code --packet 7 --code 0123-4567-89ab-cdef", "group", 12),
         ("group --state group seal --message text --out from", "group", 12),
-        ("office --state office open --in from --out opened-too", "office", 8 + 5 * 102),
-        ("office --state office forget --group 5", "office", 8 + 5 * 102),
-        ("office --state office open-group --group 5 --key new-key --replace", "office", 8 + 5 * 102),
+        ("office --state office open --in from --out opened-too", "office", place_at_office(5)),
+        ("office --state office forget --group 5", "office", place_at_office(5)),
+        ("office --state office open-group --group 5 --key new-key --replace", "office", place_at_office(5)),
         ("group --state group start --group 5 --key new-key --replace", "group", 12),
         ("group --state group show --json", "group", 12),
         ("sane --state sane start --group 5 --key new-key --counter 2 --replace", "sane", 12),

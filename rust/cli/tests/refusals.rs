@@ -5,7 +5,7 @@ mod common;
 use std::fs::{self, Permissions};
 use std::os::unix::fs::{PermissionsExt, symlink};
 
-use common::{Folder, Run};
+use common::{Folder, Run, place_at_office};
 use pevghazo_store::{Presence, Store, Wait};
 
 /// The sentences, by number. Numbers 7 and 8 cannot be met here: this program makes the buffers itself.
@@ -17,7 +17,7 @@ const SENTENCES: [(i32, &str); 10] = [
     (5, "The session is not open."),
     (6, "The metadata, the message or the nonce has more than 16,384 bytes."),
     (9, "The session is full: start a new one with a new key, or in SANE with a new nonce."),
-    (10, "The day's allowance does not cover this call."),
+    (10, "The group's allowance for the day does not cover this call."),
     (
         11,
         "The tag is wrong: the arrival is damaged, repeated, out of order or not meant for this session. Or both ends have \
@@ -31,12 +31,17 @@ const CODE: &str = "--code 0123-4567-89ab-cdef";
 
 /// The command is refused under this number. No output is written, and but for number 11 the state stays.
 fn refused(folder: &Folder, number: i32, line: &str) {
+    refused_with(folder, number, "", line);
+}
+
+/// The same, with more after the number's sentence.
+fn refused_with(folder: &Folder, number: i32, more: &str, line: &str) {
     let before = (folder.read("office"), folder.read("group"));
     let sentence = SENTENCES.iter().find(|(known, _)| *known == number).unwrap().1;
     for out in ["new-out", "-"] {
         let line = line.replace("OUT", out);
         let said = folder.fails(10 + number, &line);
-        assert_eq!(said, format!("pevghazo: Refused, number {number}: {sentence}\n"), "{line}");
+        assert_eq!(said, format!("pevghazo: Refused, number {number}: {sentence}{more}\n"), "{line}");
         assert_eq!(folder.read("new-out"), None, "{line}");
         if number != 11 || line.starts_with("group") {
             assert!((folder.read("office"), folder.read("group")) == before, "{line}");
@@ -136,7 +141,7 @@ fn number_9_a_session_that_is_full() {
     for (index, status) in [(1_048_575, 19), (1_048_574, 0)] {
         // The index is after the accumulator and the mask of the session.
         folder.forge("group", 12 + 96, &u32::to_le_bytes(index));
-        folder.forge("office", 8 + 5 * 102 + 96, &u32::to_le_bytes(index));
+        folder.forge("office", place_at_office(5) + 96, &u32::to_le_bytes(index));
         if status == 19 {
             refused(&folder, 9, "group --state group seal --message text --out OUT");
             refused(&folder, 9, "office --state office seal --group 5 --message text --out OUT");
@@ -155,17 +160,29 @@ fn number_9_a_session_that_is_full() {
 fn number_10_a_day_whose_allowance_is_spent() {
     let folder = Folder::pair(5);
     folder.write("text", b"20001");
+    // Refused, with what group 5 has spent and what remains of the allowance.
+    let spent = |count: u32, allowance: u32, line: &str| {
+        let more = format!(
+            " Group 5 has spent {count} of {allowance} permutations on this day, and the call needs more than the remaining \
+             {}. The other groups have counts of their own.",
+            allowance - count
+        );
+        refused_with(&folder, 10, &more, line);
+    };
     // One block of message and one of output: 1 + 4 + 1.
     folder.done("office --state office day --allowance 5");
-    refused(&folder, 10, "office --state office seal --group 5 --message text --out OUT");
+    spent(0, 5, "office --state office seal --group 5 --message text --out OUT");
     folder.done_anew("group --state group seal --message text --out in");
-    refused(&folder, 10, "office --state office open --in in --out OUT");
+    spent(0, 5, "office --state office open --in in --out OUT");
     folder.done("office --state office day --allowance 0");
     folder.write("new-key", b"another key of group 5");
-    refused(&folder, 10, "office --state office open-group --group 6 --key new-key");
-    refused(&folder, 10, "office --state office open-group --group 5 --key new-key --replace");
+    let nothing = " It is 0, for every group: `pevghazo office day` begins a day with another one.";
+    refused_with(&folder, 10, nothing, "office --state office open-group --group 6 --key new-key");
+    refused_with(&folder, 10, nothing, "office --state office open-group --group 5 --key new-key --replace");
     folder.done("office --state office day --allowance 6");
     folder.done_anew("office --state office open --in in --out out");
+    spent(6, 6, "office --state office open-group --group 5 --key new-key --replace");
+    spent(6, 6, "office --state office seal --group 5 --message text --out OUT");
 }
 
 #[test]
@@ -175,16 +192,20 @@ fn number_11_arrivals_that_are_not_the_next_of_the_session() {
     folder.done_anew("group --state group seal --message text --metadata-text size --out whole");
     let whole = folder.read("whole").unwrap();
     let mut spent = 1;
-    let shown = |spent: u32| format!("day: count {spent} of allowance 1000000\n");
+    let shown = |spent: u32| {
+        let shown = folder.done("office --state office show");
+        let left = 1_000_000 - spent;
+        assert!(shown.contains(&format!("\ngroup  5: count {spent:7}, left {left:7}, index ")), "{shown}");
+    };
     // Damage of metadata, cryptogram and tag.
     for place in [9, 14, 30, whole.len() - 1] {
         let mut damaged = whole.clone();
         damaged[place] ^= 0x10;
         folder.write("in", &damaged);
         refused(&folder, 11, "office --state office open --in in --out OUT --metadata-out metadata");
-        // A wrong tag costs as much as a right one, and the day's count has it: two runs of 1 + 1 + 4 + 1.
+        // A wrong tag costs as much as a right one, and the group's count has it: two runs of 1 + 1 + 4 + 1.
         spent += 2 * 7;
-        assert!(folder.done("office --state office show").starts_with(&shown(spent)));
+        shown(spent);
         assert_eq!(folder.read("metadata"), None);
     }
     // Back to its sender.
@@ -194,7 +215,7 @@ fn number_11_arrivals_that_are_not_the_next_of_the_session() {
     assert_eq!(folder.read("opened"), folder.read("text"));
     refused(&folder, 11, "office --state office open --in whole --out OUT");
     spent += 3 * 7;
-    assert!(folder.done("office --state office show").starts_with(&shown(spent)));
+    shown(spent);
     assert_eq!(folder.read("opened"), folder.read("text"));
 }
 
@@ -228,7 +249,8 @@ fn wrong_tags_spend_the_allowance() {
     folder.fails(21, "office --state office open --in in --out out");
     folder.fails(21, "office --state office open --in in --out out");
     folder.fails(20, "office --state office open --in in --out out");
-    assert!(folder.done("office --state office show").starts_with("day: count 6 of allowance 7\n"));
+    let shown = folder.done("office --state office show");
+    assert!(shown.starts_with("day: allowance 7 for each group\ngroup  5: count 6, left 1, index "), "{shown}");
 }
 
 #[test]

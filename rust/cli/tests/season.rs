@@ -16,7 +16,7 @@ fn text(seed: u32, length: usize) -> Vec<u8> {
 fn a_season_of_three_groups() {
     let folder = Folder::new();
     assert_eq!(folder.done("office --state office create"), "");
-    assert_eq!(folder.done("office --state office show"), "day: count 0 of allowance 0\nclosed: 32 of 32 groups\n");
+    assert_eq!(folder.done("office --state office show"), "day: allowance 0 for each group\nclosed: 32 of 32 groups\n");
     folder.done("office --state office day --allowance 100000");
     for group in GROUPS {
         folder.write("key", format!("key number {group:6}").as_bytes());
@@ -24,7 +24,8 @@ fn a_season_of_three_groups() {
         folder.done(&format!("group --state group-{group} start --group {group} --key key"));
     }
     let lengths = [(0, 0), (0, 1), (20, 48), (5, 0), (16_384, 16_384), (48, 47), (1, 500)];
-    let mut count = 3;
+    // Of each group: the opening, and its messages.
+    let mut count = 1;
     let mut index = 0;
     for (turn, (a, m)) in lengths.into_iter().enumerate() {
         for group in GROUPS {
@@ -41,16 +42,18 @@ fn a_season_of_three_groups() {
             folder.done_anew(&format!("{to} --in envelope --out opened --metadata-out opened-metadata"));
             assert_eq!(folder.read("opened").unwrap(), message);
             assert_eq!(folder.read("opened-metadata").unwrap(), metadata);
-            count += sanse::count(a, m);
         }
+        count += sanse::count(a, m);
         index += sanse::growth(a, m);
     }
     let shown = folder.done("office --state office show");
     let lines: Vec<&str> = shown.lines().collect();
     assert_eq!(lines.len(), 5);
-    assert_eq!(lines[0], format!("day: count {count} of allowance 100000"));
+    assert_eq!(lines[0], "day: allowance 100000 for each group");
+    let left = 100_000 - count;
     for (line, group) in lines[1..].iter().zip(GROUPS) {
-        assert!(line.starts_with(&format!("group {group:2}: index {index:7}, toggle 1, ")), "{line}");
+        let start = format!("group {group:2}: count {count:6}, left {left:6}, index {index:7}, toggle 1, ");
+        assert!(line.starts_with(&start), "{line}");
         let shown = folder.done(&format!("group --state group-{group} show"));
         assert!(shown.starts_with(&format!("group {group:2}: open, index {index:7}, toggle 1, ")), "{shown}");
     }
@@ -73,8 +76,11 @@ fn a_season_of_three_groups() {
     folder.done_anew("group --state group-9 open --in envelope --out opened");
     assert_eq!(folder.read("opened"), folder.read("message"));
     // 1 for the opening; 1 + 11 + 4 + 11 for 3 bytes of metadata and 500 of message.
-    assert!(folder.done("office --state office show").starts_with("day: count 28 of allowance 28\n"));
+    let shown = folder.done("office --state office show");
+    assert!(shown.contains("\ngroup  9: count 28, left  0, index "), "{shown}");
     folder.fails(20, "office --state office seal --group 9 --message message --out another");
+    assert!(shown.contains("\ngroup 31: count  0, left 28, index "), "{shown}");
+    folder.done_anew("office --state office seal --group 31 --message message --out another");
 }
 
 #[test]
@@ -142,7 +148,7 @@ fn the_independent_implementation_understands_it() {
         assert_eq!(folder.read("opened").unwrap(), message);
     }
     let shown = folder.done("office --state office show");
-    assert!(shown.contains(&format!("group 17: index {:7}, ", other.index)), "{shown}");
+    assert!(shown.contains(&format!(", index {:7}, ", other.index)), "{shown}");
 }
 
 /// The demo's session in SANE, beside the independent implementation.
@@ -163,6 +169,33 @@ fn demo_in_sane(shown: &str) {
     assert_eq!(shown.matches("The counter 1 is not above 1, ").count(), 1, "{shown}");
 }
 
+/// The demo's counts: a group spends its allowance, the others go on, and on the next day it goes on too.
+fn demo_of_a_busy_group(shown: &str) {
+    let refused = "      Refused, number 10: The group's allowance for the day does not cover this call. Group 27 has spent 29 of 30 ";
+    assert_eq!(shown.matches(refused).count(), 1, "{shown}");
+    for text in ["K 721 to K 740", "K 741 to K 760", "M 5051 to M 5060", "K 761 to K 780"] {
+        assert_eq!(shown.matches(&format!(" is opened as \"{text}\"\n")).count(), 1, "{shown}");
+    }
+    let [first_day, next_day] = [shown.find(refused), shown.find("The next day begins")].map(|place| place.unwrap());
+    assert!(first_day < next_day && next_day < shown.find("K 761").unwrap(), "{shown}");
+    // Each message has a string of metadata and one of the message, of a block each.
+    let (count, growth) = (sanse::count(5, 14), sanse::growth(5, 14));
+    let line = |group: u32, count: u32, messages: u32| {
+        let (left, index, toggle) = (30 - count, messages * growth, messages % 2);
+        format!("  group {group:2}: count {count:2}, left {left:2}, index {index:7}, toggle {toggle}, ")
+    };
+    // Of the first day: the opening, the messages, and a refused arrival of group 4 and one of group 11.
+    for (group, calls, messages) in [(4, 3, 2), (11, 4, 3), (27, 4, 4)] {
+        assert_eq!(shown.matches(&line(group, 1 + calls * count, messages)).count(), 1, "{group}: {shown}");
+    }
+    // Of the next day, and at the groups.
+    for (group, calls, messages) in [(4, 0, 2), (11, 0, 3), (27, 1, 5)] {
+        assert_eq!(shown.matches(&line(group, calls * count, messages)).count(), 1, "{group}: {shown}");
+        let line = format!("  group {group:2}: open, index {:7}, toggle {}, ", messages * growth, messages % 2);
+        assert_eq!(shown.matches(&line).count(), 1, "{line}{shown}");
+    }
+}
+
 #[test]
 fn the_demo_plays_a_season() {
     let folder = Folder::new();
@@ -179,10 +212,7 @@ fn the_demo_plays_a_season() {
     }
     assert_eq!(shown.matches("Refused, number 11: ").count(), 4, "{shown}");
     assert_eq!(shown.matches("This is for group 4, and the state file is that of group 27.").count(), 1, "{shown}");
-    // 3 openings; 6 messages and 2 refused arrivals at the office of 1 + 1 + 4 + 1 permutations each.
-    assert!(shown.contains("day: count 59 of allowance 200\n"), "{shown}");
-    // 2 strings of one block each and a blank index after each, for 2 messages, at both ends.
-    assert_eq!(shown.matches(&format!("index {:7}, toggle 0", 8)).count(), 6, "{shown}");
+    demo_of_a_busy_group(&shown);
     // The codes are those of the first message, by the independent implementation.
     let mut group = session::Session::start(b"a fixed key, for the demo, of group 4").unwrap();
     group.wrap(b"rings", b"S 20001 to S 20100", &mut [0; 18], &mut [0; 32]).unwrap();

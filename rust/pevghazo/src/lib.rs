@@ -29,7 +29,7 @@
 //! |---|---|
 //! | one end of a session, as a group holds it | [`Session`] |
 //! | one end of a session of a group that keeps a counter | [`SaneSession`] |
-//! | the office's 32 sessions with a day's allowance | [`Table`] |
+//! | the office's 32 sessions, each with its count of the day, under one allowance | [`Table`] |
 //! | what is handed over, by name | [`Plain`], [`Arrival`] |
 //! | the bytes in which a sealed message travels | [`envelope`] |
 //! | the code that is printed on a packet of rings | [`Code`] |
@@ -64,7 +64,7 @@ pub use refusal::{BadBytes, Number, Refusal};
 pub use sane::SaneSession;
 pub use secret::Secret;
 pub use session::Session;
-pub use table::{Day, Group, Table};
+pub use table::{Group, Table};
 pub use texts::{Arrival, Opened, Plain, Sealed, Unwrapped, Wrapped};
 
 /// The groups of a table.

@@ -39,7 +39,7 @@ pub enum Number {
     NoRoom = 8,
     /// 9: the index after the call would exceed 1,048,576.
     IndexFull = 9,
-    /// 10: the allowance is smaller than the day's count plus this call's count.
+    /// 10: the allowance is smaller than the group's count of the day plus this call's count.
     Allowance = 10,
     /// 11: the tag differs.
     WrongTag = 11,
@@ -81,7 +81,7 @@ impl Number {
             Number::BadTagLength => "The tag must have 32 bytes in SANSE (letter S), and 16 in SANE (letter N).",
             Number::NoRoom => "The output buffer is too short.",
             Number::IndexFull => "The session is full: start a new one with a new key, or in SANE with a new nonce.",
-            Number::Allowance => "The day's allowance does not cover this call.",
+            Number::Allowance => "The group's allowance for the day does not cover this call.",
             Number::WrongTag => {
                 "The tag is wrong: the arrival is damaged, repeated, out of order or not meant for this session."
             }
@@ -96,9 +96,9 @@ impl fmt::Display for Number {
     }
 }
 
-/// A refused call. Sessions, buffers and the day's count are as they were before it, but for [`Number::WrongTag`]: there the
-/// day's count has grown by `count`, and the part of the output buffer that the message would have taken is zero. That holds
-/// of this crate's types; [`raw::start`](crate::raw::start) and [`raw::sane_start`](crate::raw::sane_start) close the record that
+/// A refused call. Sessions, buffers and counts of the day are as they were before it, but for [`Number::WrongTag`]: there the
+/// group's count in a table has grown by `count`, and the part of the output buffer that the message would have taken is zero.
+/// That holds of this crate's types; [`raw::start`](crate::raw::start) and [`raw::sane_start`](crate::raw::sane_start) close the record that
 /// they are lent where they are refused.
 ///
 /// ```

@@ -4,15 +4,15 @@ use std::fmt;
 
 use crate::code::Code;
 use crate::envelope::{self, Envelope, Letter, sealed};
-pub use crate::raw::Day;
-use crate::raw::{self, GroupAnswer, Record};
+use crate::raw::{self, Answer, GroupRecord};
 use crate::record;
 use crate::refusal::{BadBytes, Number, Refusal, answer};
 use crate::secret::Secret;
 use crate::texts::{Arrival, Opened, Plain, Sealed, Unwrapped, Wrapped};
 use crate::{GROUPS, TAG_LENGTH, Tag};
 
-/// The office's table: a session for each of 32 groups, and one day's count and allowance of permutations for all of them.
+/// The office's table: for each of 32 groups a session and, beside it, the group's own count of the day's permutations; and one
+/// allowance, the most that each group may count in a day.
 ///
 /// Its memory is set to zero when it is dropped, and like a session it cannot be copied. Its calls are those of a
 /// [`Session`](crate::Session), for a group.
@@ -33,11 +33,16 @@ use crate::{GROUPS, TAG_LENGTH, Tag};
 /// let block = Plain { metadata: b"size C", message: b"12001-12100" };
 /// let sealed = office.seal(7, &block)?;
 /// assert_eq!(group.open(&sealed.envelope)?.message, b"12001-12100");
-/// assert_eq!(office.day().spent, 1 + sealed.count);
+/// assert_eq!(office.group(7).unwrap().count, 1 + sealed.count);
+/// assert_eq!(office.left(7), Some(9 - sealed.count));
 ///
 /// assert_eq!(office.seal(7, &block).unwrap_err().number, Number::Allowance);
 /// assert_eq!(office.seal(8, &block).unwrap_err().number, Number::NotOpen);
 /// assert_eq!(office.nearly_full(3), Some(7));
+///
+/// // A group that has used its allowance does not stop the others.
+/// office.open_group(8, b"the key of group 8.....")?;
+/// let _for_group_8 = office.seal(8, &block)?;
 ///
 /// // An envelope names its group, so the office opens it without being told.
 /// office.start_day(10);
@@ -54,11 +59,11 @@ use crate::{GROUPS, TAG_LENGTH, Tag};
 /// ```
 pub struct Table {
     /// In a box, so that a moved table leaves nothing behind.
-    sessions: Box<[Record; GROUPS]>,
-    day: Day,
+    records: Box<[GroupRecord; GROUPS]>,
+    allowance: u32,
 }
 
-/// What may be seen of a group's session.
+/// What may be seen of a group's session, and its count of the day.
 #[derive(Clone, Copy, Debug, PartialEq, Eq)]
 pub struct Group {
     /// The group's number, 0 to 31.
@@ -69,27 +74,8 @@ pub struct Group {
     pub index: u32,
     /// The toggle, which changes with each accepted message.
     pub toggle: bool,
-}
-
-impl Day {
-    /// The day before the first: count and allowance are 0, so no call for a group is accepted.
-    ///
-    /// ```
-    /// use pevghazo::{Day, Table};
-    ///
-    /// assert_eq!(Day::none(), Day { spent: 0, allowance: 0 });
-    /// assert_eq!(Table::new().day(), Day::none());
-    /// ```
-    #[must_use]
-    pub fn none() -> Day {
-        raw::no_day()
-    }
-}
-
-impl Default for Day {
-    fn default() -> Day {
-        Day::none()
-    }
+    /// The permutations of this group's calls since the day began.
+    pub count: u32,
 }
 
 impl Default for Table {
@@ -100,38 +86,52 @@ impl Default for Table {
 
 impl Table {
     /// The bytes of a stored table.
-    pub const BYTES: usize = GROUPS * record::BYTES + 8;
+    pub const BYTES: usize = GROUPS * GROUP_BYTES + 4;
 
-    /// The table that no group has opened yet, before the first day: 32 closed sessions, count and allowance 0.
+    /// The bytes of a table as versions up to 0.4 stored it.
+    pub const BYTES_BEFORE: usize = GROUPS * record::BYTES + 8;
+
+    /// The table before the first day: 32 closed sessions, and all counts and the allowance 0.
     #[must_use]
     pub fn new() -> Table {
-        let sessions: Box<[Record]> = (0..GROUPS).map(|_| Record::closed()).collect();
-        let Ok(sessions) = sessions.try_into() else { unreachable!("there are as many as groups") };
-        Table { sessions, day: Day::none() }
+        let records: Box<[GroupRecord]> = (0..GROUPS).map(|_| GroupRecord::closed()).collect();
+        let Ok(records) = records.try_into() else { unreachable!("there are as many as groups") };
+        Table { records, allowance: 0 }
     }
 
-    /// Starts a day: a count of 0, and this allowance. Never refused.
+    /// Starts a day: every group has this allowance and a count of 0, and every session stays. Never refused.
     pub fn start_day(&mut self, allowance: u32) {
-        self.day = raw::start_day(allowance);
+        self.allowance = raw::start_day(&mut self.records[..], allowance);
     }
 
-    /// The day's count and allowance.
+    /// The allowance: the most permutations that each group may count in the day.
     #[must_use]
-    pub fn day(&self) -> Day {
-        self.day
+    pub fn allowance(&self) -> u32 {
+        self.allowance
     }
 
-    /// Takes in the day after a call, and gives the count or the refusal.
-    fn take(&mut self, given: GroupAnswer) -> Result<u32, Refusal> {
-        self.day = given.day;
-        answer(given.number, given.count)
+    /// What is left of a group's allowance: nothing where its count is above it. None for a group above 31.
+    ///
+    /// ```
+    /// use pevghazo::Table;
+    ///
+    /// # fn main() -> Result<(), pevghazo::Refusal> {
+    /// let mut table = Table::new();
+    /// table.start_day(1_000);
+    /// table.open_group(31, &[7; 16])?;
+    /// assert_eq!((table.left(30), table.left(31), table.left(32)), (Some(1_000), Some(999), None));
+    /// # Ok(())
+    /// # }
+    /// ```
+    #[must_use]
+    pub fn left(&self, group: u32) -> Option<u32> {
+        Some(self.allowance.saturating_sub(self.record(group)?.count))
     }
 
-    /// Replaces a group's session by a fresh one under this key, and gives the permutations done. Checks 3, 4 and 10; a
-    /// refusal leaves the old session.
+    /// Replaces a group's session by a fresh one under this key, and gives the permutations done. They are added to the
+    /// group's count, which is not set back. Checks 3, 4 and 10; a refusal leaves the old session and the count.
     pub fn open_group(&mut self, group: u32, key: &[u8]) -> Result<u32, Refusal> {
-        let given = raw::open_group(&mut self.sessions[..], group, self.day, key);
-        self.take(given)
+        given(raw::open_group(&mut self.records[..], group, self.allowance, key))
     }
 
     /// [`Session::wrap`](crate::Session::wrap) for a group. Checks 3, 5, 6, 9 and 10.
@@ -143,11 +143,11 @@ impl Table {
 
     /// [`Session::wrap_to`](crate::Session::wrap_to) for a group. Checks 3, 5, 6 and 8 to 10.
     pub fn wrap_to(&mut self, group: u32, plain: &Plain<'_>, out: &mut [u8], tag: &mut Tag) -> Result<u32, Refusal> {
-        let given = raw::wrap_group(&mut self.sessions[..], group, self.day, plain.metadata, plain.message, out, tag);
-        self.take(given)
+        let Plain { metadata, message } = *plain;
+        given(raw::wrap_group(&mut self.records[..], group, self.allowance, metadata, message, out, tag))
     }
 
-    /// [`Session::unwrap`](crate::Session::unwrap) for a group. Checks 3, 5, 6 and 9 to 11; 11 adds its count to the day's.
+    /// [`Session::unwrap`](crate::Session::unwrap) for a group. Checks 3, 5, 6 and 9 to 11; 11 adds its count to the group's.
     pub fn unwrap(&mut self, group: u32, arrival: &Arrival<'_>) -> Result<Unwrapped, Refusal> {
         let mut unwrapped = Unwrapped { message: vec![0; arrival.cryptogram.len()], count: 0 };
         unwrapped.count = self.unwrap_to(group, arrival, &mut unwrapped.message)?;
@@ -155,11 +155,10 @@ impl Table {
     }
 
     /// [`Session::unwrap_to`](crate::Session::unwrap_to) for a group. Checks 3, 5, 6 and 8 to 11; 11 adds its count to the
-    /// day's.
+    /// group's.
     pub fn unwrap_to(&mut self, group: u32, arrival: &Arrival<'_>, out: &mut [u8]) -> Result<u32, Refusal> {
         let Arrival { metadata, cryptogram, tag } = *arrival;
-        let given = raw::unwrap_group(&mut self.sessions[..], group, self.day, metadata, cryptogram, tag, out);
-        self.take(given)
+        given(raw::unwrap_group(&mut self.records[..], group, self.allowance, metadata, cryptogram, tag, out))
     }
 
     /// Seals a message into an envelope for a group. Checks 3, 5, 6, 9 and 10.
@@ -169,42 +168,42 @@ impl Table {
     }
 
     /// Opens the envelope at the start of the bytes, with the session of the group that its header names; more bytes may
-    /// follow. Checks 1, 2, 5, 7 and 9 to 11; 11 adds its count to the day's. An envelope with the letter N, which is for a
-    /// [`SaneSession`](crate::SaneSession), gets 7.
+    /// follow. Checks 1, 2, 5, 7 and 9 to 11; 11 adds its count to the group's. An envelope with the letter N, which is for
+    /// a [`SaneSession`](crate::SaneSession), gets 7.
     pub fn open<'a>(&mut self, bytes: &'a [u8]) -> Result<Opened<'a>, Refusal> {
         let envelope = envelope::read(bytes)?;
         let Envelope { group, metadata, cryptogram, tag, .. } = envelope;
         envelope.opened(|out| {
-            let given = raw::unwrap_group(&mut self.sessions[..], group, self.day, metadata, cryptogram, tag, out);
-            self.take(given)
+            given(raw::unwrap_group(&mut self.records[..], group, self.allowance, metadata, cryptogram, tag, out))
         })
     }
 
     /// [`Session::code`](crate::Session::code) of a group's session: the code of a packet, 0 to 2,047, and the permutations
-    /// done. Checks 3, 5 and 12. The day's allowance is not looked at, and its count stays.
+    /// done. Checks 3, 5 and 12. The allowance is not looked at, and the group's count stays.
     pub fn code(&self, group: u32, packet: u32) -> Result<(Code, u32), Refusal> {
         let record = self.record(group).ok_or(Refusal { number: Number::BadGroup, count: 0 })?;
-        Code::of(record, packet)
+        Code::of(&record.session, packet)
     }
 
     /// An open group whose index is above the mark, or none, which is said only where there is none.
     #[must_use]
     pub fn nearly_full(&self, mark: u32) -> Option<u32> {
-        let given = raw::nearly_full(&self.sessions[..], mark);
-        assert_eq!(given.number, 0, "a table has 32 sessions");
+        let given = raw::nearly_full(&self.records[..], mark);
+        assert_eq!(given.number, 0, "a table has 32 records");
         given.found.then_some(given.group)
     }
 
     /// A group's record; none for a group above 31.
-    fn record(&self, group: u32) -> Option<&Record> {
-        self.sessions.get(usize::try_from(group).ok()?)
+    fn record(&self, group: u32) -> Option<&GroupRecord> {
+        self.records.get(usize::try_from(group).ok()?)
     }
 
-    /// What may be seen of a group's session; none for a group above 31.
+    /// What may be seen of a group's session, and its count of the day; none for a group above 31.
     #[must_use]
     pub fn group(&self, group: u32) -> Option<Group> {
-        let record = self.record(group)?;
-        Some(Group { group, is_open: record.opened, index: record.index, toggle: record.toggle })
+        let GroupRecord { session, count } = self.record(group)?;
+        let (is_open, index, toggle) = (session.opened, session.index, session.toggle);
+        Some(Group { group, is_open, index, toggle, count: *count })
     }
 
     /// All 32 groups, in their order.
@@ -212,9 +211,9 @@ impl Table {
         (0..GROUPS as u32).filter_map(|group| self.group(group))
     }
 
-    /// The table's bytes, for storing it: the sessions in their order, each as in
-    /// [`Session::to_bytes`](crate::Session::to_bytes), then the day's count and allowance, 32 bits each and little-endian.
-    /// They are as secret as the sessions, and set to zero when they are dropped.
+    /// The table's bytes, for storing it: for each group, in their order, the session as in
+    /// [`Session::to_bytes`](crate::Session::to_bytes) and the count; then the allowance. Counts and allowance have 32 bits
+    /// each and are little-endian. The bytes are as secret as the sessions, and set to zero when they are dropped.
     ///
     /// ```
     /// use pevghazo::Table;
@@ -227,41 +226,69 @@ impl Table {
     /// drop(table);
     ///
     /// let table = Table::from_bytes(&bytes).unwrap();
-    /// assert_eq!((table.day().spent, table.day().allowance), (1, 1_000));
-    /// assert!(table.group(31).unwrap().is_open);
+    /// let group = table.group(31).unwrap();
+    /// assert_eq!((group.is_open, group.count, table.allowance()), (true, 1, 1_000));
     /// # Ok(())
     /// # }
     /// ```
     #[must_use]
     pub fn to_bytes(&self) -> Secret {
         let mut bytes = Secret::zeros(Table::BYTES);
-        let (sessions, day) = bytes.bytes_mut().split_at_mut(GROUPS * record::BYTES);
-        for (place, session) in sessions.chunks_exact_mut(record::BYTES).zip(self.sessions.iter()) {
-            record::store(session, place);
+        let (records, allowance) = bytes.bytes_mut().split_at_mut(GROUPS * GROUP_BYTES);
+        for (place, record) in records.chunks_exact_mut(GROUP_BYTES).zip(self.records.iter()) {
+            let (session, count) = place.split_at_mut(record::BYTES);
+            record::store(&record.session, session);
+            count.copy_from_slice(&record.count.to_le_bytes());
         }
-        day[..4].copy_from_slice(&self.day.spent.to_le_bytes());
-        day[4..].copy_from_slice(&self.day.allowance.to_le_bytes());
+        allowance.copy_from_slice(&self.allowance.to_le_bytes());
         bytes
     }
 
     /// A table from its stored bytes, which are refused as [`Session::from_bytes`](crate::Session::from_bytes) refuses them.
     pub fn from_bytes(bytes: &[u8]) -> Result<Table, BadBytes> {
         record::check_length(Table::BYTES, bytes.len())?;
+        let (records, allowance) = bytes.split_at(GROUPS * GROUP_BYTES);
+        Table::load(records.chunks_exact(GROUP_BYTES).map(|record| record.split_at(record::BYTES)), allowance)
+    }
+
+    /// A table from the bytes that versions up to 0.4 stored: the sessions in their order, then the one count and the allowance
+    /// of a day that all groups shared. Each group's count is that one, so none has more left than all had together. They
+    /// are refused as by [`Table::from_bytes`].
+    pub fn from_bytes_before(bytes: &[u8]) -> Result<Table, BadBytes> {
+        record::check_length(Table::BYTES_BEFORE, bytes.len())?;
         let (sessions, day) = bytes.split_at(GROUPS * record::BYTES);
-        let mut table = Table::new();
-        for (place, session) in sessions.chunks_exact(record::BYTES).zip(table.sessions.iter_mut()) {
-            record::load(session, place)?;
+        let (count, allowance) = day.split_at(4);
+        Table::load(sessions.chunks_exact(record::BYTES).map(|session| (session, count)), allowance)
+    }
+
+    /// The table of these groups, each the bytes of its session and of its count, with these bytes' allowance.
+    fn load<'a>(groups: impl Iterator<Item = (&'a [u8], &'a [u8])>, allowance: &[u8]) -> Result<Table, BadBytes> {
+        let mut table = Table { allowance: number(allowance), ..Table::new() };
+        for ((session, count), record) in groups.zip(table.records.iter_mut()) {
+            record::load(&mut record.session, session)?;
+            record.count = number(count);
         }
-        let number = |bytes: &[u8]| u32::from_le_bytes(bytes.try_into().expect("four bytes"));
-        table.day = Day { spent: number(&day[..4]), allowance: number(&day[4..]) };
         Ok(table)
     }
 }
 
+/// The bytes of a group's stored record: its session and its count.
+const GROUP_BYTES: usize = record::BYTES + 4;
+
+/// A number of 32 bits from its four bytes, little-endian.
+fn number(bytes: &[u8]) -> u32 {
+    u32::from_le_bytes(bytes.try_into().expect("four bytes"))
+}
+
+/// The count of a call for a group, or its refusal.
+fn given(given: Answer) -> Result<u32, Refusal> {
+    answer(given.number, given.count)
+}
+
 impl fmt::Debug for Table {
-    /// What is not secret: the day and the open groups.
+    /// What is not secret: the allowance, the open groups, and the closed ones that have counted something.
     fn fmt(&self, f: &mut fmt::Formatter<'_>) -> fmt::Result {
-        let open: Vec<Group> = self.groups().filter(|group| group.is_open).collect();
-        f.debug_struct("Table").field("day", &self.day).field("open", &open).finish_non_exhaustive()
+        let shown: Vec<Group> = self.groups().filter(|group| group.is_open || group.count > 0).collect();
+        f.debug_struct("Table").field("allowance", &self.allowance).field("groups", &shown).finish_non_exhaustive()
     }
 }

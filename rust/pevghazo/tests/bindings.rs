@@ -1,7 +1,7 @@
 //! The safe types: stored bytes, refusals, and what is shown.
 
 use pevghazo::{
-    Arrival, BadBytes, Code, Day, GROUPS, INDEX_MAX, Letter, Number, PACKET_MAX, Plain, Refusal, SANE_TAG_LENGTH,
+    Arrival, BadBytes, Code, GROUPS, Group, INDEX_MAX, Letter, Number, PACKET_MAX, Plain, Refusal, SANE_TAG_LENGTH,
     Session, TAG_LENGTH, TEXT_MAX, Table, Wrapped, envelope, raw, wipe,
 };
 use pevghazo_reference::session::Session as Reference;
@@ -93,8 +93,11 @@ fn stored_bytes_are_checked() {
         bad[place..place + value.len()].copy_from_slice(value);
         assert_eq!(Session::from_bytes(&bad).unwrap_err(), why);
         let mut table = Table::new().to_bytes().to_vec();
-        table[31 * Session::BYTES..][..Session::BYTES].copy_from_slice(&bad);
+        table[31 * (Session::BYTES + 4)..][..Session::BYTES].copy_from_slice(&bad);
         assert_eq!(Table::from_bytes(&table).unwrap_err(), why);
+        let mut table = [0; Table::BYTES_BEFORE];
+        table[31 * Session::BYTES..][..Session::BYTES].copy_from_slice(&bad);
+        assert_eq!(Table::from_bytes_before(&table).unwrap_err(), why);
     };
     for place in [100, 101] {
         (2..=255).for_each(|value| refused(place, &[value], BadBytes::Flag));
@@ -116,8 +119,14 @@ fn stored_bytes_are_checked() {
         let error = Session::from_bytes(&vec![0; length]).unwrap_err();
         assert_eq!(error, BadBytes::Length { expected: Session::BYTES, found: length });
     }
-    for length in [0, Table::BYTES - 1, Table::BYTES + 1] {
-        assert!(Table::from_bytes(&vec![0; length]).is_err());
+    let lengths = [0, Table::BYTES - 1, Table::BYTES, Table::BYTES + 1];
+    for found in lengths.into_iter().chain([Table::BYTES_BEFORE - 1, Table::BYTES_BEFORE, Table::BYTES_BEFORE + 1]) {
+        let bytes = vec![0; found];
+        let check = |read: Result<Table, BadBytes>, expected| {
+            assert_eq!(read.err(), (found != expected).then_some(BadBytes::Length { expected, found }));
+        };
+        check(Table::from_bytes(&bytes), Table::BYTES);
+        check(Table::from_bytes_before(&bytes), Table::BYTES_BEFORE);
     }
     assert_eq!(BadBytes::Flag.to_string(), "The stored bytes hold a flag that is neither 0 nor 1.");
     assert_eq!(BadBytes::Index.to_string(), "The stored bytes hold an index above 1,048,576.");
@@ -131,30 +140,82 @@ fn layout_of_stored_bytes() {
     assert_eq!(*session.to_bytes(), bytes);
     assert_eq!((session.index(), session.toggle(), session.is_open()), (0x0003_0201, true, true));
 
+    assert_eq!((Table::BYTES, Table::BYTES_BEFORE), (32 * 106 + 4, 32 * 102 + 8));
     let mut table = Vec::new();
     for group in 0..GROUPS as u8 {
-        if group < 16 {
-            table.extend([0; Session::BYTES]);
-        } else {
-            table.extend((0..98).map(|i| group.wrapping_mul(i)).chain([3, 0, group % 2, 1]));
-        }
+        table.extend(stored_session(group));
+        table.extend([group, 2, 3, !group]);
     }
-    table.extend([1, 2, 3, 4, 5, 6, 7, 8]);
+    table.extend([5, 6, 7, 8]);
     let read = Table::from_bytes(&table).unwrap();
     assert_eq!(*read.to_bytes(), table);
-    assert_eq!((read.day().spent, read.day().allowance), (0x0403_0201, 0x0807_0605));
-    let group = read.group(17).unwrap();
-    assert_eq!((group.toggle, group.is_open), (true, true));
-    assert_eq!(group.index, u32::from_le_bytes([96_u8.wrapping_mul(17), 97_u8.wrapping_mul(17), 3, 0]));
-    assert_eq!(read.group(32), None);
+    assert_eq!(read.allowance(), 0x0807_0605);
+    for (group, seen) in (0..).zip(read.groups()) {
+        assert_eq!(seen, expected_group(group, u32::from_le_bytes([group, 2, 3, !group])));
+        assert_eq!(read.left(seen.group), Some(0x0807_0605_u32.saturating_sub(seen.count)));
+    }
+    assert_eq!((read.group(32), read.left(32), read.left(u32::MAX)), (None, None, None));
     assert_eq!(read.groups().count(), GROUPS);
+}
+
+/// The stored bytes of a session for each group: the first 16 are closed, the others have numbers of their own.
+fn stored_session(group: u8) -> Vec<u8> {
+    if group < 16 {
+        return vec![0; Session::BYTES];
+    }
+    (0..98).map(|i| group.wrapping_mul(i)).chain([3, 0, group % 2, 1]).collect()
+}
+
+/// What may be seen of the group with that session and this count.
+fn expected_group(group: u8, count: u32) -> Group {
+    let is_open = group >= 16;
+    let index = u32::from_le_bytes([group.wrapping_mul(96), group.wrapping_mul(97), 3, 0]);
+    let index = if is_open { index } else { 0 };
+    Group { group: group.into(), is_open, index, toggle: is_open && group % 2 == 1, count }
+}
+
+/// The sessions, then the one day's count and the allowance: each group has counted what the day had.
+#[test]
+fn tables_as_they_were_stored_before() {
+    for (count, allowance) in [(0x0403_0201, 0x0807_0605), (0x0807_0605, 0x0403_0201), (0, 0), (u32::MAX, u32::MAX)] {
+        let mut bytes: Vec<u8> = (0..GROUPS as u8).flat_map(stored_session).collect();
+        bytes.extend([count, allowance].map(u32::to_le_bytes).concat());
+        let read = Table::from_bytes_before(&bytes).unwrap();
+        assert_eq!(read.allowance(), allowance);
+        assert!((0..).zip(read.groups()).all(|(group, seen)| seen == expected_group(group, count)));
+        assert!((0..32).all(|group| read.left(group) == Some(allowance.saturating_sub(count))));
+        let stored = read.to_bytes();
+        for (group, place) in stored.chunks_exact(Session::BYTES + 4).enumerate() {
+            assert_eq!(place, [stored_session(group as u8), count.to_le_bytes().to_vec()].concat());
+        }
+        assert_eq!(*Table::from_bytes(&stored).unwrap().to_bytes(), *stored);
+    }
+}
+
+/// A table that is stored between all calls goes on as one that is not.
+#[test]
+fn stored_tables_go_on() {
+    let (mut table, mut other) = (Table::new(), Table::new());
+    for i in 0..60_u8 {
+        let group = u32::from(i % 7) * 5;
+        table = Table::from_bytes(&table.to_bytes()).unwrap();
+        for table in [&mut table, &mut other] {
+            match i {
+                0 | 40 => table.start_day(30),
+                1..8 => assert_eq!(table.open_group(group, KEY), Ok(1)),
+                _ => drop(table.seal(group, &plain(&[i; 9]))),
+            }
+        }
+        assert_eq!(*table.to_bytes(), *other.to_bytes(), "call {i}");
+    }
+    assert!((0..7).all(|i| other.group(5 * i).is_some_and(|group| group.count > 0)));
+    assert_eq!(Table::from_bytes(&[0; Table::BYTES]).unwrap().to_bytes()[..], Table::new().to_bytes()[..]);
 }
 
 #[test]
 fn a_new_table() {
     let (mut table, mut tag) = (Table::new(), [0; 32]);
-    assert_eq!(raw::no_day(), Day { spent: 0, allowance: 0 });
-    assert_eq!((Day::none(), Day::default(), table.day()), (raw::no_day(), raw::no_day(), raw::no_day()));
+    assert_eq!((table.allowance(), table.left(0), table.left(31)), (0, Some(0), Some(0)));
     assert_eq!(*table.to_bytes(), [0; Table::BYTES], "zero in all bytes");
     for allowance in [0, u32::MAX] {
         table.start_day(allowance);
@@ -166,7 +227,34 @@ fn a_new_table() {
         }
         assert_eq!(table.nearly_full(0), None);
     }
+    table.start_day(0);
+    let poor = Err(Refusal { number: Number::Allowance, count: 0 });
+    assert!((0..GROUPS as u32).all(|group| table.open_group(group, KEY) == poor));
+    table.start_day(1);
     assert!((0..GROUPS as u32).all(|group| table.open_group(group, KEY) == Ok(1)));
+    assert!((0..GROUPS as u32).all(|group| table.open_group(group, KEY) == poor));
+}
+
+/// A group that has used its allowance gets 10 until the next day, and the others go on.
+#[test]
+fn a_busy_group() {
+    let mut office = Table::new();
+    office.start_day(7);
+    assert!([3, 4].iter().all(|group| office.open_group(*group, KEY) == Ok(1)));
+    let count =
+        |answer: Result<Wrapped, Refusal>| answer.map(|wrapped| wrapped.count).map_err(|refusal| refusal.number);
+    for expected in [Ok(3), Ok(3), Err(Number::Allowance)] {
+        assert_eq!(count(office.wrap(3, &plain(b""))), expected);
+    }
+    assert_eq!((office.left(3), office.left(4), office.left(5), office.allowance()), (Some(0), Some(6), Some(7), 7));
+    let kept = office.group(3);
+    assert_eq!(office.open_group(3, KEY).unwrap_err().number, Number::Allowance, "opening again does not set it back");
+    assert_eq!(count(office.wrap(4, &plain(b"1"))), Ok(6));
+    assert_eq!((office.group(3), office.left(4)), (kept, Some(0)));
+    office.start_day(4);
+    assert_eq!((office.left(3), office.left(4), office.left(31)), (Some(4), Some(4), Some(4)));
+    assert_eq!((office.open_group(3, KEY), office.group(3).unwrap().count), (Ok(1), 1));
+    assert_eq!((office.open_group(3, KEY), office.group(3).unwrap().count), (Ok(1), 2));
 }
 
 #[test]
@@ -192,7 +280,8 @@ fn a_table_and_its_refusals() {
     tag[31] ^= 0x80;
     let refusal = office.unwrap(0, &Arrival { tag: &tag, ..arrival(&wrapped) }).unwrap_err();
     assert_eq!(refusal, Refusal { number: Number::WrongTag, count: wrapped.count });
-    assert_eq!(office.day().spent, 1 + wrapped.count);
+    assert_eq!((office.group(0).unwrap().count, office.group(0).unwrap().index), (1 + wrapped.count, 0));
+    assert!((1..32).all(|group| office.group(group).unwrap().count == 0), "the other groups");
     let unwrapped = office.unwrap(0, &arrival(&wrapped)).unwrap();
     assert_eq!((&unwrapped.message[..], unwrapped.count), (&b"returned"[..], wrapped.count));
     assert_eq!(office.nearly_full(0), Some(0));
@@ -309,7 +398,7 @@ fn codes_of_groups() {
     for group in [32, 33, 256, u32::MAX] {
         assert_eq!(office.code(group, 5_000), refused(Number::BadGroup));
     }
-    assert_eq!(*office.to_bytes(), *before, "codes alter neither a session nor the day");
+    assert_eq!(*office.to_bytes(), *before, "codes alter neither a session nor a count");
 }
 
 /// Sealing is wrapping and writing, opening is reading and unwrapping, and the first check that is met is the one that is named.
@@ -328,7 +417,7 @@ fn envelopes_of_a_session_and_of_a_table() {
         let wrapped = by_hand.wrap(&plain).unwrap();
         let written = envelope::write(Letter::S, 7, b"size C", &wrapped.cryptogram, &wrapped.tag).unwrap();
         assert_eq!(sealed.envelope, written);
-        assert_eq!((sealed.count, office.day().spent), (wrapped.count, wrapped.count));
+        assert_eq!((sealed.count, office.group(7).unwrap().count), (wrapped.count, wrapped.count));
         let followed = [&sealed.envelope[..], b"more"].concat();
         let opened = group.open(&followed).unwrap();
         assert_eq!((opened.group, opened.metadata, opened.count), (7, &b"size C"[..], wrapped.count));
@@ -441,8 +530,7 @@ fn secrets_are_not_shown() {
     table.open_group(3, KEY).unwrap();
     assert_eq!(
         format!("{table:?}"),
-        "Table { day: Day { spent: 1, allowance: 9 }, \
-         open: [Group { group: 3, is_open: true, index: 0, toggle: false }], .. }"
+        "Table { allowance: 9, groups: [Group { group: 3, is_open: true, index: 0, toggle: false, count: 1 }], .. }"
     );
     let bytes = session.to_bytes();
     assert_eq!(format!("{bytes:?}"), "Secret(102 bytes)");

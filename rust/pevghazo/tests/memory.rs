@@ -252,6 +252,7 @@ fn table(memory: &mut Memory) {
     assert_eq!(office.nearly_full(1), Some(GROUP));
     memory.one_record("after the nearly-full question");
     office.start_day(u32::MAX);
+    memory.one_record("after the start of a day");
     office.open_group(GROUP, KEY).unwrap();
     for sealed in &sent {
         let _ = office.open(&sealed.envelope).unwrap();

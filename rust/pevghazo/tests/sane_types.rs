@@ -235,7 +235,7 @@ fn envelopes_of_the_other_mode() {
     assert_eq!(sanse.open(&n).unwrap_err(), refused(Number::BadTagLength));
     assert_eq!(office.open(&n).unwrap_err(), refused(Number::BadTagLength));
     assert_eq!((&*sane.to_bytes(), &*sanse.to_bytes()), (&*before.0, &*before.1));
-    assert_eq!(*office.to_bytes(), *before.2, "neither a session nor the day");
+    assert_eq!(*office.to_bytes(), *before.2, "neither a session nor a count");
     // A session that is not open says so first, as the library's checks are ordered.
     assert_eq!(SaneSession::from_bytes(&[0; 102]).unwrap().open(&s).unwrap_err(), refused(Number::NotOpen));
     assert_eq!(Session::from_bytes(&[0; 102]).unwrap().open(&n).unwrap_err(), refused(Number::NotOpen));

@@ -1,108 +1,16 @@
-//! The office's table through the C library, beside the independent implementation, with tables of any size and any day.
+//! The office's table through the C library, beside the independent implementation: tables of any size, with any counts and any
+//! allowance.
 
 mod common;
 
-use common::{
-    Arrival, Both, Library, answer_of, any_session, cases, copy, is_whole_run, key, maybe_long, other_length, packet,
-    record_of, same, text,
-};
-use pevghazo::raw::{self, Answer, Day, GroupAnswer, Record};
+use common::tables::{Tables, any_number, any_record, group_record_of, same_group};
+use common::{Arrival, Both, Library, cases, copy, is_whole_run, key, maybe_long, other_length, record_of, same, text};
+use pevghazo::raw::{self, Answer};
 use pevghazo_reference::envelope;
 use pevghazo_reference::random::Random;
 use pevghazo_reference::sanse::count;
 use pevghazo_reference::session::Session;
-use pevghazo_reference::table::Table;
-
-/// A table held twice: by the library, and by the reference.
-struct Tables {
-    sessions: Vec<Record>,
-    day: Day,
-    reference: Table,
-}
-
-impl Tables {
-    /// The same table on both sides.
-    fn of(reference: Table) -> Tables {
-        Tables {
-            sessions: reference.sessions.iter().map(record_of).collect(),
-            day: Day { spent: reference.count, allowance: reference.allowance },
-            reference,
-        }
-    }
-
-    /// Both sides hold the same, and the library gave the reference's answer.
-    fn check(&mut self, given: GroupAnswer, answer: Answer) -> Answer {
-        assert_eq!(Answer { number: given.number, count: given.count }, answer);
-        self.day = given.day;
-        assert_eq!((self.day.spent, self.day.allowance), (self.reference.count, self.reference.allowance), "the day");
-        self.check_records();
-        answer
-    }
-
-    /// Both sides hold the same records.
-    fn check_records(&self) {
-        for (group, (library, reference)) in self.sessions.iter().zip(&self.reference.sessions).enumerate() {
-            assert!(same(library, &record_of(reference)), "the records of group {group} differ");
-        }
-    }
-
-    fn start_day(&mut self, allowance: u32) {
-        self.reference.start_day(allowance);
-        self.day = raw::start_day(allowance);
-        assert_eq!((self.day.spent, self.day.allowance), (self.reference.count, self.reference.allowance));
-    }
-
-    fn open_group(&mut self, group: u32, key: &[u8]) -> Answer {
-        let answer = answer_of(self.reference.open_group(group, key));
-        let given = raw::open_group(&mut self.sessions, group, self.day, key);
-        self.check(given, answer)
-    }
-
-    fn wrap(&mut self, group: u32, metadata: &[u8], message: &[u8], out: &mut [u8], tag: &mut [u8]) -> Answer {
-        let (mut out_too, mut tag_too) = (out.to_vec(), tag.to_vec());
-        let given = raw::wrap_group(&mut self.sessions, group, self.day, metadata, message, out, tag);
-        let answer = self.reference.wrap(group, metadata, message, &mut out_too, &mut tag_too);
-        assert!(out == out_too && tag == tag_too, "wrap: the buffers differ");
-        self.check(given, answer_of(answer))
-    }
-
-    fn unwrap(&mut self, group: u32, metadata: &[u8], cryptogram: &[u8], tag: &[u8], out: &mut [u8]) -> Answer {
-        let mut out_too = out.to_vec();
-        let given = raw::unwrap_group(&mut self.sessions, group, self.day, metadata, cryptogram, tag, out);
-        let answer = self.reference.unwrap(group, metadata, cryptogram, tag, &mut out_too);
-        assert!(out == out_too, "unwrap: the buffers differ");
-        self.check(given, answer_of(answer))
-    }
-
-    /// A code is asked of the group's record, past the table: its size, its other records and its day play no part.
-    fn code(&self, random: &mut Random, group: usize) -> u32 {
-        let (packet, room) = (packet(random), other_length(random, 8, 4));
-        let mut out = random.bytes(room);
-        let mut out_too = out.clone();
-        let given = raw::code(&self.sessions[group], packet, &mut out);
-        let answer = self.reference.sessions[group].code(packet, &mut out_too);
-        assert_eq!(given, answer_of(answer), "code");
-        assert!(out == out_too, "code: the buffers differ");
-        self.check_records();
-        given.number
-    }
-
-    /// Which of several groups is named is free.
-    fn nearly_full(&self, mark: u32) -> u32 {
-        let given = raw::nearly_full(&self.sessions, mark);
-        match self.reference.nearly_full(mark) {
-            Err(number) => {
-                assert_eq!((given.number, given.found, given.group), (number.number().into(), false, 0))
-            }
-            Ok(None) => assert_eq!((given.number, given.found, given.group), (0, false, 0)),
-            Ok(Some(_)) => {
-                assert_eq!((given.number, given.found), (0, true));
-                assert!(self.reference.is_nearly_full(given.group as usize, mark), "group {}", given.group);
-            }
-        }
-        given.number
-    }
-}
+use pevghazo_reference::table::{GroupRecord as Reference, Table};
 
 /// A group's number, now and then one that is too high.
 fn any_group(random: &mut Random) -> u32 {
@@ -113,166 +21,327 @@ fn any_group(random: &mut Random) -> u32 {
     }
 }
 
-/// A day with any numbers, often one on the edge of what a call with this count needs.
-fn any_day(random: &mut Random, count: u32) -> Day {
-    let spent = match random.below(4) {
-        0 => random.bits() as u32,
-        1 => u32::MAX - random.below(1_100) as u32,
-        2 => 0,
-        _ => random.below(5_000) as u32,
-    };
-    let allowance = match random.below(8) {
-        0 => random.bits() as u32,
-        1 => u32::MAX,
-        2 => spent.saturating_add(count),
-        3 => spent.saturating_add(count) - 1,
-        4 => spent.wrapping_add(count),
-        _ => spent.saturating_add(count).saturating_add(random.below(2_000) as u32),
-    };
-    Day { spent, allowance }
-}
-
-/// The number of sessions of a table, mostly the right one.
+/// The number of records of a table, mostly the right one.
 fn any_size(random: &mut Random) -> usize {
     if random.once_in(10) { random.pick(&[0, 1, 31, 33, 64]) } else { 32 }
 }
 
+/// Often sets the allowance and the group's count anew, mostly so that a call with this count just fits or just does not; where
+/// the allowance is below it, the sum of the two counts passes 32 bits and comes out as the allowance.
+fn set_numbers(random: &mut Random, tables: &mut Tables, group: u32, count: u32) {
+    if random.once_in(4) {
+        return;
+    }
+    let allowance = any_number(random);
+    let fits = allowance.wrapping_sub(count);
+    (tables.allowance, tables.reference.allowance) = (allowance, allowance);
+    let count = match random.below(8) {
+        0 => any_number(random),
+        1 | 2 => fits.wrapping_add(1),
+        3 => fits.saturating_sub(random.below(2_000) as u32),
+        _ => fits,
+    };
+    tables.set_count(group, count);
+}
+
+/// Opens a group, now and then under a key of another length.
+fn any_opening(random: &mut Random, tables: &mut Tables, group: u32) -> Answer {
+    let usual = 16 + random.below(32);
+    let length = other_length(random, usual, 6);
+    set_numbers(random, tables, group, Session::START_COUNT);
+    tables.open_group(group, &random.bytes(length))
+}
+
+/// Wraps for a group, now and then with texts or buffers of other lengths.
+fn any_wrap(random: &mut Random, tables: &mut Tables, group: u32) -> Answer {
+    let (metadata, message) = (text(random), text(random));
+    set_numbers(random, tables, group, count(metadata.len(), message.len()));
+    let (a, m) = (maybe_long(random, &metadata, 20), maybe_long(random, &message, 20));
+    let (room, tag_length) = (other_length(random, m.len(), 10), other_length(random, 32, 12));
+    tables.wrap(group, &a, &m, &mut random.bytes(room), &mut random.bytes(tag_length))
+}
+
+/// Unwraps for a group what its session takes, or something that is damaged.
+fn any_unwrap(random: &mut Random, tables: &mut Tables, group: u32) -> Answer {
+    let (metadata, message) = (text(random), text(random));
+    set_numbers(random, tables, group, count(metadata.len(), message.len()));
+    let record = tables.reference.records.get(group as usize);
+    let session = record.map_or(Session::CLOSED, |record| record.session.clone());
+    let (mut cryptogram, mut tag) = (vec![0; message.len()], vec![0; 32]);
+    Session { index: 0, open: true, ..session }.wrap(&metadata, &message, &mut cryptogram, &mut tag).unwrap();
+    tag.truncate(other_length(random, 32, 12));
+    let arrival = Arrival { metadata, cryptogram, tag, message };
+    let bad = if random.once_in(3) { arrival.damaged(random) } else { arrival.clone() };
+    let room = other_length(random, arrival.message.len(), 10);
+    let answer = tables.unwrap(group, &bad.metadata, &bad.cryptogram, &bad.tag, &mut random.bytes(room));
+    assert!(answer.number != 0 || bad.travels_as(&arrival));
+    answer
+}
+
+/// The nearly-full question at some marks; the last answer's number.
+fn any_question(random: &mut Random, tables: &Tables) -> u32 {
+    let sessions = tables.reference.records.iter().map(|record| &record.session);
+    let highest = sessions.filter(|session| session.open).map(|session| session.index).max().unwrap_or(0);
+    for mark in [0, 1, highest.saturating_sub(1), highest, u32::MAX, random.bits() as u32] {
+        tables.nearly_full(mark);
+    }
+    tables.nearly_full(random.below(1_048_600) as u32)
+}
+
+/// Some calls on any table, most of them for one group, with starts of a day in between.
 #[test]
-fn any_table_and_any_day() {
+fn any_table_and_any_numbers() {
     let mut numbers = [0; 13];
-    cases("any_table_and_any_day", |random| {
-        let sessions: Vec<Session> = (0..any_size(random)).map(|_| any_session(random)).collect();
-        let group = any_group(random);
-        let (metadata, message) = (text(random), text(random));
-        let (a, m) = (maybe_long(random, &metadata, 20), maybe_long(random, &message, 20));
-        let day = any_day(random, count(metadata.len(), message.len()));
-        let mut tables = Tables::of(Table { sessions, count: day.spent, allowance: day.allowance });
-        let room = other_length(random, m.len(), 10);
-        let mut out = random.bytes(room);
-        let tag_length = other_length(random, 32, 12);
-        let mut tag = random.bytes(tag_length);
-        let number = match random.below(9) {
-            0 | 1 => {
-                let key = key(random);
-                let one = any_day(random, 1);
-                (tables.day, tables.reference.count, tables.reference.allowance) = (one, one.spent, one.allowance);
-                let key = random.bytes(other_length(&mut random.clone(), key.len(), 6));
-                tables.open_group(group, &key).number
-            }
-            2..5 => tables.wrap(group, &a, &m, &mut out, &mut tag).number,
-            5 | 6 => {
-                let sealed = tables.reference.sessions.get(group as usize);
-                let mut sealed = Session { index: 0, open: true, ..sealed.cloned().unwrap_or(Session::CLOSED) };
-                let mut cryptogram = vec![0; message.len()];
-                let mut whole = [0; 32];
-                sealed.wrap(&metadata, &message, &mut cryptogram, &mut whole).unwrap();
-                if tag.len() == 32 {
-                    tag.copy_from_slice(&whole);
+    cases("any_table_and_any_numbers", |random| {
+        let records = (0..any_size(random)).map(|_| any_record(random)).collect();
+        let mut tables = Tables::of(Table { records, allowance: any_number(random) });
+        let mostly = any_group(random);
+        for _ in 0..6 {
+            let group = if random.once_in(3) { any_group(random) } else { mostly };
+            let number = match random.below(12) {
+                0 => {
+                    tables.start_day(any_number(random));
+                    continue;
                 }
-                let arrival = Arrival { metadata, cryptogram, tag, message };
-                let bad = if random.once_in(3) { arrival.damaged(random) } else { arrival.clone() };
-                let answer = tables.unwrap(group, &bad.metadata, &bad.cryptogram, &bad.tag, &mut out);
-                assert!(answer.number != 0 || bad.travels_as(&arrival));
-                answer.number
-            }
-            7 if !tables.sessions.is_empty() => tables.code(random, group as usize % tables.sessions.len()),
-            _ => {
-                let highest = tables.reference.sessions.iter().filter(|s| s.open).map(|s| s.index).max().unwrap_or(0);
-                for mark in [0, 1, highest.saturating_sub(1), highest, u32::MAX, random.bits() as u32] {
-                    tables.nearly_full(mark);
-                }
-                tables.nearly_full(random.below(1_048_600) as u32)
-            }
-        };
-        numbers[number as usize] += 1;
+                1 | 2 => any_opening(random, &mut tables, group).number,
+                3..6 => any_wrap(random, &mut tables, group).number,
+                6..10 => any_unwrap(random, &mut tables, group).number,
+                10 if !tables.records.is_empty() => tables.code(random, group as usize % tables.records.len()).number,
+                _ => any_question(random, &tables),
+            };
+            numbers[number as usize] += 1;
+        }
     });
     if is_whole_run() {
-        assert!((3..13).chain([0]).all(|number| numbers[number] >= 5), "{numbers:?}");
+        assert!((3..13).chain([0]).all(|number| numbers[number] >= 20), "{numbers:?}");
+        assert!(numbers[10] >= 300 && numbers[11] >= 100, "{numbers:?}");
     }
 }
 
-/// The office and its groups, each group with a lone session, for some days.
+/// A table with these counts, whose sessions are open.
+fn open_table(counts: impl Fn(u32) -> u32) -> Table {
+    let session = |group| Session::start(&[group as u8 + 1; 16]).unwrap();
+    let records = (0..32).map(|group| Reference { session: session(group), count: counts(group) });
+    Table { records: records.collect(), allowance: 0 }
+}
+
+/// Wraps a message without bytes, which counts 3.
+fn wrap_nothing(tables: &mut Tables, group: u32) -> Answer {
+    tables.wrap(group, &[], &[], &mut [], &mut [0; 32])
+}
+
+const POOR: Answer = Answer { number: 10, count: 0 };
+
+#[test]
+fn a_busy_group_does_not_stop_the_others() {
+    let mut tables = Tables::of(open_table(|_| u32::MAX));
+    tables.start_day(7);
+    for expected in [Answer { number: 0, count: 3 }, Answer { number: 0, count: 3 }, POOR, POOR] {
+        assert_eq!(wrap_nothing(&mut tables, 5), expected);
+    }
+    assert_eq!(tables.unwrap(5, &[], &[], &[0; 32], &mut []), POOR);
+    assert_eq!(tables.open_group(5, &[7; 16]), Answer { number: 0, count: 1 }, "one is left");
+    assert_eq!(tables.open_group(5, &[7; 16]), POOR);
+    for group in (0..32).filter(|group| *group != 5) {
+        assert_eq!(wrap_nothing(&mut tables, group), Answer { number: 0, count: 3 }, "group {group}");
+        assert_eq!(tables.records[group as usize].count, 3);
+    }
+    assert_eq!(tables.records[5].count, 7);
+    assert_eq!(wrap_nothing(&mut tables, 5), POOR);
+    tables.start_day(7);
+    assert_eq!(wrap_nothing(&mut tables, 5), Answer { number: 0, count: 3 }, "a new day");
+}
+
+#[test]
+fn opening_again_adds_one() {
+    let mut tables = Tables::of(open_table(|group| group));
+    tables.allowance = 33;
+    tables.reference.allowance = 33;
+    for expected in [Answer { number: 0, count: 1 }, Answer { number: 0, count: 1 }, POOR] {
+        assert_eq!(tables.open_group(31, &[9; 47]), expected);
+    }
+    assert_eq!(tables.records[31].count, 33, "the count is not set back");
+    assert!(same(&tables.records[31].session, &record_of(&Session::start(&[9; 47]).unwrap())));
+    let before = group_record_of(&tables.reference.records[30]);
+    for (group, key, number) in [(30, 15, 4), (30, 48, 4), (30, 0, 4), (32, 16, 3), (u32::MAX, 15, 3)] {
+        assert_eq!(tables.open_group(group, &vec![9; key]), Answer { number, count: 0 });
+    }
+    (tables.allowance, tables.reference.allowance) = (30, 30);
+    assert_eq!(tables.open_group(30, &[9; 16]), POOR);
+    assert!(same_group(&tables.records[30], &before), "a refused opening leaves the record");
+}
+
+#[test]
+fn a_wrong_tag_adds_to_its_group_alone() {
+    let mut tables = Tables::of(open_table(|group| 100 * group));
+    (tables.allowance, tables.reference.allowance) = (1_000, 1_000);
+    let mut expected = group_record_of(&tables.reference.records[3]);
+    let mut out = [0xA5; 49];
+    assert_eq!(tables.unwrap(3, &[1; 20], &[2; 48], &[3; 32], &mut out), Answer { number: 11, count: 8 });
+    assert_eq!((&out[..48], out[48]), (&[0; 48][..], 0xA5));
+    expected.count = 308;
+    assert!(same_group(&tables.records[3], &expected));
+    assert!((0..32).filter(|group| *group != 3).all(|group| tables.records[group].count == 100 * group as u32));
+}
+
+#[test]
+fn a_day_over_any_number_of_records() {
+    cases("a_day_over_any_number_of_records", |random| {
+        for size in [0, 1, 31, 32, 33] {
+            let records: Vec<Reference> = (0..size).map(|_| any_record(random)).collect();
+            let mut library: Vec<_> = records.iter().map(group_record_of).collect();
+            let allowance = any_number(random);
+            assert_eq!(raw::start_day(&mut library, allowance), allowance);
+            for (record, before) in library.iter().zip(&records) {
+                assert!(record.count == 0 && same(&record.session, &record_of(&before.session)));
+            }
+            Tables::of(Table { records, allowance: !allowance }).start_day(allowance);
+        }
+    });
+}
+
+#[test]
+fn counts_near_the_highest_number() {
+    let accepted = |count| Answer { number: 0, count };
+    let mut tables = Tables::of(open_table(|group| u32::MAX - group));
+    (tables.allowance, tables.reference.allowance) = (u32::MAX, u32::MAX);
+    assert_eq!((wrap_nothing(&mut tables, 2), wrap_nothing(&mut tables, 0)), (POOR, POOR), "a sum past 32 bits");
+    assert_eq!((tables.open_group(0, &[1; 16]), tables.open_group(1, &[1; 16])), (POOR, accepted(1)));
+    assert_eq!((wrap_nothing(&mut tables, 3), wrap_nothing(&mut tables, 4)), (accepted(3), accepted(3)));
+    assert_eq!(tables.unwrap(8, &[], &[], &[0; 32], &mut []), Answer { number: 11, count: 3 });
+    assert_eq!(tables.unwrap(6, &[], &[1], &[0; 32], &mut [0]), Answer { number: 11, count: 6 });
+    assert_eq!([1, 3, 4, 6, 8].map(|group: usize| tables.records[group].count), [0, 0, 1, 0, 5].map(|n| u32::MAX - n));
+    assert_eq!((wrap_nothing(&mut tables, 3), tables.open_group(3, &[1; 16])), (POOR, POOR));
+    // A count above the allowance, which no call leaves behind; and allowances that the sum would pass as 32 bits.
+    for allowance in [0, 1, 2, u32::MAX - 4, u32::MAX - 1] {
+        (tables.allowance, tables.reference.allowance) = (allowance, allowance);
+        assert_eq!((wrap_nothing(&mut tables, 3), tables.open_group(3, &[1; 16])), (POOR, POOR), "{allowance}");
+    }
+    tables.start_day(u32::MAX);
+    assert_eq!((wrap_nothing(&mut tables, 3), tables.records[3].count), (accepted(3), 3));
+}
+
+/// The office and its groups, each group with a lone session at its own end; and what has happened.
+struct Season {
+    office: Tables,
+    groups: Vec<Option<Both>>,
+    accepted: u32,
+    refused: u32,
+    poor: u32,
+}
+
+/// Up to 199 bytes.
+fn short(random: &mut Random) -> Vec<u8> {
+    let length = random.below(200);
+    random.bytes(length)
+}
+
+impl Season {
+    /// Something happens to a group: its session is opened, or a message goes one way or the other.
+    fn turn(&mut self, random: &mut Random, group: u32) {
+        let place = group as usize;
+        if self.groups[place].is_none() || random.once_in(20) {
+            let key = key(random);
+            if self.office.open_group(group, &key).number == 0 {
+                self.groups[place] = Some(Both::start(random, &key).0);
+            }
+            return;
+        }
+        let Some(mut lone) = self.groups[place].take() else { unreachable!() };
+        let out = random.once_in(2);
+        let went = if out { self.to_group(random, group, &mut lone) } else { self.to_office(random, group, &mut lone) };
+        if went {
+            assert!(same(&lone.library, &self.office.records[place].session));
+            let _ = self.office.code(random, place);
+        }
+        self.groups[place] = Some(lone);
+    }
+
+    /// A message goes out to the group, and so does a forged one, unless the group's allowance does not cover it.
+    fn to_group(&mut self, random: &mut Random, group: u32, lone: &mut Both) -> bool {
+        let (metadata, message) = (short(random), short(random));
+        let (mut out, mut tag) = (random.bytes(message.len()), random.bytes(32));
+        if self.office.wrap(group, &metadata, &message, &mut out, &mut tag).number == 10 {
+            self.poor += 1;
+            return false;
+        }
+        let sent = Arrival { metadata, cryptogram: out, tag, message };
+        let forged = sent.damaged(random);
+        if !forged.travels_as(&sent) {
+            let mut out = random.bytes(forged.cryptogram.len());
+            assert_eq!(lone.unwrap(&forged.metadata, &forged.cryptogram, &forged.tag, &mut out).number, 11);
+            self.refused += 1;
+        }
+        let mut back = random.bytes(sent.message.len());
+        assert_eq!(lone.unwrap(&sent.metadata, &sent.cryptogram, &sent.tag, &mut back).number, 0);
+        assert!(back == sent.message);
+        self.accepted += 1;
+        true
+    }
+
+    /// A message goes back to the office, in an envelope whose header may be damaged on the way, and then once more.
+    fn to_office(&mut self, random: &mut Random, group: u32, lone: &mut Both) -> bool {
+        let before = copy(&lone.library);
+        let (metadata, message) = (short(random), short(random));
+        let (mut out, mut tag) = (random.bytes(message.len()), random.bytes(32));
+        assert_eq!(lone.wrap(&metadata, &message, &mut out, &mut tag).number, 0);
+        self.damaged_header(random, group, &metadata, &out, &tag);
+        let mut back = random.bytes(message.len());
+        let answer = self.office.unwrap(group, &metadata, &out, &tag, &mut back);
+        if answer.number == 10 {
+            // The group takes it back, as nobody has opened it: tests may.
+            lone.reference = before.reference();
+            lone.library = before;
+            self.poor += 1;
+            return false;
+        }
+        assert!(answer.number == 0 && back == message);
+        self.accepted += 1;
+        let repeated = self.office.unwrap(group, &metadata, &out, &tag, &mut back);
+        assert!([10, 11].contains(&repeated.number));
+        self.refused += 1;
+        true
+    }
+
+    /// The envelope with another byte in its header is no envelope, or the office refuses it.
+    fn damaged_header(&mut self, random: &mut Random, group: u32, metadata: &[u8], cryptogram: &[u8], tag: &[u8]) {
+        let mut bytes = vec![0; 17 + metadata.len() + cryptogram.len() + 32];
+        let len = envelope::write(b'S', group, metadata, cryptogram, tag, &mut bytes).unwrap();
+        bytes.truncate(len);
+        bytes.extend(random.bytes(40));
+        let header = len - 32 - metadata.len() - cryptogram.len();
+        let mut damaged = bytes.clone();
+        damaged[random.below(header)] = random.pick(b"0123456789,SN");
+        if damaged == bytes {
+            return;
+        }
+        let Ok(parts) = envelope::read(&damaged) else { return };
+        let mut out = random.bytes(parts.cryptogram.len());
+        let answer = self.office.unwrap(parts.group, parts.metadata, parts.cryptogram, parts.tag, &mut out);
+        // The other letter goes with a shorter tag.
+        let expected = if parts.letter == b'N' { &[7][..] } else { &[5, 10, 11] };
+        assert!(expected.contains(&answer.number), "{answer:?}");
+        self.refused += 1;
+    }
+}
+
+/// The office and its groups, for some days.
 #[test]
 fn an_office_and_its_groups() {
     let (mut accepted, mut refused, mut poor) = (0, 0, 0);
     cases("an_office_and_its_groups", |random| {
-        let mut office = Tables::of(Table::new());
-        let mut groups: Vec<Option<Both>> = (0..32).map(|_| None).collect();
+        let groups = (0..32).map(|_| None).collect();
+        let mut season = Season { office: Tables::of(Table::new()), groups, accepted: 0, refused: 0, poor: 0 };
         for _ in 0..12 {
             let group = if random.once_in(3) { random.below(32) } else { random.below(4) };
-            let number = group as u32;
             if random.once_in(8) {
-                office.start_day(random.below(400) as u32);
+                season.office.start_day(random.below(120) as u32);
             }
-            if groups[group].is_none() || random.once_in(20) {
-                let key = key(random);
-                if office.open_group(number, &key).number == 0 {
-                    groups[group] = Some(Both::start(random, &key).0);
-                }
-                continue;
-            }
-            let (metadata, message) =
-                (random.bytes(random.clone().below(200)), random.bytes(random.clone().below(200)));
-            let (mut out, mut tag) = (random.bytes(message.len()), random.bytes(32));
-            let Some(lone) = &mut groups[group] else { unreachable!() };
-            if random.once_in(2) {
-                // Out to the group.
-                if office.wrap(number, &metadata, &message, &mut out, &mut tag).number == 10 {
-                    poor += 1;
-                    continue;
-                }
-                let mut back = random.bytes(message.len());
-                let bad = Arrival { metadata, cryptogram: out, tag, message };
-                let forged = bad.damaged(random);
-                if !forged.travels_as(&bad) {
-                    let mut out = random.bytes(forged.cryptogram.len());
-                    assert_eq!(lone.unwrap(&forged.metadata, &forged.cryptogram, &forged.tag, &mut out).number, 11);
-                    refused += 1;
-                }
-                assert_eq!(lone.unwrap(&bad.metadata, &bad.cryptogram, &bad.tag, &mut back).number, 0);
-                assert!(back == bad.message);
-                accepted += 1;
-            } else {
-                // Back to the office, in an envelope whose header may be damaged on the way.
-                let before = copy(&lone.library);
-                assert_eq!(lone.wrap(&metadata, &message, &mut out, &mut tag).number, 0);
-                let mut bytes = vec![0; 17 + metadata.len() + message.len() + 32];
-                let len = envelope::write(b'S', number, &metadata, &out, &tag, &mut bytes).unwrap();
-                bytes.truncate(len);
-                bytes.extend(random.bytes(40));
-                let header = len - 32 - metadata.len() - message.len();
-                let mut damaged = bytes.clone();
-                damaged[random.below(header)] = random.pick(b"0123456789,SN");
-                if damaged != bytes
-                    && let Ok(parts) = envelope::read(&damaged)
-                {
-                    let mut out = random.bytes(parts.cryptogram.len());
-                    let answer = office.unwrap(parts.group, parts.metadata, parts.cryptogram, parts.tag, &mut out);
-                    // The other letter goes with a shorter tag.
-                    let expected = if parts.letter == b'N' { &[7][..] } else { &[5, 10, 11] };
-                    assert!(expected.contains(&answer.number), "{answer:?}");
-                    refused += 1;
-                }
-                let mut back = random.bytes(message.len());
-                let answer = office.unwrap(number, &metadata, &out, &tag, &mut back);
-                if answer.number == 10 {
-                    // The group takes it back, as nobody has opened it: tests may.
-                    lone.reference = before.reference();
-                    lone.library = before;
-                    poor += 1;
-                    continue;
-                }
-                assert_eq!(answer.number, 0);
-                assert!(back == message);
-                accepted += 1;
-                let mut again = random.bytes(message.len());
-                let repeated = office.unwrap(number, &metadata, &out, &tag, &mut again);
-                assert!([10, 11].contains(&repeated.number));
-                refused += 1;
-            }
-            assert!(same(&lone.library, &office.sessions[group]));
-            office.code(random, group);
+            season.turn(random, group as u32);
         }
+        accepted += season.accepted;
+        refused += season.refused;
+        poor += season.poor;
     });
     if is_whole_run() {
         assert!(accepted > 1_000 && refused > 1_000 && poor > 100, "{accepted} {refused} {poor}");

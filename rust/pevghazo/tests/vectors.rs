@@ -8,7 +8,7 @@ mod vectors;
 use std::collections::HashMap;
 
 use common::Library;
-use pevghazo::raw::{self, Answer, Day, GroupAnswer, Record, SaneRecord};
+use pevghazo::raw::{self, Answer, GroupRecord, Record, SaneRecord};
 use pevghazo_reference::session::{Mode, Session};
 use vectors::{Record as Vector, records};
 
@@ -46,19 +46,20 @@ impl<R: Library> End for Lone<R> {
     }
 }
 
-/// A group's session in a table, and the day.
+/// A group's session in a table, the allowance, and what the group has counted so far.
 struct InTable {
-    table: Vec<Record>,
+    table: Vec<GroupRecord>,
     group: u32,
-    day: Day,
+    allowance: u32,
+    counted: u32,
 }
 
 impl InTable {
-    /// Takes in the day, which has grown by the count.
-    fn take(&mut self, GroupAnswer { number, count, day }: GroupAnswer) -> Answer {
-        assert_eq!(day, Day { spent: self.day.spent + count, ..self.day });
-        self.day = day;
-        Answer { number, count }
+    /// Adds the count of an answer, as the group's record does.
+    fn take(&mut self, given: Answer) -> Answer {
+        self.counted += given.count;
+        assert_eq!(self.table[self.group as usize].count, self.counted, "the group's count");
+        given
     }
 }
 
@@ -66,18 +67,19 @@ impl End for InTable {
     type Record = Record;
 
     fn record(&self) -> &Record {
-        let closed = self.table.iter().filter(|record| record.reference() == Session::CLOSED).count();
+        let is_closed = |record: &&GroupRecord| record.session.reference() == Session::CLOSED && record.count == 0;
+        let closed = self.table.iter().filter(is_closed).count();
         assert_eq!((self.table.len(), closed), (32, 31), "the other groups");
-        &self.table[self.group as usize]
+        &self.table[self.group as usize].session
     }
 
     fn wrap(&mut self, metadata: &[u8], message: &[u8], out: &mut [u8], tag: &mut [u8]) -> Answer {
-        let given = raw::wrap_group(&mut self.table, self.group, self.day, metadata, message, out, tag);
+        let given = raw::wrap_group(&mut self.table, self.group, self.allowance, metadata, message, out, tag);
         self.take(given)
     }
 
     fn unwrap(&mut self, metadata: &[u8], cryptogram: &[u8], tag: &[u8], out: &mut [u8]) -> Answer {
-        let given = raw::unwrap_group(&mut self.table, self.group, self.day, metadata, cryptogram, tag, out);
+        let given = raw::unwrap_group(&mut self.table, self.group, self.allowance, metadata, cryptogram, tag, out);
         self.take(given)
     }
 }
@@ -91,9 +93,10 @@ fn lone(vector: &Vector) -> (Lone<Record>, Answer) {
 
 /// Opens a group.
 fn in_table(vector: &Vector) -> (InTable, Answer) {
-    let table = (0..32).map(|_| Record::closed()).collect();
-    let mut end = InTable { table, group: vector.number("session") as u32 % 32, day: raw::start_day(1_000_000) };
-    let given = raw::open_group(&mut end.table, end.group, end.day, &vector.bytes("key"));
+    let mut table: Vec<GroupRecord> = (0..32).map(|_| GroupRecord::closed()).collect();
+    let allowance = raw::start_day(&mut table, 1_000_000);
+    let mut end = InTable { table, group: vector.number("session") as u32 % 32, allowance, counted: 0 };
+    let given = raw::open_group(&mut end.table, end.group, allowance, &vector.bytes("key"));
     let answer = end.take(given);
     (end, answer)
 }

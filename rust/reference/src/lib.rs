@@ -7,7 +7,7 @@
 //!   (section 5);
 //! * the Farfalle paper, section 3: the construction that makes a deck function from a permutation;
 //! * the scope document, number 01: limits, counts, what a refusal leaves behind, the envelope and the office's table;
-//! * document 02: the codes for packets; counts, limits and the envelope's letter of SANE.
+//! * document 02: the codes for packets; counts, limits and the envelope's letter of SANE; a count of the day for each group.
 //!
 //! # The layers
 //!
@@ -24,7 +24,7 @@
 //! | [`codes`] | the codes for packets that a session gives |
 //! | [`ledger`] | the same sessions kept as key and full history, with the deck function worked out afresh at each call |
 //! | [`envelope`] | the bytes in which a sealed message travels, with a letter for its mode |
-//! | [`table`] | the office's table of 32 sessions with one allowance of permutations for the day |
+//! | [`table`] | the office's table of 32 sessions, each with its count of the day, under one allowance of permutations |
 //! | [`refusal`] | the numbers under which a call is refused |
 //! | [`random`] | a small deterministic generator of test data |
 //!

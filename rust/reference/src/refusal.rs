@@ -25,7 +25,7 @@ pub enum Number {
     Buffer = 8,
     /// 9: the index after the call would exceed its limit.
     Full = 9,
-    /// 10: the day's allowance does not cover this call.
+    /// 10: the allowance is smaller than the group's count of the day plus this call's count.
     Allowance = 10,
     /// 11: the tag is not the one that this session finds.
     Tag = 11,
@@ -51,7 +51,7 @@ impl Number {
             Number::TagLength => "The tag must have 32 bytes, in SANE 16.",
             Number::Buffer => "The output buffer is too short.",
             Number::Full => "The session is full: start a new one with a new key.",
-            Number::Allowance => "The day's allowance does not cover this call.",
+            Number::Allowance => "The group's allowance for the day does not cover this call.",
             Number::Tag => "The tag is wrong: the arrival is damaged, repeated, out of order or not for this session.",
             Number::NoCode => "There is no code: no message was accepted yet, or the packet is above 2,047.",
         }

@@ -1,6 +1,7 @@
-//! The office's table of sessions (document 01, "The row").
+//! The office's table of sessions (document 01, "The row"; the counts of document 02, request 4).
 //!
-//! The table has 32 records, one for each group, with one day's count of permutations and one allowance for all of them.
+//! The table has 32 records, one for each group: a session and, beside it, the group's own count of the day's permutations. One
+//! allowance holds for every group.
 
 use crate::refusal::{Number, Refusal};
 use crate::session::Session;
@@ -8,16 +9,39 @@ use crate::session::Session;
 /// The number of records of a table.
 pub const GROUPS: usize = 32;
 
-/// The table, its day's count and its allowance. The fields are open so that tests can make any table, also one that is
-/// too short or too long.
+/// A group's record. Its fields are open so that tests can make any record.
+#[derive(Clone, Debug, PartialEq, Eq)]
+pub struct GroupRecord {
+    /// The session.
+    pub session: Session,
+    /// The permutations of this group's calls of the day so far.
+    pub count: u32,
+}
+
+/// The table and its allowance. The fields are open so that tests can make any table, also one that is too short or too long.
 #[derive(Clone, Debug, PartialEq, Eq)]
 pub struct Table {
     /// The records, by group.
-    pub sessions: Vec<Session>,
-    /// The permutations of this day's calls so far.
-    pub count: u32,
-    /// The most permutations that a day's calls may make together.
+    pub records: Vec<GroupRecord>,
+    /// The most permutations that the calls of each group may make in a day.
     pub allowance: u32,
+}
+
+impl GroupRecord {
+    /// A closed session and a count of 0.
+    pub const CLOSED: GroupRecord = GroupRecord { session: Session::CLOSED, count: 0 };
+
+    /// Check 10, which looks at this group alone.
+    fn check_allowance(&self, allowance: u32, count: u32) -> Result<(), Number> {
+        let needed = u64::from(self.count) + u64::from(count);
+        if u64::from(allowance) < needed { Err(Number::Allowance) } else { Ok(()) }
+    }
+
+    /// Adds the count of an answer to the group's: that of an accepted call, or of a wrong tag.
+    fn charge(&mut self, answer: Result<u32, Refusal>) -> Result<u32, Refusal> {
+        self.count += answer.unwrap_or_else(|refusal| refusal.count);
+        answer
+    }
 }
 
 impl Default for Table {
@@ -27,43 +51,38 @@ impl Default for Table {
 }
 
 impl Table {
-    /// The table before the first day: 32 closed records, count and allowance 0.
+    /// The table before the first day: 32 closed records, counts and allowance 0.
     pub fn new() -> Table {
-        Table { sessions: vec![Session::CLOSED; GROUPS], count: 0, allowance: 0 }
+        Table { records: vec![GroupRecord::CLOSED; GROUPS], allowance: 0 }
     }
 
-    /// Starts a day. Never refused.
+    /// Starts a day: every group has this allowance and a count of 0, however many records there are. Never refused.
     pub fn start_day(&mut self, allowance: u32) {
-        self.count = 0;
         self.allowance = allowance;
+        for record in &mut self.records {
+            record.count = 0;
+        }
     }
 
     /// Check 3.
-    fn check_group(&self, group: u32) -> Result<usize, Number> {
-        if self.sessions.len() == GROUPS && (group as usize) < GROUPS { Ok(group as usize) } else { Err(Number::Group) }
+    fn check_group(&self, group: u32) -> Result<(), Number> {
+        if self.records.len() == GROUPS && (group as usize) < GROUPS { Ok(()) } else { Err(Number::Group) }
     }
 
-    /// Check 10.
-    fn check_allowance(&self, count: u32) -> Result<(), Number> {
-        if u64::from(self.allowance) < u64::from(self.count) + u64::from(count) {
-            return Err(Number::Allowance);
-        }
-        Ok(())
+    /// The allowance, and a group's record. Meets 3.
+    fn group(&mut self, group: u32) -> Result<(u32, &mut GroupRecord), Number> {
+        self.check_group(group)?;
+        Ok((self.allowance, &mut self.records[group as usize]))
     }
 
-    /// Adds the count of an answer to the day's count: that of an accepted call, or of a wrong tag.
-    fn charge(&mut self, answer: Result<u32, Refusal>) -> Result<u32, Refusal> {
-        self.count += answer.unwrap_or_else(|refusal| refusal.count);
-        answer
-    }
-
-    /// Replaces a group's session by a fresh one under this key, and gives the count. Meets 3, 4 and 10.
+    /// Replaces a group's session by a fresh one under this key, and gives the count, which is added to the group's. Meets 3, 4
+    /// and 10.
     pub fn open_group(&mut self, group: u32, key: &[u8]) -> Result<u32, Refusal> {
-        let group = self.check_group(group)?;
+        let (allowance, record) = self.group(group)?;
         let session = Session::start(key)?;
-        self.check_allowance(Session::START_COUNT)?;
-        self.sessions[group] = session;
-        self.charge(Ok(Session::START_COUNT))
+        record.check_allowance(allowance, Session::START_COUNT)?;
+        record.session = session;
+        record.charge(Ok(Session::START_COUNT))
     }
 
     /// Wraps for a group; see [`Session::wrap`]. Meets 3 and 5 to 10.
@@ -75,15 +94,14 @@ impl Table {
         cryptogram: &mut [u8],
         tag: &mut [u8],
     ) -> Result<u32, Refusal> {
-        let group = self.check_group(group)?;
-        let session = &mut self.sessions[group];
-        let count = session.check(metadata.len(), message.len(), tag.len(), cryptogram.len())?;
-        self.check_allowance(count)?;
-        let answer = self.sessions[group].wrap(metadata, message, cryptogram, tag);
-        self.charge(answer)
+        let (allowance, record) = self.group(group)?;
+        let count = record.session.check(metadata.len(), message.len(), tag.len(), cryptogram.len())?;
+        record.check_allowance(allowance, count)?;
+        let answer = record.session.wrap(metadata, message, cryptogram, tag);
+        record.charge(answer)
     }
 
-    /// Unwraps for a group; see [`Session::unwrap`]. Meets 3 and 5 to 11; number 11 adds its count to the day's.
+    /// Unwraps for a group; see [`Session::unwrap`]. Meets 3 and 5 to 11; number 11 adds its count to the group's.
     pub fn unwrap(
         &mut self,
         group: u32,
@@ -92,17 +110,16 @@ impl Table {
         tag: &[u8],
         message: &mut [u8],
     ) -> Result<u32, Refusal> {
-        let group = self.check_group(group)?;
-        let session = &mut self.sessions[group];
-        let count = session.check(metadata.len(), cryptogram.len(), tag.len(), message.len())?;
-        self.check_allowance(count)?;
-        let answer = self.sessions[group].unwrap(metadata, cryptogram, tag, message);
-        self.charge(answer)
+        let (allowance, record) = self.group(group)?;
+        let count = record.session.check(metadata.len(), cryptogram.len(), tag.len(), message.len())?;
+        record.check_allowance(allowance, count)?;
+        let answer = record.session.unwrap(metadata, cryptogram, tag, message);
+        record.charge(answer)
     }
 
     /// Whether a group's session is open with an index above the mark.
     pub fn is_nearly_full(&self, group: usize, mark: u32) -> bool {
-        self.sessions.get(group).is_some_and(|session| session.open && session.index > mark)
+        self.records.get(group).is_some_and(|record| record.session.open && record.session.index > mark)
     }
 
     /// A group whose session is open with an index above the mark, or none if there is no such group. Meets 3 for a table

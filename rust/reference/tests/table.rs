@@ -4,7 +4,17 @@ use pevghazo_reference::limits::INDEX_MAX;
 use pevghazo_reference::refusal::{Number, Refusal};
 use pevghazo_reference::sanse::count;
 use pevghazo_reference::session::Session;
-use pevghazo_reference::table::{GROUPS, Table};
+use pevghazo_reference::table::{GROUPS, GroupRecord, Table};
+
+/// The groups' counts, in their order.
+fn counts(table: &Table) -> Vec<u32> {
+    table.records.iter().map(|record| record.count).collect()
+}
+
+/// All counts 0, but for one group's.
+fn only(group: usize, count: u32) -> Vec<u32> {
+    (0..GROUPS).map(|other| if other == group { count } else { 0 }).collect()
+}
 
 #[test]
 fn a_day_in_the_office() {
@@ -21,35 +31,70 @@ fn a_day_in_the_office() {
     let (mut c, mut tag) = (vec![0; 48], vec![0; 32]);
     assert_eq!(table.wrap(4, &a, &m, &mut c, &mut tag), Err(Number::Closed.into()));
     assert_eq!(table.wrap(3, &a, &m, &mut c, &mut tag), Ok(count(20, 48)));
-    assert_eq!((table.count, table.allowance), (9, 17));
+    assert_eq!((counts(&table), table.allowance), (only(3, 9), 17));
     let mut back = vec![0; 48];
     group.unwrap(&a, &c, &tag, &mut back).unwrap();
     assert_eq!(back, m);
-    assert_eq!(group, table.sessions[3]);
+    assert_eq!(group, table.records[3].session);
 
-    // A wrong tag is charged, and leaves the session and the other groups as they were.
-    let before = table.clone();
+    // A wrong tag is charged to its group, and leaves the session and the other groups as they were.
+    let mut expected = table.clone();
     let answer = table.unwrap(3, &a, &c, &tag, &mut back);
     assert_eq!(answer, Err(Refusal { number: Number::Tag, count: 8 }));
     assert_eq!(back, vec![0; 48]);
-    assert_eq!(table, Table { count: 17, ..before });
-    let before = table.clone();
+    expected.records[3].count = 17;
+    assert_eq!(table, expected);
     back.fill(9);
     assert_eq!(table.unwrap(3, &a, &c, &tag, &mut back), Err(Number::Allowance.into()));
-    assert_eq!((back, &table), (vec![9; 48], &before));
+    assert_eq!((back, &table), (vec![9; 48], &expected));
     assert_eq!(table.open_group(3, &[1; 16]), Err(Number::Allowance.into()));
-    assert_eq!(table, before);
+    assert_eq!(table, expected);
+}
 
-    table.start_day(u32::MAX);
-    assert_eq!((table.count, table.allowance), (0, u32::MAX));
-    assert_eq!(table.open_group(3, &[2; 47]), Ok(1));
-    assert_eq!(table.sessions[3], Session::start(&[2; 47]).unwrap());
+#[test]
+fn a_busy_group_does_not_stop_the_others() {
+    let mut table = Table::new();
+    let (mut out, mut tag) = ([0; 1], [0; 32]);
+    table.start_day(7);
+    assert_eq!((table.open_group(3, &[1; 16]), table.open_group(4, &[1; 16])), (Ok(1), Ok(1)));
+    for answer in [Ok(3), Ok(3), Err(Number::Allowance.into())] {
+        assert_eq!(table.wrap(3, &[], &[], &mut out, &mut tag), answer);
+    }
+    assert_eq!(table.wrap(4, &[], &[7], &mut out, &mut tag), Ok(6));
+    assert_eq!((table.records[3].count, table.records[4].count), (7, 7));
+    assert_eq!(table.open_group(5, &[1; 16]), Ok(1));
+}
+
+#[test]
+fn opening_again_adds_to_the_count() {
+    let mut table = Table::new();
+    table.start_day(3);
+    for (key, answer) in [(1, Ok(1)), (2, Ok(1)), (3, Ok(1)), (4, Err(Number::Allowance.into()))] {
+        assert_eq!(table.open_group(31, &[key; 47]), answer);
+    }
+    assert_eq!(table.records[31], GroupRecord { session: Session::start(&[3; 47]).unwrap(), count: 3 });
+    assert_eq!(counts(&table), only(31, 3));
+}
+
+#[test]
+fn a_day_over_any_number_of_records() {
+    for records in [0, 1, 31, 32, 33] {
+        let record = |i| GroupRecord { session: Session::start(&[i as u8; 16]).unwrap(), count: u32::MAX - i };
+        let mut table = Table { records: (0..records).map(record).collect(), allowance: 5 };
+        let sessions: Vec<Session> = table.records.iter().map(|record| record.session.clone()).collect();
+        for allowance in [u32::MAX, 0] {
+            table.start_day(allowance);
+            assert_eq!(table.allowance, allowance);
+            assert_eq!(counts(&table), vec![0; records as usize]);
+            assert!(table.records.iter().map(|record| &record.session).eq(&sessions));
+        }
+    }
 }
 
 #[test]
 fn a_table_of_another_size_is_refused() {
     for records in [0, 1, 31, 33] {
-        let mut table = Table { sessions: vec![Session::CLOSED; records], count: 0, allowance: 0 };
+        let mut table = Table { records: vec![GroupRecord::CLOSED; records], allowance: 0 };
         table.start_day(1_000);
         let before = table.clone();
         let (mut out, mut tag) = ([0; 4], [0; 32]);
@@ -65,10 +110,10 @@ fn a_table_of_another_size_is_refused() {
 fn nearly_full_groups() {
     let mut table = Table::new();
     assert_eq!(table.nearly_full(0), Ok(None));
-    table.sessions[5] = Session { index: 100, ..Session::CLOSED };
+    table.records[5].session = Session { index: 100, ..Session::CLOSED };
     assert_eq!(table.nearly_full(0), Ok(None), "closed");
-    table.sessions[9] = Session { index: 100, open: true, ..Session::CLOSED };
-    table.sessions[31] = Session { index: INDEX_MAX, open: true, ..Session::CLOSED };
+    table.records[9].session = Session { index: 100, open: true, ..Session::CLOSED };
+    table.records[31].session = Session { index: INDEX_MAX, open: true, ..Session::CLOSED };
     assert_eq!(table.nearly_full(99), Ok(Some(9)));
     assert_eq!(table.nearly_full(100), Ok(Some(31)));
     assert_eq!(table.nearly_full(INDEX_MAX), Ok(None));
@@ -79,8 +124,8 @@ fn nearly_full_groups() {
 fn the_last_check_met_before_the_tag_is_the_allowance() {
     let mut table = Table::new();
     table.start_day(2);
-    table.sessions[0] = Session { index: INDEX_MAX, ..Session::start(&[3; 16]).unwrap() };
-    table.sessions[1] = Session::start(&[3; 16]).unwrap();
+    table.records[0].session = Session { index: INDEX_MAX, ..Session::start(&[3; 16]).unwrap() };
+    table.records[1].session = Session::start(&[3; 16]).unwrap();
     let (mut out, mut tag) = ([0; 1], [0; 32]);
     assert_eq!(table.wrap(0, &[], &[], &mut out, &mut tag), Err(Number::Full.into()));
     assert_eq!(table.wrap(1, &[], &[0, 0], &mut out, &mut tag), Err(Number::Buffer.into()));
@@ -88,10 +133,20 @@ fn the_last_check_met_before_the_tag_is_the_allowance() {
     assert_eq!(table.unwrap(1, &[], &[], &tag, &mut out), Err(Number::Allowance.into()));
     table.start_day(3);
     assert_eq!(table.unwrap(1, &[], &[], &tag, &mut out), Err(Refusal { number: Number::Tag, count: 3 }));
-    assert_eq!(table.count, 3);
-    // A table handed in with a count above its allowance, and sums past 32 bits.
-    table.count = u32::MAX;
-    table.allowance = u32::MAX;
+    assert_eq!(counts(&table), only(1, 3));
+}
+
+#[test]
+fn counts_up_to_the_highest_number() {
+    let (mut out, mut tag) = ([0; 1], [0; 32]);
+    let mut table = Table::new();
+    table.start_day(u32::MAX);
+    table.records[1] = GroupRecord { session: Session::start(&[3; 16]).unwrap(), count: u32::MAX - 3 };
+    table.records[2].count = u32::MAX;
+    assert_eq!(table.open_group(2, &[3; 16]), Err(Number::Allowance.into()), "a sum past 32 bits");
+    assert_eq!(table.wrap(1, &[], &[5], &mut out, &mut tag), Err(Number::Allowance.into()));
+    assert_eq!(table.wrap(1, &[], &[], &mut out, &mut tag), Ok(3));
+    assert_eq!(table.records[1].count, u32::MAX);
     assert_eq!(table.wrap(1, &[], &[], &mut out, &mut tag), Err(Number::Allowance.into()));
-    assert_eq!(table.open_group(2, &[3; 16]), Err(Number::Allowance.into()));
+    assert_eq!(table.open_group(3, &[3; 16]), Ok(1));
 }

@@ -8,7 +8,7 @@ use std::io::{Write, stderr};
 use std::os::unix::ffi::OsStrExt;
 use std::path::Path;
 
-use pevghazo::{Envelope, Number, Refusal, envelope};
+use pevghazo::{Envelope, Number, envelope};
 use pevghazo_store::{Secret, shown};
 
 use crate::arguments::Arguments;
@@ -35,7 +35,8 @@ pub fn seal<E: End>(arguments: &Arguments, out: &mut dyn Write) -> Result<(), Fa
         )));
     }
     output.must_be_new()?;
-    let bytes = used.state.seal(group, &metadata, &message).map_err(refused::<E>)?;
+    let sealed = used.state.seal(group, &metadata, &message);
+    let bytes = sealed.map_err(|refusal| used.state.refused(group, refusal))?;
     let length = bytes.len();
     used.state.kept(group)?.envelope = Some(Held::waiting(bytes));
     used.commit().map_err(|error| kept_envelope::<E>(group, arguments, error.into()))?;
@@ -57,11 +58,11 @@ pub fn open<E: End>(arguments: &Arguments, out: &mut dyn Write) -> Result<(), Fa
     let text = match used.state.open(&arrival) {
         Ok(text) => text,
         Err(refusal) if refusal.number == Number::WrongTag => {
-            // The office's count of the day has grown.
+            // At the office the group's count has grown.
             used.commit_if_altered().map_err(|error| Failure::NotCounted(refusal, error))?;
-            return Err(refused::<E>(refusal));
+            return Err(used.state.refused(group, refusal));
         }
-        Err(refusal) => return Err(refused::<E>(refusal)),
+        Err(refusal) => return Err(used.state.refused(group, refusal)),
     };
     let length = text.len();
     let kept = used.state.kept(group)?;
@@ -96,11 +97,6 @@ fn takes<E: End>(end: &mut E, arrival: &Envelope, arguments: &Arguments) -> Resu
         )));
     }
     Ok(())
-}
-
-/// A refusal by a session of this end.
-fn refused<E: End>(refusal: Refusal) -> Failure {
-    Failure::Refused(refusal, E::LETTER)
 }
 
 /// Prints what a script needs to know: on the standard output, or on the standard error where the other is taken or fails.

@@ -4,6 +4,7 @@ use std::io::Write;
 
 use super::messages::again;
 use crate::arguments::Arguments;
+use crate::end::End;
 use crate::failure::Failure;
 use crate::input;
 use crate::output::{print, tell};
@@ -17,13 +18,13 @@ pub fn create(arguments: &Arguments) -> Result<(), Failure> {
     Ok(())
 }
 
-/// Begins a day.
+/// Begins a day, with the same allowance for every group.
 pub fn day(arguments: &Arguments) -> Result<(), Failure> {
     let allowance = arguments.required_number("allowance")?;
     let mut used = Used::<Office>::open(arguments)?;
     used.state.table.start_day(allowance);
     used.commit()?;
-    tell(&format!("A day begins: allowance {allowance}, count 0."));
+    tell(&format!("A day begins: every group may spend {allowance} permutations, and all counts are 0."));
     Ok(())
 }
 
@@ -45,7 +46,8 @@ pub fn open_group(arguments: &Arguments) -> Result<(), Failure> {
         )));
     }
     used.state.keys.add(&key, arguments.has("reuse-key"))?;
-    used.state.table.open_group(group, &key)?;
+    let opened = used.state.table.open_group(group, &key);
+    opened.map_err(|refusal| used.state.refused(group, refusal))?;
     *used.state.kept(group)? = Default::default();
     used.commit()?;
     tell(&format!("Group {group} is open."));

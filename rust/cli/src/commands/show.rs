@@ -3,7 +3,7 @@
 use std::fmt::Write as _;
 use std::io::Write;
 
-use pevghazo::{GROUPS, SaneSession, Session};
+use pevghazo::{GROUPS, Group, SaneSession, Session};
 
 use crate::arguments::Arguments;
 use crate::failure::Failure;
@@ -48,31 +48,28 @@ impl Shown<'_> {
     }
 }
 
-/// Shows the office's table.
+/// Shows the office's table: the groups that are open, and those that have a count of the day all the same.
 pub fn office(arguments: &Arguments, out: &mut dyn Write) -> Result<(), Failure> {
     let mut used = Used::<Office>::open(arguments)?;
-    let (commit, keys, day) = (used.generation(), used.state.keys.count(), used.state.table.day());
-    let open: Vec<_> = used.state.table.groups().filter(|group| group.is_open).collect();
+    let (commit, keys, allowance) = (used.generation(), used.state.keys.count(), used.state.table.allowance());
+    let groups: Vec<_> = used.state.table.groups().filter(|group| group.is_open || group.count > 0).collect();
+    // What is left is never wider, nor is a count that the library let through.
+    let width = allowance.to_string().len();
     let mut lines = String::new();
     let mut objects = Vec::new();
-    for group in &open {
-        let kept = used.state.kept(group.group)?;
-        let shown =
-            Shown { group: group.group, is_open: group.is_open, index: group.index, toggle: group.toggle, kept };
-        let _ = writeln!(lines, "group {:2}: {}", group.group, shown.line());
-        objects.push(format!("{{{}}}", shown.members()));
+    for Group { group, is_open, index, toggle, count } in groups {
+        let left = used.state.table.left(group).unwrap_or(0);
+        let shown = Shown { group, is_open, index, toggle, kept: used.state.kept(group)? };
+        let session = if is_open { shown.line() } else { "closed".to_string() };
+        let _ = writeln!(lines, "group {group:2}: count {count:width$}, left {left:width$}, {session}");
+        objects.push(format!(r#"{{{},"count":{count},"left":{left}}}"#, shown.members()));
     }
     let text = if arguments.has("json") {
-        format!(
-            "{{\"commit\":{commit},\"keys\":{keys},\"count\":{},\"allowance\":{},\"groups\":[{}]}}\n",
-            day.spent,
-            day.allowance,
-            objects.join(",")
-        )
+        let groups = objects.join(",");
+        format!("{{\"commit\":{commit},\"keys\":{keys},\"allowance\":{allowance},\"groups\":[{groups}]}}\n")
     } else {
-        let closed = GROUPS - open.len();
-        let day = format!("day: count {} of allowance {}", day.spent, day.allowance);
-        format!("{day}\n{lines}closed: {closed} of {GROUPS} groups\n")
+        let closed = used.state.table.groups().filter(|group| !group.is_open).count();
+        format!("day: allowance {allowance} for each group\n{lines}closed: {closed} of {GROUPS} groups\n")
     };
     print(out, &text)
 }

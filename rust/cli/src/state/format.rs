@@ -7,25 +7,25 @@ use pevghazo_store::Secret;
 
 use super::{ENVELOPE_MAX, Held, Kept, Message};
 
-/// A kind of state file.
+/// A kind of state file. It starts with the kind's word and a digit, that of its version.
 #[derive(Debug)]
 pub struct Kind {
     /// Whose it is.
     pub name: &'static str,
-    /// How it starts.
-    pub start: &'static [u8; 8],
-    /// How the version before it started, if there was one.
-    pub old_start: Option<&'static [u8; 8]>,
+    /// The word that it starts with.
+    pub word: &'static [u8; 7],
+    /// The version that is written, 1 to 9. Those before it are read too.
+    pub version: u8,
 }
 
 /// The office's state file.
-pub const OFFICE: Kind = Kind { name: "the office's", start: b"office-2", old_start: Some(b"office-1") };
+pub const OFFICE: Kind = Kind { name: "the office's", word: b"office-", version: 3 };
 
 /// A group's state file.
-pub const GROUP: Kind = Kind { name: "a group's", start: b"group--2", old_start: Some(b"group--1") };
+pub const GROUP: Kind = Kind { name: "a group's", word: b"group--", version: 2 };
 
 /// The state file of a session in SANE.
-pub const SANE: Kind = Kind { name: "a SANE session's", start: b"sane---1", old_start: None };
+pub const SANE: Kind = Kind { name: "a SANE session's", word: b"sane---", version: 1 };
 
 /// All kinds.
 const KINDS: [&Kind; 3] = [&OFFICE, &GROUP, &SANE];
@@ -35,6 +35,8 @@ const KINDS: [&Kind; 3] = [&OFFICE, &GROUP, &SANE];
 pub enum Bad {
     /// They do not follow the format.
     Format,
+    /// They have a version that is not known here.
+    Version(u8),
     /// They are a state of another kind.
     Kind {
         /// Whose it is.
@@ -48,6 +50,7 @@ impl fmt::Display for Bad {
     fn fmt(&self, f: &mut fmt::Formatter<'_>) -> fmt::Result {
         match self {
             Bad::Format => f.write_str("its content does not follow the format"),
+            Bad::Version(version) => write!(f, "its content has version {version}, which only a newer program reads"),
             Bad::Kind { is, not } => write!(f, "it is {is} and not {not}"),
         }
     }
@@ -59,7 +62,8 @@ const ROOM: usize = 1 << 14;
 /// The start of a state's bytes.
 pub fn started(kind: &Kind) -> Secret {
     let mut bytes = Secret::with_room(ROOM);
-    bytes.add(kind.start);
+    bytes.add(kind.word);
+    bytes.add(&[b'0' + kind.version]);
     bytes
 }
 
@@ -116,14 +120,18 @@ fn put_string(bytes: &mut Secret, string: &[u8]) {
 pub struct Reader<'a>(&'a [u8]);
 
 impl<'a> Reader<'a> {
-    /// The bytes after the start of this kind, and whether it is that of the newest version.
-    pub fn after(bytes: &'a [u8], kind: &Kind) -> Result<(bool, Reader<'a>), Bad> {
-        let (start, rest) = bytes.split_first_chunk().ok_or(Bad::Format)?;
-        if start == kind.start || Some(start) == kind.old_start {
-            return Ok((start == kind.start, Reader(rest)));
+    /// The version of a state file of this kind, and the bytes after its start.
+    pub fn after(bytes: &'a [u8], kind: &Kind) -> Result<(u8, Reader<'a>), Bad> {
+        let (word, rest) = bytes.split_first_chunk().ok_or(Bad::Format)?;
+        let ([digit @ b'1'..=b'9'], rest) = rest.split_first_chunk().ok_or(Bad::Format)? else {
+            return Err(Bad::Format);
+        };
+        let is = KINDS.iter().find(|known| known.word == word).ok_or(Bad::Format)?;
+        match digit - b'0' {
+            _ if word != kind.word => Err(Bad::Kind { is: is.name, not: kind.name }),
+            version if version > kind.version => Err(Bad::Version(version)),
+            version => Ok((version, Reader(rest))),
         }
-        let other = KINDS.iter().find(|other| start == other.start || Some(start) == other.old_start);
-        Err(other.map_or(Bad::Format, |other| Bad::Kind { is: other.name, not: kind.name }))
     }
 
     /// So many bytes.

@@ -73,10 +73,12 @@ impl<S: Mode> State for Lone<S> {
     }
 
     fn decode(bytes: &[u8]) -> Result<Lone<S>, Bad> {
-        let (newest, mut reader) = Reader::after(bytes, &S::KIND)?;
+        let (version, mut reader) = Reader::after(bytes, &S::KIND)?;
         let group = reader.number()?;
         let session = S::from_bytes(reader.take(S::BYTES)?).map_err(|_| Bad::Format)?;
         let kept = Kept::read(&mut reader)?;
+        // Only the newest version of each kind knows the starts.
+        let newest = version == S::KIND.version;
         let starts = if newest { S::Starts::read(&mut reader)? } else { S::Starts::default() };
         reader.end(Lone { group, session, kept, starts })
     }

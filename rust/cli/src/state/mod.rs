@@ -1,13 +1,13 @@
 //! What a state file holds, and its bytes.
 //!
-//! The office's file holds the table of sessions and, for each group, what is *kept*: the last envelope that was sealed and the
-//! last message that was opened. A group's file, and that of a session in SANE, holds the group's number, the session and what is
-//! kept. They are in the file because a call and what belongs to it must be committed together: a kill between the commit and the
-//! handing out must not lose it. All hold the fingerprint of every key that was ever used in the file.
+//! The office's file holds the table of sessions with the groups' counts and, for each group, what is *kept*: the last envelope that
+//! was sealed and the last message that was opened. A group's file, and that of a session in SANE, holds the group's number, the
+//! session and what is kept. They are in the file because a call and what belongs to it must be committed together: a kill between
+//! the commit and the handing out must not lose it. All hold the fingerprint of every key that was ever used in the file.
 //!
 //! | bytes | content |
 //! |---|---|
-//! | 8 | `office-2`, `group--2` or `sane---1` |
+//! | 8 | `office-3`, `group--2` or `sane---1` |
 //! | [`Table::BYTES`], or 4 and [`Session::BYTES`](pevghazo::Session::BYTES) | the table, or the group's number and its session |
 //! | for each group | the kept envelope, then the kept message |
 //! | 16, and a counter | in SANE alone: the tag of the last start, and its counter |
@@ -15,7 +15,8 @@
 //! | 16 for each of them | its fingerprint |
 //! | a counter, 4, and 16 for each of them | in SANE alone, after each fingerprint: the last counter under this key, how many other nonces were used under it, and the tags of their starts |
 //!
-//! The older `office-1` and `group--1` end after what is kept, and are read too: their keys are not known.
+//! Older files are read too. `office-1` and `group--1` end after what is kept: their keys are not known. The table of `office-1` and
+//! `office-2` has [`Table::BYTES_BEFORE`], with one count for all groups, which each group then has as its own.
 //!
 //! A counter is a byte 0 for none, or a byte 1 and 64 bits, the lowest byte first.
 //!
@@ -78,7 +79,7 @@ pub struct Message {
 /// The office's state.
 #[derive(Debug)]
 pub struct Office {
-    /// The sessions, the day's count and the allowance.
+    /// The sessions, each group's count of the day, and the allowance.
     pub table: Table,
     /// The keys that were used.
     pub keys: Keys,
@@ -108,6 +109,22 @@ pub trait State: Sized {
     fn decode(bytes: &[u8]) -> Result<Self, Bad>;
 }
 
+/// The first version of the office's state file that has the keys that were used.
+const WITH_KEYS: u8 = 2;
+
+/// The first version of the office's state file that has a count for each group.
+const WITH_COUNTS: u8 = 3;
+
+/// The table of an office's state file of this version.
+fn read_table(version: u8, reader: &mut Reader) -> Result<Table, Bad> {
+    let table = if version >= WITH_COUNTS {
+        Table::from_bytes(reader.take(Table::BYTES)?)
+    } else {
+        Table::from_bytes_before(reader.take(Table::BYTES_BEFORE)?)
+    };
+    table.map_err(|_| Bad::Format)
+}
+
 impl State for Office {
     fn encode(&self) -> Secret {
         let mut bytes = format::started(&format::OFFICE);
@@ -118,13 +135,12 @@ impl State for Office {
     }
 
     fn decode(bytes: &[u8]) -> Result<Office, Bad> {
-        let (newest, mut reader) = Reader::after(bytes, &format::OFFICE)?;
-        let table = Table::from_bytes(reader.take(Table::BYTES)?).map_err(|_| Bad::Format)?;
-        let mut office = Office { table, ..Office::new() };
+        let (version, mut reader) = Reader::after(bytes, &format::OFFICE)?;
+        let mut office = Office { table: read_table(version, &mut reader)?, ..Office::new() };
         for kept in &mut office.kept {
             *kept = Kept::read(&mut reader)?;
         }
-        if newest {
+        if version >= WITH_KEYS {
             office.keys = Keys::read(&mut reader)?;
         }
         reader.end(office)
@@ -181,7 +197,7 @@ mod tests {
         let bytes = office().encode();
         let mut back = Office::decode(&bytes).unwrap();
         assert_eq!(back.encode(), bytes);
-        assert_eq!(back.table.day().allowance, 1_000);
+        assert_eq!((back.table.allowance(), back.table.left(5), back.table.left(6)), (1_000, Some(999), Some(1_000)));
         assert_eq!(back.kept(5).unwrap(), &kept(40, 9));
         assert_eq!(back.kept(6).unwrap(), &Kept::default());
         assert_eq!(back.kept(32).unwrap_err().number, Number::BadGroup);
@@ -192,6 +208,33 @@ mod tests {
         let back = Sane::decode(&bytes).unwrap();
         assert_eq!((back.encode(), back.group, back.kept), (bytes, 5, kept(40, 9)));
         assert_eq!((back.starts.counter(), back.starts), (Some(6), sane().starts));
+    }
+
+    /// The bytes of the office after their start, with the table as it was before each group had a count.
+    fn before(bytes: &[u8], count: u32) -> Vec<u8> {
+        let (table, rest) = bytes[8..].split_at(Table::BYTES);
+        let (records, allowance) = table.split_at(Table::BYTES - 4);
+        let sessions = records.chunks(Session::BYTES + 4).flat_map(|record| &record[..Session::BYTES]);
+        sessions.chain(&count.to_le_bytes()).chain(allowance).chain(rest).copied().collect()
+    }
+
+    #[test]
+    fn the_count_of_version_2_is_that_of_every_group() {
+        let office = office();
+        let bytes = office.encode();
+        for count in [0, 1, 1_000, u32::MAX] {
+            let old = [b"office-2", &before(&bytes, count)[..]].concat();
+            let back = Office::decode(&old).unwrap();
+            assert!(back.table.groups().all(|group| group.count == count));
+            assert_eq!(back.table.allowance(), 1_000);
+            assert_eq!((&back.kept, &back.keys), (&office.kept, &office.keys));
+            let new = back.encode();
+            assert!(new.starts_with(b"office-3"));
+            assert_eq!(Office::decode(&new).unwrap().encode(), new);
+        }
+        // The bytes of one version under the start of another.
+        assert!(Office::decode(&[b"office-2", &bytes[8..]].concat()).is_err());
+        assert!(Office::decode(&[b"office-3", &before(&bytes, 1)[..]].concat()).is_err());
     }
 
     /// The bytes of version 1 are those of version 2 up to the keys.
@@ -207,7 +250,8 @@ mod tests {
         assert_eq!(Office::decode(&old).unwrap_err().to_string(), "it is a group's and not the office's");
         let office = office();
         let bytes = office.encode();
-        let back = Office::decode(&[b"office-1", &bytes[8..bytes.len() - keys]].concat()).unwrap();
+        let old = before(&bytes, 1);
+        let back = Office::decode(&[b"office-1", &old[..old.len() - keys]].concat()).unwrap();
         assert_eq!((back.kept, back.keys), (office.kept, Keys::default()));
     }
 
@@ -244,7 +288,11 @@ mod tests {
             }
         }
         assert_eq!(Group::decode(b"").unwrap_err(), Bad::Format);
-        assert_eq!(Sane::decode(b"sane---2").unwrap_err(), Bad::Format);
+        assert_eq!(Sane::decode(b"sane---2").unwrap_err(), Bad::Version(2));
+        assert_eq!(Office::decode(b"office-4").unwrap_err(), Bad::Version(4));
+        for start in [&b"office-0"[..], b"office--", b"office3", b"offices3", b"office\xff3"] {
+            assert_eq!(Office::decode(start).unwrap_err(), Bad::Format);
+        }
     }
 
     fn any_bytes<S: State>(bytes: &[u8]) {

@@ -18,6 +18,11 @@ use pevghazo_store::{Presence, Store, Wait};
 /// The program.
 pub const PROGRAM: &str = env!("CARGO_BIN_EXE_pevghazo");
 
+/// Where a group's session starts in the state of the office: each is followed by the group's count.
+pub const fn place_at_office(group: usize) -> usize {
+    8 + group * (102 + 4)
+}
+
 /// A folder of its own for each test, removed at the end. It is in memory where the system has such a place: syncs are fast.
 pub struct Folder(pub PathBuf);
 

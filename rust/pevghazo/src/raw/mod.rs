@@ -32,7 +32,7 @@ pub use envelope::{Parts, Written, read_envelope, write_envelope};
 pub use sane::{SaneRecord, sane_start, sane_unwrap, sane_wrap};
 pub use session::{Answer, Record, start, unwrap, wrap};
 pub(crate) use stack::clear_stack;
-pub use table::{Day, Found, GroupAnswer, nearly_full, no_day, open_group, start_day, unwrap_group, wrap_group};
+pub use table::{Found, GroupRecord, nearly_full, open_group, start_day, unwrap_group, wrap_group};
 
 /// Sets bytes to zero, also where nobody reads them afterwards.
 pub fn wipe(bytes: &mut [u8]) {

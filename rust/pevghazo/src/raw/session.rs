@@ -29,7 +29,7 @@ pub struct Record {
     pub opened: bool,
 }
 
-/// What a call on a lone session gives: its number, and the permutations done.
+/// What a call on a session gives, a lone one or a group's: its number, and the permutations done.
 #[repr(C)]
 #[must_use = "the call may have been refused"]
 #[derive(Clone, Copy, Debug, PartialEq, Eq)]

@@ -49,7 +49,7 @@ fn clear_registers() {}
 #[cfg(test)]
 mod tests {
     use super::*;
-    use crate::raw::{Record, SaneRecord, codes, sane, session, table};
+    use crate::raw::{GroupRecord, Record, SaneRecord, codes, sane, session, table};
     use crate::{CODE_LENGTH, GROUPS, KEY_MAX, NONCE_MAX, PACKET_MAX, SANE_TAG_LENGTH, TAG_LENGTH, TEXT_MAX};
     use std::fs::File;
     use std::os::unix::fs::FileExt;
@@ -94,7 +94,7 @@ mod tests {
         out: Vec<u8>,
         tag: [u8; TAG_LENGTH],
         lone: Record,
-        table: Vec<Record>,
+        table: Vec<GroupRecord>,
         sane: SaneRecord,
     }
 
@@ -106,15 +106,14 @@ mod tests {
                 out: vec![0; N],
                 tag: [0; TAG_LENGTH],
                 lone: Record::closed(),
-                table: (0..GROUPS).map(|_| Record::closed()).collect(),
+                table: (0..GROUPS).map(|_| GroupRecord::closed()).collect(),
                 sane: SaneRecord::closed(),
             }
         }
 
         /// One of the library's functions itself, without the clearing, and its number. Each third call unwraps what was not
-        /// wrapped so.
+        /// wrapped so; the last one is never refused, and gives the allowance.
         fn call(&mut self, call: usize) -> u32 {
-            let day = table::start_day(u32::MAX);
             let (k, t, s, a) = (self.key.as_ptr(), self.text.as_ptr(), &mut self.lone, self.table.as_mut_ptr());
             let (out, tag, n) = (self.out.as_mut_ptr(), self.tag.as_mut_ptr(), &mut self.sane);
             // SAFETY: pointers and lengths are those of the fields.
@@ -123,13 +122,16 @@ mod tests {
                     0 => session::pevghazo_start(s, k, KEY_MAX).number,
                     1 => session::pevghazo_wrap(s, t, N, t, N, out, N, tag, TAG_LENGTH).number,
                     2 => session::pevghazo_unwrap(s, t, N, t, N, tag, TAG_LENGTH, out, N).number,
-                    3 => table::pevghazo_open_group(a, GROUPS, 7, day, k, KEY_MAX).number,
-                    4 => table::pevghazo_wrap_group(a, GROUPS, 7, day, t, N, t, N, out, N, tag, TAG_LENGTH).number,
-                    5 => table::pevghazo_unwrap_group(a, GROUPS, 7, day, t, N, t, N, tag, TAG_LENGTH, out, N).number,
+                    3 => table::pevghazo_open_group(a, GROUPS, 7, u32::MAX, k, KEY_MAX).number,
+                    4 => table::pevghazo_wrap_group(a, GROUPS, 7, u32::MAX, t, N, t, N, out, N, tag, TAG_LENGTH).number,
+                    5 => {
+                        table::pevghazo_unwrap_group(a, GROUPS, 7, u32::MAX, t, N, t, N, tag, TAG_LENGTH, out, N).number
+                    }
                     6 => sane::pevghazo_sane_start(n, k, KEY_MAX, t, NONCE_MAX, tag, SANE_TAG_LENGTH).number,
                     7 => sane::pevghazo_sane_wrap(n, t, N, t, N, out, N, tag, SANE_TAG_LENGTH).number,
                     8 => sane::pevghazo_sane_unwrap(n, t, N, t, N, tag, SANE_TAG_LENGTH, out, N).number,
-                    _ => codes::pevghazo_code(s, PACKET_MAX, out, CODE_LENGTH).number,
+                    9 => codes::pevghazo_code(s, PACKET_MAX, out, CODE_LENGTH).number,
+                    _ => table::pevghazo_start_day(a, GROUPS, 0),
                 }
             }
         }
@@ -140,7 +142,7 @@ mod tests {
         let mut arguments = Arguments::new();
         let mut deepest = 0;
         // The first turn may look up functions of the C library.
-        for call in (0..10).chain(0..10) {
+        for call in (0..11).chain(0..11) {
             let depth = depth(&mut || assert_eq!(arguments.call(call), if call % 3 == 2 { 11 } else { 0 }));
             println!("call {call}: {depth} bytes of stack");
             deepest = deepest.max(depth);

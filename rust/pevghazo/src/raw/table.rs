@@ -1,31 +1,18 @@
-//! The office's table and its day: `pevghazo/table.h`.
+//! The office's table: `pevghazo/table.h`.
 
 use std::mem::{offset_of, size_of};
 
-use super::Record;
 use super::stack::clear_stack;
+use super::{Answer, Record};
 
-/// A day of the table: the permutations counted since it began, and the most that are allowed.
+/// A group's record: its session, and beside it the group's own count of the day. The session is set to zero when it is dropped,
+/// as a lone one is.
 #[repr(C)]
-#[derive(Clone, Copy, Debug, PartialEq, Eq)]
-pub struct Day {
-    /// The permutations so far.
-    pub spent: u32,
-    /// The most that are allowed.
-    pub allowance: u32,
-}
-
-/// What a call for a group gives: its number, the permutations done, and the day after it.
-#[repr(C)]
-#[must_use = "the call may have been refused, and the next one takes this one's day"]
-#[derive(Clone, Copy, Debug, PartialEq, Eq)]
-pub struct GroupAnswer {
-    /// 0, or the refusal's number.
-    pub number: u32,
-    /// The permutations.
+pub struct GroupRecord {
+    /// The session.
+    pub session: Record,
+    /// The permutations of this group's calls since the day began.
     pub count: u32,
-    /// The day after the call.
-    pub day: Day,
 }
 
 /// What the nearly-full question gives.
@@ -42,25 +29,24 @@ pub struct Found {
 }
 
 // The layouts of the header on x86-64.
-const _: () = assert!(size_of::<Day>() == 8 && size_of::<GroupAnswer>() == 16);
+const _: () = assert!(size_of::<GroupRecord>() == 108 && offset_of!(GroupRecord, count) == 104);
 const _: () = assert!(size_of::<Found>() == 12 && offset_of!(Found, group) == 8);
 
 unsafe extern "C" {
-    fn pevghazo_no_day() -> Day;
-    fn pevghazo_start_day(allowance: u32) -> Day;
+    pub(super) fn pevghazo_start_day(records: *mut GroupRecord, length: usize, allowance: u32) -> u32;
     pub(super) fn pevghazo_open_group(
-        table: *mut Record,
+        table: *mut GroupRecord,
         table_len: usize,
         group: u32,
-        day: Day,
+        allowance: u32,
         key: *const u8,
         key_len: usize,
-    ) -> GroupAnswer;
+    ) -> Answer;
     pub(super) fn pevghazo_wrap_group(
-        table: *mut Record,
+        table: *mut GroupRecord,
         table_len: usize,
         group: u32,
-        day: Day,
+        allowance: u32,
         metadata: *const u8,
         metadata_len: usize,
         message: *const u8,
@@ -69,12 +55,12 @@ unsafe extern "C" {
         out_len: usize,
         tag: *mut u8,
         tag_len: usize,
-    ) -> GroupAnswer;
+    ) -> Answer;
     pub(super) fn pevghazo_unwrap_group(
-        table: *mut Record,
+        table: *mut GroupRecord,
         table_len: usize,
         group: u32,
-        day: Day,
+        allowance: u32,
         metadata: *const u8,
         metadata_len: usize,
         cryptogram: *const u8,
@@ -83,49 +69,51 @@ unsafe extern "C" {
         tag_len: usize,
         out: *mut u8,
         out_len: usize,
-    ) -> GroupAnswer;
-    fn pevghazo_nearly_full(table: *const Record, table_len: usize, mark: u32) -> Found;
+    ) -> Answer;
+    fn pevghazo_nearly_full(table: *const GroupRecord, table_len: usize, mark: u32) -> Found;
 }
 
-/// The day before the first: count and allowance are 0.
-#[must_use]
-pub fn no_day() -> Day {
-    // SAFETY: plain numbers.
-    unsafe { pevghazo_no_day() }
+impl GroupRecord {
+    /// A closed session, with a count of 0.
+    pub const fn closed() -> GroupRecord {
+        GroupRecord { session: Record::closed(), count: 0 }
+    }
 }
 
-/// A day with this allowance and a count of 0.
-#[must_use]
-pub fn start_day(allowance: u32) -> Day {
-    // SAFETY: plain numbers.
-    unsafe { pevghazo_start_day(allowance) }
-}
-
-/// Opens a group. Checks 3, 4 and 10; a refusal leaves the old session.
-pub fn open_group(table: &mut [Record], group: u32, day: Day, key: &[u8]) -> GroupAnswer {
+/// Starts a day over any number of records: every count becomes 0, and every session stays. Gives the allowance. Never refused.
+pub fn start_day(records: &mut [GroupRecord], allowance: u32) -> u32 {
     // SAFETY: see the module's head.
-    let answer = unsafe { pevghazo_open_group(table.as_mut_ptr(), table.len(), group, day, key.as_ptr(), key.len()) };
+    let allowance = unsafe { pevghazo_start_day(records.as_mut_ptr(), records.len(), allowance) };
+    clear_stack();
+    allowance
+}
+
+/// Opens a group. Checks 3, 4 and 10; a refusal leaves the record.
+pub fn open_group(table: &mut [GroupRecord], group: u32, allowance: u32, key: &[u8]) -> Answer {
+    // SAFETY: see the module's head.
+    let answer =
+        unsafe { pevghazo_open_group(table.as_mut_ptr(), table.len(), group, allowance, key.as_ptr(), key.len()) };
     clear_stack();
     answer
 }
 
 /// Wraps for a group. Checks 3 and 5 to 10.
 pub fn wrap_group(
-    table: &mut [Record],
+    table: &mut [GroupRecord],
     group: u32,
-    day: Day,
+    allowance: u32,
     metadata: &[u8],
     message: &[u8],
     out: &mut [u8],
     tag: &mut [u8],
-) -> GroupAnswer {
+) -> Answer {
     // SAFETY: see the module's head.
     let answer = unsafe {
         pevghazo_wrap_group(
             table.as_mut_ptr(),
             table.len(),
             group,
-            day,
+            allowance,
             metadata.as_ptr(),
             metadata.len(),
             message.as_ptr(),
@@ -140,23 +128,23 @@ pub fn wrap_group(
     answer
 }
 
-/// Unwraps for a group. Checks 3 and 5 to 11.
+/// Unwraps for a group. Checks 3 and 5 to 11; 11 adds its count to the group's, and alters nothing else in the record.
 pub fn unwrap_group(
-    table: &mut [Record],
+    table: &mut [GroupRecord],
     group: u32,
-    day: Day,
+    allowance: u32,
     metadata: &[u8],
     cryptogram: &[u8],
     tag: &[u8],
     out: &mut [u8],
-) -> GroupAnswer {
+) -> Answer {
     // SAFETY: see the module's head.
     let answer = unsafe {
         pevghazo_unwrap_group(
             table.as_mut_ptr(),
             table.len(),
             group,
-            day,
+            allowance,
             metadata.as_ptr(),
             metadata.len(),
             cryptogram.as_ptr(),
@@ -172,7 +160,7 @@ pub fn unwrap_group(
 }
 
 /// An open group whose index is above the mark. Check 3.
-pub fn nearly_full(table: &[Record], mark: u32) -> Found {
+pub fn nearly_full(table: &[GroupRecord], mark: u32) -> Found {
     // SAFETY: see the module's head.
     let found = unsafe { pevghazo_nearly_full(table.as_ptr(), table.len(), mark) };
     clear_stack();

@@ -1,0 +1,128 @@
+//! The office's table, held twice: by the library, and by the reference.
+
+use pevghazo::raw::{self, Answer, GroupRecord};
+use pevghazo_reference::random::Random;
+use pevghazo_reference::table::{GroupRecord as Reference, Table};
+
+use super::{answer_of, any_session, other_length, packet, record_of, same};
+
+/// A table held twice. Each call is made on both with buffers of the same content, and answers, whole buffers, all sessions and all
+/// counts must be the same.
+pub struct Tables {
+    pub records: Vec<GroupRecord>,
+    pub allowance: u32,
+    pub reference: Table,
+}
+
+/// The library's record for one of the reference.
+pub fn group_record_of(reference: &Reference) -> GroupRecord {
+    GroupRecord { session: record_of(&reference.session), count: reference.count }
+}
+
+/// Whether two records have the same session and count. Only tests compare them.
+pub fn same_group(a: &GroupRecord, b: &GroupRecord) -> bool {
+    same(&a.session, &b.session) && a.count == b.count
+}
+
+/// A count or an allowance: any number, often one near 0 or near 2^32, or one that some calls fit in.
+pub fn any_number(random: &mut Random) -> u32 {
+    match random.below(6) {
+        0 => random.bits() as u32,
+        1 => u32::MAX - random.below(1_100) as u32,
+        2 => random.pick(&[0, 1, u32::MAX - 1, u32::MAX]),
+        _ => random.below(5_000) as u32,
+    }
+}
+
+/// A record with any numbers, also ones that no calls leave behind.
+pub fn any_record(random: &mut Random) -> Reference {
+    Reference { session: any_session(random), count: any_number(random) }
+}
+
+impl Tables {
+    /// The same table on both sides.
+    pub fn of(reference: Table) -> Tables {
+        let records = reference.records.iter().map(group_record_of).collect();
+        Tables { records, allowance: reference.allowance, reference }
+    }
+
+    /// Both sides hold the same, and the library gave the reference's answer.
+    fn check(&self, given: Answer, answer: Answer) -> Answer {
+        assert_eq!(given, answer);
+        self.check_records();
+        given
+    }
+
+    /// Both sides hold the same records and the same allowance.
+    fn check_records(&self) {
+        assert_eq!((self.records.len(), self.allowance), (self.reference.records.len(), self.reference.allowance));
+        for (group, (library, reference)) in self.records.iter().zip(&self.reference.records).enumerate() {
+            assert_eq!(library.count, reference.count, "the counts of group {group} differ");
+            assert!(same(&library.session, &record_of(&reference.session)), "the sessions of group {group} differ");
+        }
+    }
+
+    /// Sets a group's count on both sides; where there is no such record nothing happens.
+    pub fn set_count(&mut self, group: u32, count: u32) {
+        if let Some(record) = self.records.get_mut(group as usize) {
+            record.count = count;
+            self.reference.records[group as usize].count = count;
+        }
+    }
+
+    pub fn start_day(&mut self, allowance: u32) {
+        self.reference.start_day(allowance);
+        self.allowance = raw::start_day(&mut self.records, allowance);
+        self.check_records();
+    }
+
+    pub fn open_group(&mut self, group: u32, key: &[u8]) -> Answer {
+        let answer = answer_of(self.reference.open_group(group, key));
+        let given = raw::open_group(&mut self.records, group, self.allowance, key);
+        self.check(given, answer)
+    }
+
+    pub fn wrap(&mut self, group: u32, metadata: &[u8], message: &[u8], out: &mut [u8], tag: &mut [u8]) -> Answer {
+        let (mut out_too, mut tag_too) = (out.to_vec(), tag.to_vec());
+        let given = raw::wrap_group(&mut self.records, group, self.allowance, metadata, message, out, tag);
+        let answer = self.reference.wrap(group, metadata, message, &mut out_too, &mut tag_too);
+        assert!(out == out_too && tag == tag_too, "wrap: the buffers differ");
+        self.check(given, answer_of(answer))
+    }
+
+    pub fn unwrap(&mut self, group: u32, metadata: &[u8], cryptogram: &[u8], tag: &[u8], out: &mut [u8]) -> Answer {
+        let mut out_too = out.to_vec();
+        let given = raw::unwrap_group(&mut self.records, group, self.allowance, metadata, cryptogram, tag, out);
+        let answer = self.reference.unwrap(group, metadata, cryptogram, tag, &mut out_too);
+        assert!(out == out_too, "unwrap: the buffers differ");
+        self.check(given, answer_of(answer))
+    }
+
+    /// A code is asked of the group's session, past the table: its size, its other records, counts and allowance play no part.
+    pub fn code(&self, random: &mut Random, group: usize) -> Answer {
+        let (packet, room) = (packet(random), other_length(random, 8, 4));
+        let mut out = random.bytes(room);
+        let mut out_too = out.clone();
+        let given = raw::code(&self.records[group].session, packet, &mut out);
+        let answer = self.reference.records[group].session.code(packet, &mut out_too);
+        assert!(out == out_too, "code: the buffers differ");
+        self.check(given, answer_of(answer))
+    }
+
+    /// Which of several groups is named is free.
+    pub fn nearly_full(&self, mark: u32) -> u32 {
+        let given = raw::nearly_full(&self.records, mark);
+        match self.reference.nearly_full(mark) {
+            Err(number) => {
+                assert_eq!((given.number, given.found, given.group), (number.number().into(), false, 0))
+            }
+            Ok(None) => assert_eq!((given.number, given.found, given.group), (0, false, 0)),
+            Ok(Some(_)) => {
+                assert_eq!((given.number, given.found), (0, true));
+                assert!(self.reference.is_nearly_full(given.group as usize, mark), "group {}", given.group);
+            }
+        }
+        self.check_records();
+        given.number
+    }
+}
