@@ -7,7 +7,7 @@ use Prim.Native.Nat.{ℕ, zero, suc, _+_, _<_, _≤_}
 use native.Mathlib.Omega.{arith}
 use lib.Dec.{ltb, leb, eqb}
 use lib.ListN.{length, set, length-set, length-map, List·getD-map}
-use lib.Seq.{getD-set-same, getD-set-other, set-getD}
+use lib.Seq.{getD-set-same, getD-set-other, set-getD, ext-getD}
 use borrow.Author.Tests.{ltb-true, ltb-false, leb-true, leb-false, eqb-true, eqb-false}
 use Rattle.deck.specs.declared.DeckState.{DeckState}
 use Rattle.modes.specs.Call.{CallInput}
@@ -15,7 +15,7 @@ use Rattle.modes.specs.Mode.{sanse, incremental}
 use Rattle.modes.specs.Rules.{SessionState, Outcome, Opening, longest, highestIndex, growth, metadataString, firstCheck, checkNumber, countOf, refused, ifNoCheck, sameBytes, accepted, wrongTag, compareTag, wrapSteps, unwrapSteps, wrapAt, unwrapAt, keyFits, startAt, newSession, closed}
 use Rattle.groups.specs.Groups.{GroupState, newDay, aboveAllowance, then10, groupCheck, charged, onDay, openedUnless, chargedOpening, openOnDay}
 use Rattle.groups.proofs.Counts.{wrap-count, unwrap-count}
-use Rattle.office.specs.Table.{Table, unopened, noGroup, groupAt, sessionAt, startDayAt, TableOutcome, TableOpening, refusedBy, writtenBack, callGroupAt, wrapGroupAt, openedBack, openGroupAt}
+use Rattle.office.specs.Table.{Table, unopened, noGroup, groupAt, sessionAt, DayStart, startDayAt, TableOutcome, TableOpening, refusedBy, writtenBack, callGroupAt, wrapGroupAt, openedBack, openGroupAt}
 use Rattle.office.specs.Exactly.{Check3, Check10, DayExactly, NoCheckMet, CallExactly, WrapGroupExactly, UnwrapGroupExactly, OpenExactly}
 
 -- ---- the tests as statements
@@ -340,6 +340,12 @@ module _ (allowance : ℕ) (t : Table) (g : ℕ) (key : List ℕ) where
       go3 false (fails in3) = go4 (keyFits key) (told-key key) in3
 
 -- ---- the claims leave nothing open: each is true of one outcome
+
+pub day-decided : (allowance : ℕ) (t : Table) (o o′ : DayStart) → DayExactly allowance t o → DayExactly allowance t o′ → o ≡ o′
+day-decided allowance t o o′ x y =
+    ap₂ (λ (a : ℕ) (u : Table). record { allowance = a; table = u }) (x .given ∙ sym (y .given))
+    (ext-getD unopened (o .table) (o′ .table) (x .size ∙ sym (y .size))
+    (λ k _. ap₂ (λ (s : SessionState DeckState) (c : ℕ). record { session = s; count = c }) (x .sessions k ∙ sym (y .sessions k)) (x .counts k ∙ sym (y .counts k))))
 
 module _ (allowance : ℕ) (t : Table) (g : ℕ) (i : CallInput) (lone : Outcome DeckState) where
   abbrev Only : TableOutcome → Type 0
