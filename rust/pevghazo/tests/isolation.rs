@@ -1,6 +1,6 @@
 //! A group's day depends on its own calls alone, through the C library: two tables that agree in one group's record, or before the
 //! start of a day in its session alone, under one allowance. The same calls for that group give it the same answers, buffers,
-//! counts and record, however the other groups' calls differ or fall between.
+//! counts and record, however the other groups' calls differ or fall between; they are those of a table where no other group calls.
 
 mod common;
 
@@ -125,50 +125,55 @@ fn table_with(random: &mut Random, group: u32, record: &Reference) -> Vec<GroupR
     any.map(|record| group_record_of(&record)).collect()
 }
 
-/// Makes a group's calls on a table, in their order, with calls beside them before, between and after.
-fn run(
-    random: &mut Random,
-    mut table: Vec<GroupRecord>,
-    group: u32,
-    allowance: u32,
-    calls: &[Call],
-) -> (Vec<Given>, Reference) {
-    let mut given = Vec::new();
-    let mut rest = calls.iter();
-    loop {
-        for _ in 0..random.below(4) {
-            let beside = call_beside(random, group, &table);
-            beside.on_library(&mut table, allowance);
-        }
-        let Some(call) = rest.next() else { break };
-        given.push(call.on_library(&mut table, allowance));
-    }
-    let GroupRecord { session, count } = &table[group as usize];
-    (given, Reference { session: session.reference(), count: *count })
-}
-
 /// A session that can go on: any record, or a fresh one.
 fn some_session(random: &mut Random) -> Session {
     if random.once_in(3) { any_session(random) } else { Session::start(&key(random)).unwrap() }
 }
 
-/// The calls of a group, each one for the session as the calls before it leave it; with what a table gives where no other group
-/// calls, worked out by the independent implementation, and the group's record at its end.
-fn group_calls(
-    random: &mut Random,
+/// A group's calls of a day under an allowance; with what they give and the record that they leave where no other group calls,
+/// which the independent implementation works out.
+struct Day {
     group: u32,
-    record: &Reference,
     allowance: u32,
-) -> (Vec<Call>, Vec<Given>, Reference) {
-    let mut alone = Table { allowance, ..Table::new() };
-    alone.records[group as usize] = record.clone();
-    let (mut calls, mut expected) = (Vec::new(), Vec::new());
-    for _ in 0..1 + random.below(8) {
-        let call = some_call(random, group, &alone.records[group as usize].session);
-        expected.push(call.on_reference(&mut alone));
-        calls.push(call);
+    calls: Vec<Call>,
+    given: Vec<Given>,
+    left: Reference,
+}
+
+impl Day {
+    /// Some calls from this record on, each one for the session as the calls before it leave it.
+    fn of(random: &mut Random, group: u32, record: &Reference, allowance: u32) -> Day {
+        let mut alone = Table { allowance, ..Table::new() };
+        alone.records[group as usize] = record.clone();
+        let (mut calls, mut given) = (Vec::new(), Vec::new());
+        for _ in 0..1 + random.below(8) {
+            let call = some_call(random, group, &alone.records[group as usize].session);
+            given.push(call.on_reference(&mut alone));
+            calls.push(call);
+        }
+        Day { group, allowance, calls, given, left: alone.records.swap_remove(group as usize) }
     }
-    (calls, expected, alone.records.swap_remove(group as usize))
+
+    /// Up to three calls for other groups.
+    fn calls_beside(&self, random: &mut Random, table: &mut [GroupRecord]) {
+        for _ in 0..random.below(4) {
+            let beside = call_beside(random, self.group, table);
+            beside.on_library(table, self.allowance);
+        }
+    }
+
+    /// The group's calls on this table, in their order, with other groups' calls before, between and after them.
+    fn check(&self, random: &mut Random, mut table: Vec<GroupRecord>) {
+        for (call, expected) in self.calls.iter().zip(&self.given) {
+            self.calls_beside(random, &mut table);
+            let given = call.on_library(&mut table, self.allowance);
+            assert!(given == *expected, "group {}: another answer or buffer, {:?}", self.group, given.answer);
+        }
+        self.calls_beside(random, &mut table);
+        let GroupRecord { session, count } = &table[self.group as usize];
+        assert_eq!(*count, self.left.count, "the count of group {}", self.group);
+        assert!(session.reference() == self.left.session, "the session of group {}", self.group);
+    }
 }
 
 /// An allowance under which a group with this count makes some calls, and some that it does not cover.
@@ -196,14 +201,12 @@ fn tables_that_agree_in_a_record() {
         let group = random.below(32) as u32;
         let record = Reference { session: some_session(random), count: any_number(random) };
         let allowance = some_allowance(random, record.count);
-        let (calls, expected, left) = group_calls(random, group, &record, allowance);
+        let day = Day::of(random, group, &record, allowance);
         for _ in 0..2 {
             let table = table_with(random, group, &record);
-            let (given, end) = run(random, table, group, allowance, &calls);
-            assert!(given == expected, "another answer or buffer for group {group}");
-            assert!(end == left, "another record of group {group}");
+            day.check(random, table);
         }
-        tally(&mut numbers, &expected);
+        tally(&mut numbers, &day.given);
     });
     check_numbers(&numbers);
 }
@@ -215,16 +218,14 @@ fn days_of_tables_that_agree_in_a_session() {
         let group = random.below(32) as u32;
         let record = Reference { session: some_session(random), count: 0 };
         let allowance = some_allowance(random, 0);
-        let (calls, expected, left) = group_calls(random, group, &record, allowance);
+        let day = Day::of(random, group, &record, allowance);
         for _ in 0..2 {
             let mut table = table_with(random, group, &record);
             table[group as usize].count = any_number(random);
-            let allowance = raw::start_day(&mut table, allowance);
-            let (given, end) = run(random, table, group, allowance, &calls);
-            assert!(given == expected, "another answer or buffer for group {group}");
-            assert!(end == left, "another record of group {group}");
+            assert_eq!(raw::start_day(&mut table, allowance), allowance);
+            day.check(random, table);
         }
-        tally(&mut numbers, &expected);
+        tally(&mut numbers, &day.given);
     });
     check_numbers(&numbers);
 }

@@ -249,7 +249,7 @@ impl Season {
         }
         let Some(mut lone) = self.groups[place].take() else { unreachable!() };
         let out = random.once_in(2);
-        let went = if out { self.to_group(random, group, &mut lone) } else { self.to_office(random, group, &mut lone) };
+        let went = if out { self.send_out(random, group, &mut lone) } else { self.send_back(random, group, &mut lone) };
         if went {
             assert!(same(&lone.library, &self.office.records[place].session));
             let _ = self.office.code(random, place);
@@ -258,7 +258,7 @@ impl Season {
     }
 
     /// A message goes out to the group, and so does a forged one, unless the group's allowance does not cover it.
-    fn to_group(&mut self, random: &mut Random, group: u32, lone: &mut Both) -> bool {
+    fn send_out(&mut self, random: &mut Random, group: u32, lone: &mut Both) -> bool {
         let (metadata, message) = (short(random), short(random));
         let (mut out, mut tag) = (random.bytes(message.len()), random.bytes(32));
         if self.office.wrap(group, &metadata, &message, &mut out, &mut tag).number == 10 {
@@ -280,7 +280,7 @@ impl Season {
     }
 
     /// A message goes back to the office, in an envelope whose header may be damaged on the way, and then once more.
-    fn to_office(&mut self, random: &mut Random, group: u32, lone: &mut Both) -> bool {
+    fn send_back(&mut self, random: &mut Random, group: u32, lone: &mut Both) -> bool {
         let before = copy(&lone.library);
         let (metadata, message) = (short(random), short(random));
         let (mut out, mut tag) = (random.bytes(message.len()), random.bytes(32));
