@@ -14,7 +14,8 @@
  *     opened = pevghazo_open_group(office, PEVGHAZO_GROUPS, 7, allowance, key, key_len);
  *
  * The day of a group is its record's count and the allowance: after the two lines office[7].count is 1, and group 7 has 999 left. The next day
- * begins with the next pevghazo_start_day. A group's session is a session like a lone one: its codes are those of &office[7].session. */
+ * begins with the next pevghazo_start_day. A group's session is a session like a lone one: its codes are those of &office[7].session. A
+ * call of a lone session on it would go past the group's count and the allowance. */
 #ifndef PEVGHAZO_TABLE_H
 #define PEVGHAZO_TABLE_H
 
