@@ -15,7 +15,8 @@
  *
  * The day of a group is its record's count and the allowance: after the two lines office[7].count is 1, and group 7 has 999 left. The next day
  * begins with the next pevghazo_start_day. A group's session is a session like a lone one: its codes are those of &office[7].session. A
- * call of a lone session on it would go past the group's count and the allowance. */
+ * pevghazo_start, pevghazo_wrap or pevghazo_unwrap of it goes past the table: the allowance is not looked at, and nothing is added to the
+ * group's count. */
 #ifndef PEVGHAZO_TABLE_H
 #define PEVGHAZO_TABLE_H
 

@@ -38,10 +38,11 @@ fn repository() -> PathBuf {
     Path::new(&here).ancestors().nth(2).map(Path::to_path_buf).unwrap_or_default()
 }
 
-/// The folder of the installed library.
+/// The folder of the installed library, if that is of this version or a later one.
 fn installed() -> Option<PathBuf> {
     let program = std::env::var_os("PKG_CONFIG").unwrap_or("pkg-config".into());
-    let said = Command::new(program).args(["--variable=libdir", "pevghazo"]).output().ok()?;
+    let of_this_version = concat!("pevghazo >= ", env!("CARGO_PKG_VERSION"));
+    let said = Command::new(program).args(["--variable=libdir", of_this_version]).output().ok()?;
     let folder = String::from_utf8(said.stdout).ok()?;
     (said.status.success() && !folder.trim().is_empty()).then(|| PathBuf::from(folder.trim()))
 }

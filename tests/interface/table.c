@@ -21,7 +21,8 @@ static void same_session(const char *what, const pevghazo_session *found, const 
 static const uint8_t key[] = "the key of a group";
 enum { key_len = sizeof key - 1 };
 
-/* A run of up to 33 records, with one before and one behind it; their sessions and counts are all others, and the highest count is among them. */
+/* A run of up to 33 records, with one before and one behind it; their sessions and counts are all others, and the first of the run has
+ * the highest count. */
 enum { LONGEST = PEVGHAZO_GROUPS + 1 };
 static pevghazo_record records[LONGEST + 2], before[LONGEST + 2];
 
@@ -30,7 +31,7 @@ static void fill(void) {
         memset(&records[i], (int)(i + 1), sizeof records[i]);
         records[i].session.toggle = i % 2 == 0;
         records[i].session.opened = i % 3 == 0;
-        records[i].count = UINT32_MAX / (i + 1);
+        records[i].count = i == 1 ? UINT32_MAX : UINT32_MAX / (i + 2);
     }
     memcpy(before, records, sizeof records);
 }

@@ -289,7 +289,7 @@ fn spent(f: &mut fmt::Formatter<'_>, refusal: &Refusal, group: &Group, allowance
     write!(
         f,
         " Group {group} has spent {count} of {allowance} permutations on this day, and the call needs more than the \
-         remaining {left}. The other groups have counts of their own."
+         remaining {left}. The other groups have counts of their own, and the next `pevghazo office day` sets all to 0."
     )
 }
 

@@ -84,6 +84,7 @@ fn no_secret_is_in_memory_when_a_command_ends() {
     let mut found = Vec::new();
     for (line, state, place) in [
         ("office --state office show", "office", place_at_office(5)),
+        ("office --state office day --allowance 1000000", "office", place_at_office(5)),
         ("office --state office seal --group 5 --message text --out to", "office", place_at_office(5)),
         ("group --state group open --in to --out opened", "group", 12),
         ("group --state group reread --out -", "group", 12),

@@ -164,7 +164,7 @@ fn number_10_a_day_whose_allowance_is_spent() {
     let spent = |count: u32, allowance: u32, line: &str| {
         let more = format!(
             " Group 5 has spent {count} of {allowance} permutations on this day, and the call needs more than the remaining \
-             {}. The other groups have counts of their own.",
+             {}. The other groups have counts of their own, and the next `pevghazo office day` sets all to 0.",
             allowance - count
         );
         refused_with(&folder, 10, &more, line);

@@ -148,7 +148,7 @@ fn the_independent_implementation_understands_it() {
         assert_eq!(folder.read("opened").unwrap(), message);
     }
     let shown = folder.done("office --state office show");
-    assert!(shown.contains(&format!(", index {:7}, ", other.index)), "{shown}");
+    assert!(shown.contains("\ngroup 17: count ") && shown.contains(&format!(", index {:7}, ", other.index)), "{shown}");
 }
 
 /// The demo's session in SANE, beside the independent implementation.

@@ -444,6 +444,19 @@ fn envelopes_of_a_session_and_of_a_table() {
     office.start_day(0);
     assert_eq!(number(office.seal(7, &long).unwrap_err()), (Number::TooLong, 0));
     assert_eq!(number(office.seal(7, &plain(b"")).unwrap_err()), (Number::Allowance, 0));
+    // An arrival that would be opened, by either way, one permutation short of its count; then it just fits.
+    let next = Session::from_bytes(&group.to_bytes()).unwrap().seal(7, &plain(b"12001")).unwrap();
+    let parts = envelope::read(&next.envelope).unwrap();
+    office.start_day(next.count - 1);
+    assert_eq!(number(office.open(&next.envelope).unwrap_err()), (Number::Allowance, 0));
+    assert_eq!(number(office.unwrap(7, &parts.arrival().unwrap()).unwrap_err()), (Number::Allowance, 0));
+    assert_eq!(
+        number(office.unwrap_to(7, &parts.arrival().unwrap(), &mut [0; 5]).unwrap_err()),
+        (Number::Allowance, 0)
+    );
+    office.start_day(next.count);
+    assert_eq!((office.open(&next.envelope).unwrap().count, office.left(7)), (next.count, Some(0)));
+    office.start_day(0);
     assert_eq!(*group.to_bytes(), *by_hand.to_bytes(), "a refused sealing leaves the session");
     let envelope = by_hand.seal(8, &plain(b"12001")).unwrap().envelope;
     assert_eq!(number(office.open(&envelope).unwrap_err()), (Number::NotOpen, 0));
@@ -531,6 +544,14 @@ fn secrets_are_not_shown() {
     assert_eq!(
         format!("{table:?}"),
         "Table { allowance: 9, groups: [Group { group: 3, is_open: true, index: 0, toggle: false, count: 1 }], .. }"
+    );
+    // A closed group that has counted something is shown too.
+    let mut bytes = [0; Table::BYTES];
+    bytes[2 * (Session::BYTES + 4) + Session::BYTES] = 5;
+    let table = Table::from_bytes(&bytes).unwrap();
+    assert_eq!(
+        format!("{table:?}"),
+        "Table { allowance: 0, groups: [Group { group: 2, is_open: false, index: 0, toggle: false, count: 5 }], .. }"
     );
     let bytes = session.to_bytes();
     assert_eq!(format!("{bytes:?}"), "Secret(102 bytes)");

@@ -9,7 +9,7 @@ use std::fs::{self, File};
 use std::os::unix::fs::FileExt;
 use std::process::Command;
 
-use pevghazo::{Arrival, Plain, SaneSession, Session, Table};
+use pevghazo::{Arrival, Plain, SaneSession, Session, Table, raw};
 use pevghazo_reference::deck::p;
 use pevghazo_reference::rolling::{roll_input, roll_output};
 use pevghazo_reference::session::{SaneSession as SaneReference, Session as Reference};
@@ -108,8 +108,19 @@ impl Memory {
         Memory { hidden, file: File::open("/proc/self/mem").unwrap(), buffer: vec![0; 1 << 16] }
     }
 
-    /// Looks through all that can be written to.
+    /// Looks from far down the stack, so that its own frames do not take the place of what a call left there.
+    #[inline(never)]
     fn places(&mut self) -> Vec<(u64, String)> {
+        let mut room = [const { std::mem::MaybeUninit::<u64>::uninit() }; 1 << 13];
+        std::hint::black_box(&mut room);
+        let found = self.places_from_here();
+        std::hint::black_box(&mut room);
+        found
+    }
+
+    /// Looks through all that can be written to.
+    #[inline(never)]
+    fn places_from_here(&mut self) -> Vec<(u64, String)> {
         let mut found = Vec::new();
         for line in fs::read_to_string("/proc/self/maps").unwrap().lines() {
             let words: Vec<&str> = line.split_whitespace().collect();
@@ -264,6 +275,16 @@ fn table(memory: &mut Memory) {
     office = Table::from_bytes(&bytes).unwrap();
     drop(bytes);
     memory.one_record("after storing and loading a table");
+    // As versions up to 0.4 stored it: the sessions, then one count and the allowance.
+    let bytes = office.to_bytes();
+    drop(office);
+    let mut old = vec![0; Table::BYTES_BEFORE];
+    let sessions = bytes.chunks_exact(Session::BYTES + 4).map(|record| &record[..Session::BYTES]);
+    old.chunks_exact_mut(Session::BYTES).zip(sessions).for_each(|(place, session)| place.copy_from_slice(session));
+    drop(bytes);
+    office = Table::from_bytes_before(&old).unwrap();
+    raw::wipe(&mut old);
+    memory.one_record("after loading a table of an earlier version");
     drop(office);
     memory.nothing("after the end of a table");
 }

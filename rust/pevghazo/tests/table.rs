@@ -5,7 +5,7 @@ mod common;
 
 use common::tables::{Tables, any_number, any_record, group_record_of, same_group};
 use common::{Arrival, Both, Library, cases, copy, is_whole_run, key, maybe_long, other_length, record_of, same, text};
-use pevghazo::raw::{self, Answer};
+use pevghazo::raw::{self, Answer, GroupRecord, Record};
 use pevghazo_reference::envelope;
 use pevghazo_reference::random::Random;
 use pevghazo_reference::sanse::count;
@@ -198,6 +198,16 @@ fn a_day_over_any_number_of_records() {
             Tables::of(Table { records, allowance: !allowance }).start_day(allowance);
         }
     });
+}
+
+#[test]
+fn a_day_over_more_records_than_a_table_has() {
+    for size in [64, 65, 1_000] {
+        let mut records: Vec<_> =
+            (0..size).map(|_| GroupRecord { session: Record::closed(), count: u32::MAX }).collect();
+        assert_eq!(raw::start_day(&mut records, 7), 7);
+        assert!(records.iter().all(|record| record.count == 0 && same(&record.session, &Record::closed())));
+    }
 }
 
 #[test]

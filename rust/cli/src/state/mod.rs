@@ -247,11 +247,13 @@ mod tests {
         let back = Group::decode(&old).unwrap();
         assert_eq!((back.group, back.kept, back.starts), (5, kept(40, 9), Keys::default()));
         assert!(Group::decode(&[b"group--1", &bytes[8..]].concat()).is_err());
+        assert_eq!(Group::decode(&[b"group--0", &old[8..]].concat()).unwrap_err(), Bad::Format);
         assert_eq!(Office::decode(&old).unwrap_err().to_string(), "it is a group's and not the office's");
         let office = office();
         let bytes = office.encode();
         let old = before(&bytes, 1);
         let back = Office::decode(&[b"office-1", &old[..old.len() - keys]].concat()).unwrap();
+        assert_eq!(Office::decode(&[b"office-0", &old[..old.len() - keys]].concat()).unwrap_err(), Bad::Format);
         assert_eq!((back.kept, back.keys), (office.kept, Keys::default()));
     }
 
