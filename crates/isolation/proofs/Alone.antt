@@ -1,25 +1,24 @@
 -- What a group's calls give and leave, worked out from its own record and nothing else; and that a call of the table gives and leaves that for
 -- its own group, and leaves the others. Assumes nothing.
-use mathlib.Core.Path.{_≡_, refl, sym, ap, _∙_}
+use mathlib.Core.Path.{_≡_, sym, ap, _∙_}
 use mathlib.Core.Logic.{_≢_}
-use mathlib.Core.Bool.{Bool, true, false, not, _||_, cond}
+use mathlib.Core.Bool.{Bool, false, cond}
 use mathlib.Core.List.{List, [], _∷_}
 use Prim.Native.Nat.{ℕ, _<_}
 use native.Mathlib.Omega.{arith}
-use lib.Dec.{ltb}
-use lib.ListN.{length, set, length-set, length-map}
-use lib.Seq.{getD-set-same, getD-set-other}
+use lib.ListN.{length, length-map}
+use lib.Seq.{getD-set-same}
 use borrow.Author.Tests.{eq-eqb, le-ltb}
 use Rattle.deck.specs.declared.DeckState.{DeckState}
 use Rattle.modes.specs.Call.{CallInput}
 use Rattle.modes.specs.Mode.{sanse, incremental}
-use Rattle.modes.specs.Rules.{SessionState, Outcome, wrapAt, unwrapAt}
+use Rattle.modes.specs.Rules.{Outcome, wrapAt, unwrapAt}
 use Rattle.session.specs.declared.Answer.{Answer}
 use Rattle.groups.specs.declared.Record.{Record}
 use Rattle.groups.specs.Groups.{GroupState, GroupOutcome, GroupOpening, onDay, wrapOnDay, unwrapOnDay, openOnDay, recordOf}
-use Rattle.office.specs.Table.{Table, unopened, noGroup, groupAt, sessionAt, TableOutcome, TableOpening, refusedBy, writtenBack, openedBack, callGroupAt, wrapGroupAt, unwrapGroupAt, openGroupAt, tableOf, tableResult, openingResult}
+use Rattle.office.specs.Table.{unopened, noGroup, groupAt, sessionAt, TableOutcome, TableOpening, refusedBy, writtenBack, openedBack, callGroupAt, openGroupAt, tableOf, tableResult, openingResult}
 use Rattle.office.specs.Exactly.{CallExactly}
-use Rattle.office.proofs.Exactly.{wrap-exactly, unwrap-exactly}
+use Rattle.office.proofs.Exactly.{wrap-exactly, unwrap-exactly, open-exactly}
 use Rattle.isolation.specs.Calls.{Opened, Wrapped, Unwrapped, Request, opening, wrap, unwrap, GroupCall, Given}
 
 -- ---- from a group's own record
@@ -52,14 +51,14 @@ module _ (allowance : ℕ) where
   leftBy (wrap i) s = wrapOnDay allowance s i .left
   leftBy (unwrap i) s = unwrapOnDay allowance s i .left
 
-  -- what requests give, one after the other, and the record that they leave
-  unfoldable pub allGiven : List Request → GroupState → List Given
+  -- what the requests of calls give, one after the other, and the record that they leave
+  unfoldable pub allGiven : List GroupCall → GroupState → List Given
   allGiven [] s = []
-  allGiven (q ∷ qs) s = givenBy q s ∷ allGiven qs (leftBy q s)
+  allGiven (c ∷ cs) s = givenBy (c .request) s ∷ allGiven cs (leftBy (c .request) s)
 
-  unfoldable pub allLeft : List Request → GroupState → GroupState
+  unfoldable pub allLeft : List GroupCall → GroupState → GroupState
   allLeft [] s = s
-  allLeft (q ∷ qs) s = allLeft qs (leftBy q s)
+  allLeft (c ∷ cs) s = allLeft cs (leftBy (c .request) s)
 
 -- ---- one call of the table
 
@@ -150,19 +149,11 @@ module _ (allowance : ℕ) (from next : List Record) (k : ℕ) (key : List ℕ) 
 
   open-size : length next ≡ length from
   open-size =
-      sym (length-map next recordOf) ∙ ap (λ (o : TableOpening). length (o .table)) is-by3 ∙ go (noGroup (length (tableOf from)) k)
+      sym (length-map next recordOf) ∙ ap (λ (o : TableOpening). length (o .table)) promised ∙ open-exactly allowance (tableOf from) k key .size
       ∙ length-map from recordOf
-    where
-      go : (b : Bool) → length (by3 b .table) ≡ length (tableOf from)
-      go true = refl
-      go false = length-set (tableOf from) k (fresh .left)
 
   open-others : (g : ℕ) → g ≢ k → held next g ≡ held from g
-  open-others g n = ap (λ (o : TableOpening). groupAt (o .table) g) is-by3 ∙ go (noGroup (length (tableOf from)) k)
-    where
-      go : (b : Bool) → groupAt (by3 b .table) g ≡ held from g
-      go true = refl
-      go false = getD-set-other (tableOf from) k g (fresh .left) unopened n
+  open-others g n = ap (λ (o : TableOpening). groupAt (o .table) g) promised ∙ open-exactly allowance (tableOf from) k key .others g n
 
   module _ (n : length from ≡ 32) (less : k < 32) where
     is-open : openingResult r next ≡ openedBack (tableOf from) k fresh

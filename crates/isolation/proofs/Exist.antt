@@ -1,13 +1,11 @@
 -- Every list of calls has a run, and a day can be started (`RunsExist` of `specs/Isolation.antt`). Assumes nothing.
-use mathlib.Core.Path.{_≡_, refl, ap, _∙_}
+use mathlib.Core.Path.{_≡_, refl, ap}
 use mathlib.Core.List.{List, [], _∷_, map}
 use Prim.Native.Nat.{ℕ}
-use Rattle.modes.specs.Call.{CallInput}
-use Rattle.session.specs.declared.Answer.{Answer}
 use Rattle.groups.specs.declared.Record.{Record}
 use Rattle.groups.specs.Groups.{GroupState, recordOf}
 use Rattle.office.specs.Table.{Table, DayStart, startDayAt, TableOutcome, wrapGroupAt, unwrapGroupAt, TableOpening, openGroupAt, tableOf, dayResult, tableResult, openingResult}
-use Rattle.isolation.specs.Calls.{Opened, Wrapped, Unwrapped, DayStarted, Request, opening, wrap, unwrap, GroupCall, Given, Run, none, opened, wrapped, unwrapped}
+use Rattle.isolation.specs.Calls.{Request, opening, wrap, unwrap, GroupCall, Given, Run, none, opened, wrapped, unwrapped}
 use Rattle.isolation.specs.Isolation.{RunsExist}
 
 -- ---- the records that a table is
@@ -72,9 +70,6 @@ pub runs-exist : RunsExist
 runs-exist =
     record {
       runs = every;
-      opens = λ k key. (record { group = k; request = opening key }, refl);
-      wraps = λ k i. (record { group = k; request = wrap i }, refl);
-      unwraps = λ k i. (record { group = k; request = unwrap i }, refl);
       starts = λ allowance from.
           let o = startDayAt allowance (tableOf from) in
           (o .allowance, records (o .table), made-day o);

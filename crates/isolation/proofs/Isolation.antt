@@ -3,21 +3,21 @@ use mathlib.Core.Path.{_≡_, refl, sym, ap, ap₂, _∙_, subst}
 use mathlib.Core.Bool.{Bool, true, false, cond}
 use mathlib.Core.List.{List, [], _∷_}
 use Prim.Native.Nat.{ℕ, _<_}
+use native.Mathlib.Omega.{arith}
 use lib.Dec.{eqb}
 use lib.ListN.{length, length-map, List·getD-map}
 use borrow.Author.Tests.{eqb-true, eqb-false}
-use Rattle.deck.specs.declared.DeckState.{DeckState}
-use Rattle.modes.specs.Rules.{SessionState}
 use Rattle.sanse.specs.declared.Session.{Session}
 use Rattle.sanse.specs.Session.{stateOf}
 use Rattle.groups.specs.declared.Record.{Record}
-use Rattle.groups.specs.Groups.{GroupState, newDay, recordOf}
-use Rattle.office.specs.Table.{Table, unopened, groupAt, sessionAt, DayStart, startDayAt, tableOf, dayResult}
+use Rattle.groups.specs.Groups.{newDay, recordOf}
+use Rattle.office.specs.Table.{unopened, groupAt, DayStart, tableOf}
 use Rattle.office.proofs.Laws.{group-at}
-use Rattle.isolation.specs.Calls.{DayStarted, Request, GroupCall, Given, Run, none, opened, wrapped, unwrapped, callsFor, givenTo}
-use Rattle.isolation.specs.Isolation.{recordAt, AlikeFor, Isolated, IsolatedAllDay}
+use Rattle.isolation.specs.Calls.{DayStarted, GroupCall, Given, Run, none, opened, wrapped, unwrapped, callsFor, givenTo}
+use Rattle.isolation.specs.Isolation.{recordAt, AlikeFor, Isolated, IsolatedAllDay, AsAlone}
 use Rattle.isolation.proofs.Alone.{givenBy, leftBy, allGiven, allLeft, held, Step, wrap-step, unwrap-step, open-step}
 use Rattle.isolation.proofs.Exist.{one-record}
+use Rattle.isolation.proofs.Own.{own-calls}
 
 -- ---- a list of calls, for group g: what its calls gave and its record at the end are worked out from its record at first
 
@@ -29,8 +29,8 @@ module _ (allowance g : ℕ) (less : g < 32) where
   -- one call more in front, by whether it is for g
   module _ (c : GroupCall) (x : Given) (from next : List Record) (s : Step allowance c x from next) (n : length from ≡ 32)
       (cs : List GroupCall) (gs : List Given) (to : List Record) (rest : ByItself cs gs next to) where
-    abbrev asked : Bool → List Request
-    asked b = cond b (c .request ∷ callsFor g cs) (callsFor g cs)
+    abbrev asked : Bool → List GroupCall
+    asked b = cond b (c ∷ callsFor g cs) (callsFor g cs)
 
     abbrev After : Bool → Type 0
     After b =
@@ -97,6 +97,42 @@ alike allowance g less l m ln mn same cs ds asked gs hs l′ m′ run other =
 pub isolated : Isolated
 isolated allowance g less l m ln mn same = alike allowance g less l m ln mn (sym (group-at l g) ∙ ap recordOf same ∙ group-at m g)
 
+-- ---- by itself
+
+module _ (g : ℕ) where
+  -- one call more in front, by whether it is for g: of the calls for g all are for g
+  once-more : (c : GroupCall) (cs : List GroupCall) → callsFor g (callsFor g cs) ≡ callsFor g cs → (b : Bool) → eqb (c .group) g ≡ b
+      → callsFor g (cond b (c ∷ callsFor g cs) (callsFor g cs)) ≡ cond b (c ∷ callsFor g cs) (callsFor g cs)
+  unfolding callsFor
+  once-more c cs rest true e =
+      ap (λ (b : Bool). cond b (c ∷ callsFor g (callsFor g cs)) (callsFor g (callsFor g cs))) e ∙ ap (λ (ds : List GroupCall). c ∷ ds) rest
+  once-more c cs rest false e = rest
+
+  once : (cs : List GroupCall) → callsFor g (callsFor g cs) ≡ callsFor g cs
+  unfolding callsFor
+  once [] = refl
+  once (c ∷ cs) = once-more c cs (once cs) (eqb (c .group) g) refl
+
+  -- and of what they gave it is given all
+  all-more : (c : GroupCall) (ds : List GroupCall) → ((hs : List Given) → length ds ≡ length hs → givenTo g ds hs ≡ hs) → (b : Bool) → eqb (c .group) g ≡ b
+      → (hs : List Given) → length (cond b (c ∷ ds) ds) ≡ length hs → givenTo g (cond b (c ∷ ds) ds) hs ≡ hs
+  unfolding givenTo
+  all-more c ds rest true e [] n = absurd (omega arith)
+  all-more c ds rest true e (x ∷ hs) n =
+      ap (λ (b : Bool). cond b (x ∷ givenTo g ds hs) (givenTo g ds hs)) e ∙ ap (λ (ys : List Given). x ∷ ys) (rest hs (omega arith))
+  all-more c ds rest false e hs n = rest hs n
+
+  all-given : (cs : List GroupCall) (hs : List Given) → length (callsFor g cs) ≡ length hs → givenTo g (callsFor g cs) hs ≡ hs
+  unfolding givenTo callsFor
+  all-given [] [] n = refl
+  all-given [] (x ∷ hs) n = absurd (omega arith)
+  all-given (c ∷ cs) hs n = all-more c (callsFor g cs) (all-given cs) (eqb (c .group) g) refl hs n
+
+pub as-alone : AsAlone
+as-alone allowance g less l ln cs gs hs l′ m′ run other =
+    let w = isolated allowance g less l l ln ln refl cs (callsFor g cs) (sym (once g cs)) gs hs l′ m′ run other in
+    (w .given ∙ all-given g cs hs (own-calls g .each-given allowance (callsFor g cs) hs l m′ other), w .left)
+
 -- ---- after the start of a day
 
 module _ (allowance a g : ℕ) (l l₀ : List Record) (started : DayStarted allowance l a l₀) where
@@ -115,6 +151,7 @@ module _ (allowance a g : ℕ) (l l₀ : List Record) (started : DayStarted allo
 pub isolated-all-day : IsolatedAllDay
 isolated-all-day allowance g less l m ln mn same a b l₀ m₀ started starting cs ds asked gs hs l′ m′ run other =
     let one : b ≡ a = day-allowance allowance b g m m₀ starting ∙ sym (day-allowance allowance a g l l₀ started) in
-    alike a g less l₀ m₀ (day-size allowance a g l l₀ started ∙ ln) (day-size allowance b g m m₀ starting ∙ mn)
-    (day-record allowance a g l l₀ started ∙ ap (λ (s : Session). record { session = stateOf s; count = 0 }) same ∙ sym (day-record allowance b g m m₀ starting))
+    isolated a g less l₀ m₀ (day-size allowance a g l l₀ started ∙ ln) (day-size allowance b g m m₀ starting ∙ mn)
+    (record-same l₀ m₀ g
+    (day-record allowance a g l l₀ started ∙ ap (λ (s : Session). record { session = stateOf s; count = 0 }) same ∙ sym (day-record allowance b g m m₀ starting)))
     cs ds asked gs hs l′ m′ run (subst (λ (k : ℕ). Run k ds m₀ hs m′) one other)

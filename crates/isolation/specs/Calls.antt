@@ -67,10 +67,10 @@ pub data Run (allowance : ℕ) : List GroupCall → List Record → List Given �
 
 -- ---- the calls for one group
 
--- what the calls for g ask, in their order, refused ones included
-unfoldable pub callsFor : (g : ℕ) → List GroupCall → List Request
+-- the calls for g: those of a list that name g, in their order, refused ones included
+unfoldable pub callsFor : (g : ℕ) → List GroupCall → List GroupCall
 callsFor g [] = []
-callsFor g (c ∷ cs) = cond (eqb (c .group) g) (c .request ∷ callsFor g cs) (callsFor g cs)
+callsFor g (c ∷ cs) = cond (eqb (c .group) g) (c ∷ callsFor g cs) (callsFor g cs)
 
 -- what the calls for g gave, in their order
 unfoldable pub givenTo : (g : ℕ) → List GroupCall → List Given → List Given

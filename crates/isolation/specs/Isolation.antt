@@ -9,16 +9,17 @@ use lib.ListN.{length, getD}
 use Rattle.modes.specs.Call.{CallInput}
 use Rattle.groups.specs.declared.Record.{Record}
 use Rattle.office.specs.Table.{zeroRecord}
-use Rattle.isolation.specs.Calls.{DayStarted, opening, wrap, unwrap, GroupCall, Given, Run, callsFor, givenTo}
+use Rattle.isolation.specs.Calls.{Opened, Wrapped, Unwrapped, DayStarted, opening, wrap, unwrap, GroupCall, Given, Run, callsFor, givenTo}
 
 -- the record of a group: its session and its count
 abbrev pub recordAt : List Record → (group : ℕ) → Record
 recordAt l group = getD l group zeroRecord
 
--- two runs of calls are alike for g: its calls gave the same answers, buffers and tags in the same order, and it has the same record at the end
-pub record AlikeFor (g : ℕ) (cs ds : List GroupCall) (gs hs : List Given) (l m : List Record) : Type 0 where
+-- two runs of calls cs and ds, which gave gs and hs and left the records l′ and m′, are alike for g: its calls gave the same answers, buffers and
+-- tags in the same order, and it has the same record at the end
+pub record AlikeFor (g : ℕ) (cs ds : List GroupCall) (gs hs : List Given) (l′ m′ : List Record) : Type 0 where
   pub given : givenTo g cs gs ≡ givenTo g ds hs
-  pub left : recordAt l g ≡ recordAt m g
+  pub left : recordAt l′ g ≡ recordAt m′ g
 
 -- two tables of 32 records that agree in the record of g, two lists of calls for any groups under one allowance: where the calls for g are the
 -- same in the same order, with the same bytes and buffers, they are alike for g
@@ -38,21 +39,35 @@ IsolatedAllDay =
     → (gs hs : List Given) (l′ m′ : List Record) → Run a cs l₀ gs l′ → Run b ds m₀ hs m′
     → AlikeFor g cs ds gs hs l′ m′
 
+-- so among the others' calls a group gets what it gets where nobody else calls, all of it, and is left the same record
+abbrev pub AsAlone : Type 0
+AsAlone =
+    (allowance g : ℕ) → g < 32 → (l : List Record) → length l ≡ 32 → (cs : List GroupCall) (gs hs : List Given) (l′ m′ : List Record)
+    → Run allowance cs l gs l′ → Run allowance (callsFor g cs) l hs m′
+    → (givenTo g cs gs ≡ hs) × (recordAt l′ g ≡ recordAt m′ g)
+
 -- ---- the other side: what the claims speak of is there, and is what it is called
 
--- every list of calls has a run, from any records and under any allowance; every opening, wrap and unwrap for any group is such a call; and a day
--- can be started over any records
+-- every list of calls has a run, from any records and under any allowance, and a day can be started over any records
 pub record RunsExist : Type 0 where
   pub runs : (allowance : ℕ) (cs : List GroupCall) (from : List Record) → (gs : List Given) × (to : List Record) × Run allowance cs from gs to
-  pub opens : (group : ℕ) (key : List ℕ) → (c : GroupCall) × (c ≡ record { group = group; request = opening key })
-  pub wraps : (group : ℕ) (i : CallInput) → (c : GroupCall) × (c ≡ record { group = group; request = wrap i })
-  pub unwraps : (group : ℕ) (i : CallInput) → (c : GroupCall) × (c ≡ record { group = group; request = unwrap i })
   pub starts : (allowance : ℕ) (from : List Record) → (r : ℕ) × (to : List Record) × DayStarted allowance from r to
+
+-- a run of one call is the call's promise, of all that the call gave; and a run leaves as many records as it found
+pub record RunIs (allowance : ℕ) : Type 0 where
+  pub no-call : (from to : List Record) (gs : List Given) → Run allowance [] from gs to → (gs ≡ []) × (to ≡ from)
+  pub one-opening : (from to : List Record) (group : ℕ) (key : List ℕ) (x : Given)
+      → Run allowance (record { group = group; request = opening key } ∷ []) from (x ∷ []) to → Opened allowance from group key (x .answer) to
+  pub one-wrap : (from to : List Record) (group : ℕ) (i : CallInput) (x : Given)
+      → Run allowance (record { group = group; request = wrap i } ∷ []) from (x ∷ []) to → Wrapped allowance from group i (x .answer) to (x .out) (x .tag)
+  pub one-unwrap : (from to : List Record) (group : ℕ) (i : CallInput) (x : Given)
+      → Run allowance (record { group = group; request = unwrap i } ∷ []) from (x ∷ []) to → Unwrapped allowance from group i (x .answer) to (x .out) (x .tag)
+  pub size : (cs : List GroupCall) (gs : List Given) (from to : List Record) → Run allowance cs from gs to → length to ≡ length from
 
 -- the calls for g are those that name g and no others, in their order: a call that names g is one of them, a call that does not is none, and
 -- those of a longer list are those of its parts. And so of what they gave
 pub record OwnCalls (g : ℕ) : Type 0 where
-  pub own : (c : GroupCall) → c .group ≡ g → callsFor g (c ∷ []) ≡ c .request ∷ []
+  pub own : (c : GroupCall) → c .group ≡ g → callsFor g (c ∷ []) ≡ c ∷ []
   pub other : (c : GroupCall) → c .group ≢ g → callsFor g (c ∷ []) ≡ []
   pub parts : (cs ds : List GroupCall) → callsFor g (cs ++ ds) ≡ callsFor g cs ++ callsFor g ds
   pub own-given : (c : GroupCall) (x : Given) → c .group ≡ g → givenTo g (c ∷ []) (x ∷ []) ≡ x ∷ []

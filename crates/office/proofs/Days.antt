@@ -7,8 +7,8 @@ use lib.ListN.{length, getD, set, length-map, length-set, List·getD-map}
 use lib.Seq.{getD-set-same, getD-set-other, ext-getD}
 use borrow.Author.Count.{below-more}
 use Rattle.groups.specs.declared.Record.{Record}
-use Rattle.groups.specs.Groups.{GroupState, newDay, recordOf}
-use Rattle.office.specs.Table.{Table, unopened, zeroRecord, DayStart, startDayAt, tableOf, dayResult}
+use Rattle.groups.specs.Groups.{newDay, recordOf}
+use Rattle.office.specs.Table.{Table, unopened, zeroRecord, startDayAt, tableOf, dayResult}
 
 -- t records are left from g on: of the records ys at entry and l now, the day has begun for those below g, and the others are as they were
 pub record Turn (ys l : List Record) (t g : ℕ) : Type 0 where

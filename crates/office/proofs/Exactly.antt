@@ -274,6 +274,8 @@ module _ (allowance : ℕ) (t : Table) (g : ℕ) (key : List ℕ) where
         ten = (λ e. absurd (omega (arith, e)), λ h. absurd (h .0 c));
         accepted = λ n _ _ _. absurd (n c);
         unaltered = λ _. refl;
+        others = λ k _. refl;
+        size = refl;
       }
 
   outside : (16 ≤ length key) × (length key ≤ 47) → (length key < 16) ⊎ (47 < length key) → ⊥
@@ -289,6 +291,8 @@ module _ (allowance : ℕ) (t : Table) (g : ℕ) (key : List ℕ) where
           ten = (λ e. absurd (omega (arith, e)), λ h. absurd (outside (h .1) w));
           accepted = λ _ l h _. absurd (outside (l, h) w);
           unaltered = λ _. refl;
+          others = λ k _. refl;
+          size = refl;
         }
 
     module _ (fits : (16 ≤ length key) × (length key ≤ 47)) where
@@ -300,6 +304,8 @@ module _ (allowance : ℕ) (t : Table) (g : ℕ) (key : List ℕ) where
             ten = (λ _. (λ c. apart t g in3 c, fits, above), λ _. refl);
             accepted = λ _ _ _ n. absurd (n above);
             unaltered = λ _. refl;
+            others = λ k _. refl;
+            size = refl;
           }
 
       opened : groupAt t g .count + 1 ≤ allowance
@@ -311,6 +317,8 @@ module _ (allowance : ℕ) (t : Table) (g : ℕ) (key : List ℕ) where
             ten = (λ e. absurd (omega (arith, e)), λ h. absurd (omega (arith, h .2, within)));
             accepted = λ _ _ _ _. refl;
             unaltered = λ n. absurd (n refl);
+            others = λ k n. getD-set-other t g k (record { session = newSession key; count = groupAt t g .count + 1 }) unopened n;
+            size = length-set t g (record { session = newSession key; count = groupAt t g .count + 1 });
           }
 
   -- what opening gives by the outcome o of the checks and the start

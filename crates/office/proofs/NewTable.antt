@@ -14,7 +14,7 @@ use Rattle.modes.specs.Mode.{sanse, incremental}
 use Rattle.modes.specs.Rules.{SessionState, Outcome, checkNumber, closed, newSession}
 use Rattle.groups.specs.Groups.{GroupState, recordOf}
 use Rattle.office.specs.declared.NearlyFull.{NearlyFull}
-use Rattle.office.specs.Table.{unopened, newTable, groupAt, sessionAt, startDayAt, TableOutcome, openGroupAt, refusedBy, NearlyFullIs, zeroRecord, tableOf}
+use Rattle.office.specs.Table.{unopened, newTable, groupAt, sessionAt, TableOutcome, openGroupAt, refusedBy, NearlyFullIs, zeroRecord, tableOf}
 use Rattle.office.specs.Exactly.{Check3, CallExactly, NewTable}
 use Rattle.office.proofs.Search.{found-exactly}
 use Rattle.office.proofs.Exactly.{wrap-exactly, unwrap-exactly, open-exactly}

@@ -6,11 +6,11 @@ use mathlib.Core.List.{List}
 use mathlib.Core.Logic.{_↔_, _≢_, _⊎_}
 use mathlib.Core.Path.{_≡_}
 use Prim.Native.Nat.{ℕ, _+_, _<_, _≤_}
-use lib.ListN.{length, getD, set, replicate}
+use lib.ListN.{length, set, replicate}
 use Rattle.deck.specs.declared.DeckState.{DeckState}
 use Rattle.modes.specs.Call.{CallInput}
 use Rattle.modes.specs.Mode.{sanse, incremental}
-use Rattle.modes.specs.Rules.{Outcome, checkNumber, countOf, closed, newSession, wrapAt, unwrapAt}
+use Rattle.modes.specs.Rules.{Outcome, checkNumber, countOf, newSession, wrapAt, unwrapAt}
 use Rattle.groups.specs.Groups.{charged, recordOf}
 use Rattle.office.specs.declared.NearlyFull.{NearlyFull}
 use Rattle.office.specs.Table.{Table, unopened, newTable, groupAt, sessionAt, DayStart, startDayAt, TableOutcome, TableOpening, refusedBy, writtenBack, wrapGroupAt, unwrapGroupAt, openGroupAt, NearlyFullIs, tableOf, zeroRecord}
@@ -87,6 +87,9 @@ pub record OpenExactly (allowance : ℕ) (t : Table) (group : ℕ) (key : List �
       → o ≡ record { number = 0; count = 1; table = set t group (record { session = newSession key; count = groupAt t group .count + 1 }) }
   -- a refusal has count 0 and alters nothing
   pub unaltered : o .number ≢ 0 → o ≡ record { number = o .number; count = 0; table = t }
+  -- the other groups' records do not alter, neither session nor count
+  pub others : (k : ℕ) → k ≢ group → groupAt (o .table) k ≡ groupAt t k
+  pub size : length (o .table) ≡ length t
 
 -- ---- the nearly-full question
 

@@ -2,9 +2,8 @@
 -- before the loop, and closed once, after it. A turn takes record g out, copies it, calls `groups::new_day` on the copy, stores what it gave, and
 -- puts the record back. The invariant, with t records left: g + t is their number, the day has begun for the records below g, and the others are
 -- as they were. The variant is t. All that the proof knows of `groups::new_day` is that it meets its contract. Assumes nothing.
-use mathlib.Core.Path.{_≡_, refl, sym, _∙_, ap, subst}
+use mathlib.Core.Path.{_≡_, refl, sym, ap, subst}
 use Prim.Native.Nat.{ℕ, _<_, _^_, _+_, _-_}
-use mathlib.Core.Bool.{Bool, true, false, not}
 use mathlib.Core.List.{[], _∷_, List}
 use lib.Dec.{ltb, ltb→lt, nltb→le, lit<}
 use lib.ListN.{length, getD, set}
