@@ -31,15 +31,15 @@ module _ (allowance : ℕ) where
 
   one-opening : {from to : List Record} {group : ℕ} {key : List ℕ} {x : Given}
       → Run allowance (record { group = group; request = opening key } ∷ []) from (x ∷ []) to → Opened allowance from group key (x .answer) to
-  one-opening (opened e none) = e
+  one-opening (opened {cs} {gs} {from} {next} {to} {group} {key} {r} e (none {from = last})) = e
 
   one-wrap : {from to : List Record} {group : ℕ} {i : CallInput} {x : Given}
       → Run allowance (record { group = group; request = wrap i } ∷ []) from (x ∷ []) to → Wrapped allowance from group i (x .answer) to (x .out) (x .tag)
-  one-wrap (wrapped e none) = e
+  one-wrap (wrapped {cs} {gs} {from} {next} {to} {group} {i} {r} {out} {tag} e (none {from = last})) = e
 
   one-unwrap : {from to : List Record} {group : ℕ} {i : CallInput} {x : Given}
       → Run allowance (record { group = group; request = unwrap i } ∷ []) from (x ∷ []) to → Unwrapped allowance from group i (x .answer) to (x .out) (x .tag)
-  one-unwrap (unwrapped e none) = e
+  one-unwrap (unwrapped {cs} {gs} {from} {next} {to} {group} {i} {r} {out} {tag} e (none {from = last})) = e
 
   size : {cs : List GroupCall} {gs : List Given} {from to : List Record} → Run allowance cs from gs to → length to ≡ length from
   size none = refl
