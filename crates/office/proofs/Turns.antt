@@ -7,9 +7,9 @@ use native.Mathlib.Omega.{arith}
 pub falls : (l t g : ℕ) → g + t ≡ l → g < l → t - 1 < t
 falls l t g e less = omega arith
 
--- the byte at which record g begins is a usize, and so is the next place
+-- the byte at which record g begins is a usize, and so is a place that is a few records further on
 pub record-fits : (l g : ℕ) → l * 108 < 2 ^ 63 → g < l → g * 108 < 2 ^ 64
 record-fits l g room less = omega arith
 
-pub next-fits : (l g : ℕ) → l < 2 ^ 64 → g < l → g + 1 < 2 ^ 64
-next-fits l g room less = omega arith
+pub next-fits : (l g few : ℕ) → l * 108 < 2 ^ 63 → g < l → few < 108 → g + few < 2 ^ 64
+next-fits l g few room less little = omega arith

@@ -251,7 +251,7 @@ module _ {M : Type 1} (𝓤 : URA M) (H : Heap 𝓤) (A : Atoms 𝓤) (W : Given
           (λ yes′. jumps ! $ forget ! 9 refl $ forget ! 11 refl $ forget ! 13 refl $ forget ! 15 refl $ forget ! 17 refl $ exec ! C Λ E′ m.t-6 (atRet E′ Post) $
           leaves g (at-most-fits (length ys) t g (room .0) (inv .0)) (hit ys n t g inv (sym e ∙ is-true r yes′)))
           (λ no′. skips ! $ exec ! C Λ E′ (after 8 m.turn-1) (Turned t) $
-          assigns-last ! (bin ! (load ! (from ! (stop !)) (look ! 0 refl)) (lit ! tt) (record { fits = next-fits (length ys) g (room .0) (ltb→lt g (length ys) less) })) (from ! (stop !)) (store ! 0 refl (tt, record { fits = next-fits (length ys) g (room .0) (ltb→lt g (length ys) less) })) $
+          assigns-last ! (bin ! (load ! (from ! (stop !)) (look ! 0 refl)) (lit ! tt) (record { fits = next-fits (length ys) g _ (room .1) (ltb→lt g (length ys) less) (lit< tt) })) (from ! (stop !)) (store ! 0 refl (tt, record { fits = next-fits (length ys) g _ (room .1) (ltb→lt g (length ys) less) (lit< tt) })) $
           forget ! 9 refl $ forget ! 11 refl $ forget ! 13 refl $ forget ! 15 refl $ forget ! 17 refl $
           use1 W (Held (t - 1)) (holds-at (t - 1) (g + 1) (goes-on ys n t g inv (ltb→lt g (length ys) less) (sym e ∙ is-false r no′))) $
           again ! _<_ I t (t - 1) (falls (length ys) t g (inv .0) (ltb→lt g (length ys) less)))))))))

@@ -225,7 +225,7 @@ module _ {M : Type 1} (𝓤 : URA M) (H : Heap 𝓤) (A : Atoms 𝓤) (W : Given
           owned ! T.the-row (Is T.the-row) (LL.makes T.the-type T′.the-plain 𝓤 H A) r _ is $ move ! (1 ∷ 0 ∷ []) $
           elem-put ! T.the-row fullShare l g r (mach r ∷ []) b o (subst (λ (k : ℕ). g < k) (sym (inv .size)) (ltb→lt g (length ys) less)) $
           -- [the records; _3; the open borrow; …]: g goes on
-          assigns-last ! (bin ! (load ! (from ! (stop !)) (look ! 1 refl)) (lit ! tt) (record { fits = next-fits (length ys) g (room .0) (ltb→lt g (length ys) less) })) (from ! (stop !)) (store ! 1 refl (tt, record { fits = next-fits (length ys) g (room .0) (ltb→lt g (length ys) less) })) $
+          assigns-last ! (bin ! (load ! (from ! (stop !)) (look ! 1 refl)) (lit ! tt) (record { fits = next-fits (length ys) g _ (room .1) (ltb→lt g (length ys) less) (lit< tt) })) (from ! (stop !)) (store ! 1 refl (tt, record { fits = next-fits (length ys) g _ (room .1) (ltb→lt g (length ys) less) (lit< tt) })) $
           forget ! 5 refl $ forget ! 7 refl $ forget ! 9 refl $ forget ! 11 refl $ forget ! 13 refl $ forget ! 15 refl $ forget ! 17 refl $
           move ! (1 ∷ 0 ∷ []) $ join ! $ use1 W (Kept (t - 1)) (holds-at (t - 1) (g + 1) (set l g r) (goes-on ys l t g r inv (ltb→lt g (length ys) less) e)) $
           again ! _<_ I t (t - 1) (falls (length ys) t g (inv .left) (ltb→lt g (length ys) less)))))))))
