@@ -14,7 +14,7 @@ use denote.Ref.{now}
 use denote.Triple.Clauses.{AtExit}
 use denote.Triple.Entry.{Args, Res}
 use Rattle.sanse.specs.Session.{handed}
-use Rattle.office.specs.Table.{tableOf, dayResult, tableResult, openingResult, startDayAt, wrapGroupAt, unwrapGroupAt, openGroupAt, NearlyFullIs}
+use Rattle.office.specs.Table.{tableOf, dayResult, tableResult, openingResult, startDayAt, wrapGroupAt, unwrapGroupAt, openGroupAt, nearlyFullAt, findingOf}
 use Rattle.office.proofs.start_day as start-day
 use Rattle.office.proofs.open_group as open-group
 use Rattle.office.proofs.wrap_group as wrap-group
@@ -64,5 +64,5 @@ module _ {M : Type 1} (𝓤 : URA M) (H : Heap 𝓤) (A : Atoms 𝓤) (mem : Mem
   nearly-full-asks κs a = refl
 
   pub nearly-full-ensures : (κs : Lfts 1) (a : Args nearly-full.signature κs) (r : Res nearly-full.signature κs) (z : AtExit nearly-full.ended κs)
-      → nearly-full.clauses 𝓤 H A mem run κs a .ensures tt r z ≡ connectives 𝓤 .⌜_⌝ (NearlyFullIs (tableOf (now (a .0))) (a .1 .0) r)
+      → nearly-full.clauses 𝓤 H A mem run κs a .ensures tt r z ≡ connectives 𝓤 .⌜_⌝ (findingOf r ≡ nearlyFullAt (tableOf (now (a .0))) (a .1 .0))
   nearly-full-ensures κs a r z = refl

@@ -2,6 +2,7 @@
 pub mod Laws
 pub mod Turns
 pub mod Search
+pub mod Lowest
 pub mod Days
 pub mod Walk
 pub mod Contracts

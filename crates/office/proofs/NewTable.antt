@@ -13,10 +13,8 @@ use Rattle.modes.specs.Call.{CallInput}
 use Rattle.modes.specs.Mode.{sanse, incremental}
 use Rattle.modes.specs.Rules.{SessionState, Outcome, checkNumber, closed, newSession}
 use Rattle.groups.specs.Groups.{GroupState, recordOf}
-use Rattle.office.specs.declared.NearlyFull.{NearlyFull}
-use Rattle.office.specs.Table.{unopened, newTable, groupAt, sessionAt, TableOutcome, openGroupAt, refusedBy, NearlyFullIs, zeroRecord, tableOf}
+use Rattle.office.specs.Table.{unopened, newTable, groupAt, sessionAt, TableOutcome, openGroupAt, refusedBy, noneNamed, nearlyFullAt, zeroRecord, tableOf}
 use Rattle.office.specs.Exactly.{Check3, CallExactly, NewTable}
-use Rattle.office.proofs.Search.{found-exactly}
 use Rattle.office.proofs.Exactly.{wrap-exactly, unwrap-exactly, open-exactly}
 
 -- every group is unopened, those past the end too
@@ -50,19 +48,10 @@ gets-5 allowance g i {lone} {o} x in-table =
     let is5 : o .number ≡ 5 = x .five-to-nine (has-group g in-table) (λ z. omega (arith, z, five)) ∙ five in
     x .unaltered (λ z. omega (arith, z, is5)) (λ z. omega (arith, z, is5)) ∙ ap (λ (n : ℕ). refusedBy n newTable i) is5
 
--- no group is found
-says-none : (mark : ℕ) (r : NearlyFull) → NearlyFullIs newTable mark r → r ≡ record { number = 0; found = false; group = 0 }
-says-none mark r is = go (r .found) refl
-  where
-    go : (b : Bool) → r .found ≡ b → r ≡ record { number = 0; found = false; group = 0 }
-    go true e =
-        let o = found-exactly newTable mark r is .named e in
-        absurd (subst Holds (sym (o .opened) ∙ ap (λ (s : SessionState DeckState). s .opened) (closed-at (r .group))) tt)
-    go false e =
-        let n : r .number ≡ 0 = is .number holds-32 in
-        let g : r .group ≡ 0 = is .none holds-32 e .0 in
-        ap (λ (n : ℕ). record { number = n; found = r .found; group = r .group }) n
-        ∙ ap₂ (λ (b : Bool) (g : ℕ). record { number = 0; found = b; group = g }) e g
+-- no group is found: none is open
+says-none : (mark : ℕ) → nearlyFullAt newTable mark ≡ noneNamed
+unfolding nearlyFullAt
+says-none mark = refl
 
 -- before the first day nothing is allowed
 none-allowed : (g : ℕ) (key : List ℕ) → g ≤ 31 → 16 ≤ length key → length key ≤ 47

@@ -13,7 +13,7 @@ use Rattle.modes.specs.Mode.{sanse, incremental}
 use Rattle.modes.specs.Rules.{Outcome, checkNumber, countOf, newSession, wrapAt, unwrapAt}
 use Rattle.groups.specs.Groups.{charged, recordOf}
 use Rattle.office.specs.declared.NearlyFull.{NearlyFull}
-use Rattle.office.specs.Table.{Table, unopened, newTable, groupAt, sessionAt, DayStart, startDayAt, TableOutcome, TableOpening, refusedBy, writtenBack, wrapGroupAt, unwrapGroupAt, openGroupAt, NearlyFullIs, tableOf, zeroRecord}
+use Rattle.office.specs.Table.{Table, unopened, newTable, groupAt, sessionAt, DayStart, startDayAt, TableOutcome, TableOpening, refusedBy, writtenBack, wrapGroupAt, unwrapGroupAt, openGroupAt, TableFinding, noneNamed, nearlyFullAt, tableOf, zeroRecord, findingOf}
 
 -- 3: the table does not hold 32 records, or the group is above 31
 abbrev pub Check3 : Table → (group : ℕ) → Type 0
@@ -99,16 +99,30 @@ pub record OpenAbove (t : Table) (mark group : ℕ) : Type 0 where
   pub opened : sessionAt t group .opened ≡ true
   pub above : mark < sessionAt t group .history .index
 
--- the answer r of the question
-pub record FoundExactly (t : Table) (mark : ℕ) (r : NearlyFull) : Type 0 where
+-- the lowest of them
+pub record LowestAbove (t : Table) (mark group : ℕ) : Type 0 where
+  pub above : OpenAbove t mark group
+  pub no-lower : (k : ℕ) → k < group → OpenAbove t mark k → ⊥
+
+-- what the question gives
+pub record FoundExactly (t : Table) (mark : ℕ) (r : TableFinding) : Type 0 where
   pub three : (r .number ≡ 3) ↔ (length t ≢ 32)
   pub answered : (r .number ≡ 0) ↔ (length t ≡ 32)
-  -- a group is found if and only if there is one
-  pub found : (r .found ≡ true) ↔ ((length t ≡ 32) × ((group : ℕ) × OpenAbove t mark group))
-  -- the group that is named is such a one
-  pub named : r .found ≡ true → OpenAbove t mark (r .group)
-  -- otherwise it is 0
-  pub none : r .found ≡ false → r .group ≡ 0
+  -- a group is named if and only if it is the lowest
+  pub named : (group : ℕ) → ((r .found ≡ true) × (r .group ≡ group)) ↔ ((length t ≡ 32) × LowestAbove t mark group)
+  -- "none" is said if and only if there is none
+  pub none : ((r .number ≡ 0) × (r .found ≡ false)) ↔ ((length t ≡ 32) × ((group : ℕ) → OpenAbove t mark group → ⊥))
+  -- where none is named, by 3 or by "none", the group is 0
+  pub unnamed : r .found ≡ false → r .group ≡ 0
+
+-- the claim holds of the search from group 0, and of nothing else; so the answer is a function of table and mark
+pub record FoundDecided (t : Table) (mark : ℕ) : Type 0 where
+  pub search : (r : TableFinding) → FoundExactly t mark r ↔ (r ≡ nearlyFullAt t mark)
+  pub two : (r s : TableFinding) → FoundExactly t mark r → FoundExactly t mark s → r ≡ s
+
+-- and the program's answer is decided with it
+abbrev pub AnswerDecided : Type 0
+AnswerDecided = (r s : NearlyFull) → findingOf r ≡ findingOf s → r ≡ s
 
 -- ---- the table at first
 
@@ -117,7 +131,7 @@ pub record NewTable : Type 0 where
   pub wraps : (allowance group : ℕ) (i : CallInput) → group ≤ 31 → wrapGroupAt allowance newTable group i ≡ refusedBy 5 newTable i
   pub unwraps : (allowance group : ℕ) (i : CallInput) → group ≤ 31 → unwrapGroupAt allowance newTable group i ≡ refusedBy 5 newTable i
   -- the nearly-full question says none
-  pub none : (mark : ℕ) (r : NearlyFull) → NearlyFullIs newTable mark r → r ≡ record { number = 0; found = false; group = 0 }
+  pub none : (mark : ℕ) → nearlyFullAt newTable mark ≡ noneNamed
   -- where anything is allowed a group can be opened, and before the first day, where the allowance is 0, none can
   pub opens : (allowance group : ℕ) (key : List ℕ) → group ≤ 31 → 16 ≤ length key → length key ≤ 47 → 1 ≤ allowance
       → openGroupAt allowance newTable group key

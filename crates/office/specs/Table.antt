@@ -2,9 +2,8 @@
 -- what each call of the table gives and leaves, refused ones included, and what starting a day leaves. A group's own call is that of `groups`'
 -- `Groups`, with the checks 4 to 11. Assumes nothing.
 use mathlib.Core.Bool.{Bool, true, false, not, _||_, _&&_, cond}
-use mathlib.Core.List.{List, map}
-use mathlib.Core.Path.{_≡_}
-use Prim.Native.Nat.{ℕ, _<_}
+use mathlib.Core.List.{List, [], _∷_, map}
+use Prim.Native.Nat.{ℕ, _+_}
 use lib.Dec.{ltb, eqb}
 use lib.ListN.{length, getD, set, replicate}
 use Rattle.deck.specs.declared.DeckState.{DeckState}
@@ -15,6 +14,7 @@ use Rattle.session.specs.declared.Answer.{Answer}
 use Rattle.groups.specs.declared.Record.{Record}
 use Rattle.groups.specs.Groups.{GroupState, newDay, GroupOutcome, GroupOpening, onDay, openOnDay, recordOf}
 use Rattle.office.specs.declared.NearlyFull.{NearlyFull}
+use Rattle.office.specs.declared.NearlyFull.the-variants.{Refused, None, Group}
 
 -- ---- the table
 
@@ -103,13 +103,30 @@ openGroupAt allowance t group key =
 abbrev pub aboveMark : SessionState DeckState → (mark : ℕ) → Bool
 aboveMark s mark = s .opened && ltb mark (s .history .index)
 
--- the answer of the question: by 3 it names nothing; otherwise it names such a group, or says none where there is no such group. Which one
--- of several is free
-pub record NearlyFullIs (t : Table) (mark : ℕ) (r : NearlyFull) : Type 0 where
-  pub refused : (length t ≡ 32 → ⊥) → r ≡ record { number = 3; found = false; group = 0 }
-  pub number : length t ≡ 32 → r .number ≡ 0
-  pub named : length t ≡ 32 → r .found ≡ true → (r .group < 32) × (aboveMark (sessionAt t (r .group)) mark ≡ true)
-  pub none : length t ≡ 32 → r .found ≡ false → (r .group ≡ 0) × ((k : ℕ) → k < 32 → aboveMark (sessionAt t k) mark ≡ false)
+-- what the question gives: its number (0: answered), whether it names a group, and the group, 0 where it names none
+pub record TableFinding : Type 0 where
+  pub number : ℕ
+  pub found : Bool
+  pub group : ℕ
+
+-- a group is named; none is; and check 3
+abbrev pub groupNamed : (group : ℕ) → TableFinding
+groupNamed group = record { number = 0; found = true; group = group }
+
+abbrev pub noneNamed : TableFinding
+noneNamed = record { number = 0; found = false; group = 0 }
+
+abbrev pub refusedFinding : TableFinding
+refusedFinding = record { number = 3; found = false; group = 0 }
+
+-- the search through records, of which the first is the group's: it ends with the first whose session is open above the mark, or with none
+abbrev pub searchFrom : (group : ℕ) → Table → (mark : ℕ) → TableFinding
+searchFrom group [] mark = noneNamed
+searchFrom group (r ∷ rest) mark = cond (aboveMark (r .session) mark) (groupNamed group) (searchFrom (group + 1) rest mark)
+
+-- the question: the search from group 0, in a table of 32
+unfoldable pub nearlyFullAt : Table → (mark : ℕ) → TableFinding
+nearlyFullAt t mark = cond (not (eqb (length t) 32)) refusedFinding (searchFrom 0 t mark)
 
 -- ---- the program's records, and what its calls gave, in these words
 
@@ -133,3 +150,9 @@ tableResult r table out tag = record { number = r .number; count = r .count; tab
 
 abbrev pub openingResult : Answer → (table : List Record) → TableOpening
 openingResult r table = record { number = r .number; count = r .count; table = tableOf table }
+
+-- the number and the values of each case of the program's answer
+abbrev pub findingOf : NearlyFull → TableFinding
+findingOf Refused = refusedFinding
+findingOf None = noneNamed
+findingOf (Group group) = groupNamed group

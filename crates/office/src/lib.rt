@@ -3,7 +3,7 @@
 ghost use mathlib.Core.Path.{_≡_};
 ghost use Rattle.sanse.specs.Session.{handed};
 ghost use Rattle.groups.specs.Groups.{recordOf};
-ghost use Rattle.office.specs.Table.{noGroup, refused3, aboveMark, tableOf, dayResult, tableResult, openingResult, startDayAt, wrapGroupAt, unwrapGroupAt, openGroupAt, NearlyFullIs};
+ghost use Rattle.office.specs.Table.{noGroup, refused3, aboveMark, tableOf, dayResult, tableResult, openingResult, startDayAt, wrapGroupAt, unwrapGroupAt, openGroupAt, nearlyFullAt, findingOf};
 use groups::Record;
 use session::Answer;
 
@@ -12,11 +12,11 @@ const GROUPS: usize = 32;
 
 const HIGHEST_GROUP: usize = 31;
 
-// The answer of the nearly-full question: its number (0: answered), whether a group was found, and the group, 0 where none was.
-pub struct NearlyFull {
-    pub number: u32,
-    pub found: bool,
-    pub group: usize,
+// The answer of the nearly-full question: check 3, or no group is open with an index above the mark, or the lowest group that is.
+pub enum NearlyFull {
+    Refused,
+    None,
+    Group(usize),
 }
 
 // ---- the day
@@ -135,35 +135,21 @@ fn above_mark(r: Record, mark: u32) -> bool
     mark < s.index
 }
 
-// The nearly-full question: names a group that is open with an index above the mark, or says that there is none. Check 3.
+// The nearly-full question: the lowest group that is open with an index above the mark, or none. Check 3.
 pub fn nearly_full(table: &[Record], mark: u32) -> NearlyFull
-    ensures { λ r. ⌜ NearlyFullIs (tableOf (now (table .entry))) mark r ⌝ }
+    ensures { λ r. ⌜ findingOf r ≡ nearlyFullAt (tableOf (now (table .entry))) mark ⌝ }
 {
     if table.len() != GROUPS {
-        return NearlyFull {
-            number: 3,
-            found: false,
-            group: 0,
-        };
+        return NearlyFull::Refused;
     }
     let mut g = 0;
-    while g < table.len() {
+    loop {
+        if g == table.len() {
+            break NearlyFull::None;
+        }
         if above_mark(table[g], mark) {
-            break;
+            break NearlyFull::Group(g);
         }
         g += 1;
-    }
-    if g < table.len() {
-        NearlyFull {
-            number: 0,
-            found: true,
-            group: g,
-        }
-    } else {
-        NearlyFull {
-            number: 0,
-            found: false,
-            group: 0,
-        }
     }
 }
