@@ -2,8 +2,8 @@
 ghost use mathlib.Core.Path.{_≡_};
 ghost use Prim.Native.Nat.{_<_};
 ghost use Rattle.sanse.specs.Session.{handed};
-ghost use Rattle.office.specs.Table.{tableOf, dayResult, tableResult, openingResult, startDayAt, wrapGroupAt, unwrapGroupAt, openGroupAt, NearlyFullIs};
-ghost use Rattle.capi.specs.Found.{narrowed, widened};
+ghost use Rattle.office.specs.Table.{tableOf, dayResult, tableResult, openingResult, startDayAt, wrapGroupAt, unwrapGroupAt, openGroupAt, nearlyFullAt, findingOf};
+ghost use Rattle.capi.specs.Found.{foundResult};
 use groups::Record;
 use office::NearlyFull;
 use session::Answer;
@@ -89,22 +89,34 @@ pub extern "C" fn pevghazo_unwrap_group(
     )
 }
 
-// The table's answer, with the group in 32 bits.
+// The table's answer as a number and values, with the group in 32 bits.
 fn narrow(r: NearlyFull) -> Found
-    requires { ⌜ r .group < 32 ⌝ }
-    ensures { λ f. ⌜ f ≡ narrowed r ⌝ }
+    requires { ⌜ findingOf r .group < 32 ⌝ }
+    ensures { λ f. ⌜ foundResult f ≡ findingOf r ⌝ }
 {
-    Found {
-        number: r.number,
-        found: r.found,
-        group: r.group as u32,
+    match r {
+        NearlyFull::Refused => Found {
+            number: 3,
+            found: false,
+            group: 0,
+        },
+        NearlyFull::None => Found {
+            number: 0,
+            found: false,
+            group: 0,
+        },
+        NearlyFull::Group(g) => Found {
+            number: 0,
+            found: true,
+            group: g as u32,
+        },
     }
 }
 
-// The nearly-full question: names a group that is open with an index above the mark, or says that there is none. Check 3.
+// The nearly-full question: the lowest group that is open with an index above the mark, or none. Check 3.
 #[no_mangle]
 pub extern "C" fn pevghazo_nearly_full(table: &[Record], mark: u32) -> Found
-    ensures { λ f. ⌜ NearlyFullIs (tableOf (now (table .entry))) mark (widened f) ⌝ }
+    ensures { λ f. ⌜ foundResult f ≡ nearlyFullAt (tableOf (now (table .entry))) mark ⌝ }
 {
     let r = office::nearly_full(table, mark);
     narrow(r)

@@ -9,9 +9,8 @@ use native.Mathlib.Omega.{arith}
 use lib.Dec.{ltb, eqb}
 use lib.ListN.{length}
 use borrow.Author.Tests.{ltb-true, lt-ltb, eqb-true, eqb-false}
-use Rattle.office.specs.declared.NearlyFull.{NearlyFull}
 use Rattle.office.specs.declared.NearlyFull.the-variants.{Refused, None, Group}
-use Rattle.office.specs.Table.{Table, sessionAt, aboveMark, TableFinding, groupNamed, noneNamed, refusedFinding, searchFrom, nearlyFullAt, findingOf}
+use Rattle.office.specs.Table.{Table, sessionAt, aboveMark, TableFinding, groupNamed, noneNamed, refusedFinding, nearlyFullAt}
 use Rattle.office.specs.Exactly.{OpenAbove, LowestAbove, FoundExactly, FoundDecided, AnswerDecided}
 use Rattle.office.proofs.Search.{never, NoneBelow, names, names-none, asked, refused}
 
@@ -66,6 +65,7 @@ module _ (t : Table) (mark : ℕ) (is32 : length t ≡ 32) where
       record {
         three = (λ e. absurd (omega (arith, e)), λ n. absurd (n is32));
         answered = (λ _. is32, λ _. refl);
+        three-names-none = λ e. absurd (omega (arith, e));
         named = λ k. (λ w. (is32, subst (LowestAbove t mark) (w .1) low), λ w. (refl, one-lowest t mark g k low (w .1)));
         none = (λ w. never (w .1), λ w. absurd (w .1 g (low .above)));
         unnamed = λ e. never e;
@@ -77,6 +77,7 @@ module _ (t : Table) (mark : ℕ) (is32 : length t ≡ 32) where
       record {
         three = (λ e. absurd (omega (arith, e)), λ n. absurd (n is32));
         answered = (λ _. is32, λ _. refl);
+        three-names-none = λ _. refl;
         named = λ k. (λ w. never (sym (w .0)), λ w. absurd (nowhere k (w .1 .above)));
         none = (λ _. (is32, nowhere), λ _. (refl, refl));
         unnamed = λ _. refl;
@@ -88,7 +89,7 @@ module _ (t : Table) (mark : ℕ) (is32 : length t ≡ 32) where
   found-of-32 : First t mark ⊎ NoneBelow t mark (length t) → FoundExactly t mark (nearlyFullAt t mark)
   found-of-32 (inl (g, less, none, here)) =
       let low : LowestAbove t mark g =
-          record { above = above-is t mark g (subst (λ (n : ℕ). g < n) is32 less) here; no-lower = λ k lower. not-above g k none lower } in
+      record { above = above-is t mark g (subst (λ (n : ℕ). g < n) is32 less) here; no-lower = λ k lower. not-above g k none lower } in
       let same : g ≡ 0 + g = omega arith in
       subst (FoundExactly t mark) (ap groupNamed same ∙ sym (asked t mark is32 ∙ names 0 t mark g less none here)) (named-claim g low)
   found-of-32 (inr none) = subst (FoundExactly t mark) (sym (asked t mark is32 ∙ names-none 0 t mark none)) (none-claim none)
@@ -101,6 +102,7 @@ found-of-others t mark other = subst (FoundExactly t mark) (sym (refused t mark 
         record {
           three = (λ _. other, λ _. refl);
           answered = (λ e. absurd (omega (arith, e)), λ l. absurd (other l));
+          three-names-none = λ _. refl;
           named = λ k. (λ w. never (sym (w .0)), λ w. absurd (other (w .0)));
           none = (λ w. absurd (omega (arith, w .0)), λ w. absurd (other (w .0)));
           unnamed = λ _. refl;
@@ -113,6 +115,14 @@ found-exactly t mark = go (eqb (length t) 32) refl
     go : (b : Bool) → eqb (length t) 32 ≡ b → FoundExactly t mark (nearlyFullAt t mark)
     go true e = found-of-32 t mark (eqb-true (length t) 32 e) (first-or-none t mark)
     go false e = found-of-others t mark (eqb-false (length t) 32 e)
+
+-- whatever it says, its group is one of the 32
+pub group-below : (t : Table) (mark : ℕ) → nearlyFullAt t mark .group < 32
+group-below t mark = go (nearlyFullAt t mark .found) refl
+  where
+    go : (b : Bool) → nearlyFullAt t mark .found ≡ b → nearlyFullAt t mark .group < 32
+    go true e = found-exactly t mark .named (nearlyFullAt t mark .group) .0 (e, refl) .1 .above .in-table
+    go false e = let zero-group : nearlyFullAt t mark .group ≡ 0 = found-exactly t mark .unnamed e in omega arith
 
 -- ---- and of nothing else
 
@@ -145,8 +155,8 @@ pub found-decided : (t : Table) (mark : ℕ) → FoundDecided t mark
 found-decided t mark =
     record {
       search = λ r. (
-          λ x. two-findings t mark r (nearlyFullAt t mark) x (found-exactly t mark),
-          λ e. subst (FoundExactly t mark) (sym e) (found-exactly t mark)
+        λ x. two-findings t mark r (nearlyFullAt t mark) x (found-exactly t mark),
+        λ e. subst (FoundExactly t mark) (sym e) (found-exactly t mark),
       );
       two = two-findings t mark;
     }

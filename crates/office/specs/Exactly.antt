@@ -1,6 +1,6 @@
 -- The numbers 3, 4 and 10 at the table, each given if and only if its condition holds and no earlier one does, with the conditions as plain
 -- statements; what a call gives that meets none of them, and what it leaves of the table; starting a day, record by record; the nearly-full
--- question's answer; and the table at first (document 01, "What stops a call" and "The row"; document 02, request 4). Assumes nothing.
+-- question's answer; and the table at first (document 01, "What stops a call" and "The row"; document 02, requests 4 and 5). Assumes nothing.
 use mathlib.Core.Bool.{true, false}
 use mathlib.Core.List.{List}
 use mathlib.Core.Logic.{_↔_, _≢_, _⊎_}
@@ -108,6 +108,8 @@ pub record LowestAbove (t : Table) (mark group : ℕ) : Type 0 where
 pub record FoundExactly (t : Table) (mark : ℕ) (r : TableFinding) : Type 0 where
   pub three : (r .number ≡ 3) ↔ (length t ≢ 32)
   pub answered : (r .number ≡ 0) ↔ (length t ≡ 32)
+  -- 3 names no group
+  pub three-names-none : r .number ≡ 3 → r .found ≡ false
   -- a group is named if and only if it is the lowest
   pub named : (group : ℕ) → ((r .found ≡ true) × (r .group ≡ group)) ↔ ((length t ≡ 32) × LowestAbove t mark group)
   -- "none" is said if and only if there is none

@@ -1,4 +1,4 @@
--- The office's table of 32 records, which document 01 calls the row ("The row"; document 02, request 4), and check 3 of "What stops a call":
+-- The office's table of 32 records, which document 01 calls the row ("The row"; document 02, requests 4 and 5), and check 3 of "What stops a call":
 -- what each call of the table gives and leaves, refused ones included, and what starting a day leaves. A group's own call is that of `groups`'
 -- `Groups`, with the checks 4 to 11. Assumes nothing.
 use mathlib.Core.Bool.{Bool, true, false, not, _||_, _&&_, cond}
@@ -97,7 +97,7 @@ unfoldable pub openGroupAt : (allowance : ℕ) → Table → (group : ℕ) → (
 openGroupAt allowance t group key =
     cond (noGroup (length t) group) (record { number = 3; count = 0; table = t }) (openedBack t group (openOnDay allowance (groupAt t group) key))
 
--- ---- the nearly-full question
+-- ---- the nearly-full question (document 02, request 5)
 
 -- a session that is open, with an index above the mark
 abbrev pub aboveMark : SessionState DeckState → (mark : ℕ) → Bool
@@ -119,12 +119,12 @@ noneNamed = record { number = 0; found = false; group = 0 }
 abbrev pub refusedFinding : TableFinding
 refusedFinding = record { number = 3; found = false; group = 0 }
 
--- the search through records, of which the first is the group's: it ends with the first whose session is open above the mark, or with none
+-- the search from a group on, through its record and those after it: it ends with the first whose session is open above the mark, or with none
 abbrev pub searchFrom : (group : ℕ) → Table → (mark : ℕ) → TableFinding
 searchFrom group [] mark = noneNamed
 searchFrom group (r ∷ rest) mark = cond (aboveMark (r .session) mark) (groupNamed group) (searchFrom (group + 1) rest mark)
 
--- the question: the search from group 0, in a table of 32
+-- the question: check 3, or else the search from group 0
 unfoldable pub nearlyFullAt : Table → (mark : ℕ) → TableFinding
 nearlyFullAt t mark = cond (not (eqb (length t) 32)) refusedFinding (searchFrom 0 t mark)
 

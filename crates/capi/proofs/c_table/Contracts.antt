@@ -14,8 +14,8 @@ use denote.Ref.{now}
 use denote.Triple.Clauses.{AtExit}
 use denote.Triple.Entry.{Args, Res}
 use Rattle.sanse.specs.Session.{handed}
-use Rattle.office.specs.Table.{tableOf, dayResult, tableResult, openingResult, startDayAt, wrapGroupAt, unwrapGroupAt, openGroupAt, NearlyFullIs}
-use Rattle.capi.specs.Found.{widened}
+use Rattle.office.specs.Table.{tableOf, dayResult, tableResult, openingResult, startDayAt, wrapGroupAt, unwrapGroupAt, openGroupAt, nearlyFullAt}
+use Rattle.capi.specs.Found.{foundResult}
 use Rattle.capi.proofs.c_table.pevghazo_start_day as start-day
 use Rattle.capi.proofs.c_table.pevghazo_open_group as open-group
 use Rattle.capi.proofs.c_table.pevghazo_wrap_group as wrap-group
@@ -69,5 +69,5 @@ module _ {M : Type 1} (𝓤 : URA M) (H : Heap 𝓤) (A : Atoms 𝓤) (mem : Mem
 
   pub nearly-full-ensures : (κs : Lfts 1) (a : Args nearly-full.signature κs) (r : Res nearly-full.signature κs) (z : AtExit nearly-full.ended κs)
       → nearly-full.clauses 𝓤 H A mem run κs a .ensures tt r z
-      ≡ connectives 𝓤 .⌜_⌝ (NearlyFullIs (tableOf (now (a .0))) (a .1 .0) (widened r))
+      ≡ connectives 𝓤 .⌜_⌝ (foundResult r ≡ nearlyFullAt (tableOf (now (a .0))) (a .1 .0))
   nearly-full-ensures κs a r z = refl

@@ -3,10 +3,10 @@
 -- `above_mark` on the copy, and yields g or goes on. What a turn yields is returned. The invariant, with t records left: g + t is the table's length,
 -- and no group below g is open above the mark. The variant is t. All that the proof knows of `above_mark` is that it meets its contract.
 -- Assumes nothing.
-use mathlib.Core.Path.{_≡_, refl, sym, _∙_, ap, subst}
+use mathlib.Core.Path.{_≡_, refl, sym, _∙_, ap}
 use Prim.Native.Nat.{ℕ, _<_, _^_, _+_, _-_}
 use native.Mathlib.Omega.{arith}
-use mathlib.Core.Bool.{Bool, true, false, not}
+use mathlib.Core.Bool.{Bool, not}
 use mathlib.Core.List.{[], _∷_, List}
 use lib.Dec.{T as Holds, eqb, lit<}
 use lib.ListN.{length, getD}
