@@ -319,3 +319,24 @@ impl fmt::Debug for Table {
         f.debug_struct("Table").field("allowance", &self.allowance).field("groups", &shown).finish_non_exhaustive()
     }
 }
+
+#[cfg(test)]
+mod tests {
+    use super::*;
+
+    /// Calls and stored bytes leave no index in a closed record; the questions do not count on it.
+    #[test]
+    fn closed_groups_are_not_nearly_full() {
+        let mut table = Table::new();
+        for record in table.records.iter_mut() {
+            record.session.index = u32::MAX;
+        }
+        assert_eq!((table.nearly_full(0), table.all_nearly_full(0).count()), (None, 0));
+        for group in [30, 20] {
+            table.records[group].session.opened = true;
+        }
+        assert_eq!(table.nearly_full(u32::MAX - 1), Some(20));
+        assert!(table.all_nearly_full(u32::MAX - 1).eq([20, 30]));
+        assert_eq!((table.nearly_full(u32::MAX), table.all_nearly_full(u32::MAX).count()), (None, 0));
+    }
+}
