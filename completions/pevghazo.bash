@@ -46,7 +46,7 @@ _pevghazo() {
         'office resend') words='--state --group --out --wait --restore --help' ;;
         'office reread') words='--state --group --out --metadata-out --wait --restore --help' ;;
         'office forget') words='--state --group --envelope --wait --restore --help' ;;
-        'office nearly-full') words='--state --mark --wait --restore --help' ;;
+        'office nearly-full') words='--state --mark --all --wait --restore --help' ;;
         'office codes') words='--state --group --packets --format --out --wait --restore --help' ;;
         'office check-code') words='--state --group --packet --code --wait --restore --help' ;;
         'office show') words='--state --json --wait --restore --help' ;;

@@ -31,7 +31,8 @@ static void zeros(void) {
     }
     pevghazo_found full = pevghazo_nearly_full(office, PEVGHAZO_GROUPS, 0);
     check("the nearly-full question of zeros", full.number, PEVGHAZO_ACCEPTED);
-    check("the group that it finds", full.found, false);
+    check("whether it names a group", full.found, false);
+    check("the group that it names", full.group, 0);
     for (uint32_t group = 0; group < PEVGHAZO_GROUPS; group++) {
         check("opening a group before the first day", pevghazo_open_group(office, PEVGHAZO_GROUPS, group, 0, key, key_len).number, PEVGHAZO_ALLOWANCE);
         check("opening a group", pevghazo_open_group(office, PEVGHAZO_GROUPS, group, 1, key, key_len).number, PEVGHAZO_ACCEPTED);

@@ -38,7 +38,8 @@ PEVGHAZO_LAYOUT(record, sizeof(pevghazo_record) == 108);
 PEVGHAZO_LAYOUT(record_session, offsetof(pevghazo_record, session) == 0);
 PEVGHAZO_LAYOUT(record_count, offsetof(pevghazo_record, count) == 104);
 
-/* What the nearly-full question gives: its number, whether there is such a group, and the group, or 0. */
+/* What the nearly-full question gives: its number, whether it names a group, and that group. Where it names none, found is false and the group
+ * is 0. */
 typedef struct pevghazo_found {
     uint32_t number;
     pevghazo_flag found;
@@ -71,7 +72,9 @@ PEVGHAZO_MUST_USE pevghazo_answer pevghazo_unwrap_group(pevghazo_record *table, 
                                                         size_t cryptogram_len, const uint8_t *tag, size_t tag_len, uint8_t *out,
                                                         size_t out_len);
 
-/* Check 3. An open group whose index is above the mark, or none only if there is none. */
+/* Check 3, exactly where the table has not 32 records; it then names no group. Otherwise it names the lowest group that is open with an index
+ * above the mark, and none exactly where there is no such group. An index that equals the mark is not above it, and a closed group is never
+ * named, whatever its index. A group that is opened again has index 0: the same question then names the next. */
 PEVGHAZO_MUST_USE pevghazo_found pevghazo_nearly_full(const pevghazo_record *table, size_t table_len, uint32_t mark);
 
 #ifdef __cplusplus

@@ -1,5 +1,5 @@
-/* The office's table as a C program sees it in the installed library: a day over any number of records, counts that are each group's own, and
- * counts and allowances up to the highest number. */
+/* The office's table as a C program sees it in the installed library: a day over any number of records, counts that are each group's own,
+ * counts and allowances up to the highest number, and the lowest group that is nearly full. */
 #include <pevghazo.h>
 #include <stdio.h>
 #include <stdlib.h>
@@ -125,11 +125,72 @@ static void highest(void) {
     check("the count of an opening", office[3].count, UINT32_MAX);
 }
 
+/* The nearly-full question names this group, or none. */
+enum { NONE = 99 };
+
+static void names(const char *what, uint32_t mark, uint32_t expected) {
+    const pevghazo_found full = pevghazo_nearly_full(office, PEVGHAZO_GROUPS, mark);
+    check(what, full.number, PEVGHAZO_ACCEPTED);
+    check(what, full.found ? full.group : NONE, expected);
+    if (!full.found) check("the group where none is named", full.group, 0);
+}
+
+/* All groups are open, or closed, with this index. */
+static void set_all(bool opened, uint32_t index) {
+    memset(office, 0, sizeof office);
+    for (uint32_t group = 0; group < PEVGHAZO_GROUPS; group++) office[group].session.opened = opened, office[group].session.index = index;
+}
+
+/* The lowest of several groups; once it is closed, or opened again, the next; and none where there is none. */
+static void lowest(void) {
+    open_all(1000);
+    names("groups that were just opened", 0, NONE);
+    office[4].session.index = 8, office[19].session.index = 9, office[31].session.index = 8;
+    names("the lowest of three", 7, 4);
+    names("the only one above the mark", 8, 19);
+    names("no index above the mark", 9, NONE);
+    office[4].session.opened = false;
+    names("the lowest, where a lower one is closed", 7, 19);
+    check("opening it again", pevghazo_open_group(office, PEVGHAZO_GROUPS, 19, 1000, key, key_len).number, PEVGHAZO_ACCEPTED);
+    names("the lowest, where a lower one was opened again", 7, 31);
+    office[31].session.index = 7;
+    names("a group at the mark", 7, NONE);
+    for (uint32_t group = 0; group < PEVGHAZO_GROUPS; group++) {
+        set_all(true, 5);
+        office[group].session.index = 6;
+        names("one group above the mark", 5, group);
+    }
+}
+
+/* All groups, and indices and marks up to the highest number; a closed group is not named, and another number of records is refused. */
+static void no_group(void) {
+    static pevghazo_record longer[PEVGHAZO_GROUPS + 1];
+    static const uint32_t lengths[] = {0, 1, 31, 33};
+    set_all(true, UINT32_MAX);
+    names("all groups", 0, 0);
+    names("all groups, with the highest index", UINT32_MAX - 1, 0);
+    names("the highest mark", UINT32_MAX, NONE);
+    memcpy(longer, office, sizeof office);
+    longer[PEVGHAZO_GROUPS] = office[0];
+    for (int i = 0; i < 4; i++) {
+        const pevghazo_found refused = pevghazo_nearly_full(longer, lengths[i], 0);
+        check("another number of records", refused.number, PEVGHAZO_BAD_GROUP);
+        check("whether it names a group", refused.found, false);
+        check("the group that it names", refused.group, 0);
+    }
+    set_all(false, UINT32_MAX);
+    names("closed groups with the highest index", 0, NONE);
+    office[31].session.opened = true;
+    names("one of them that is open", 0, 31);
+}
+
 int main(void) {
     days();
     busy();
     opening();
     highest();
-    puts("table: a day goes over any number of records, and each group has a count of its own");
+    lowest();
+    no_group();
+    puts("table: a day goes over any number of records, each group has a count of its own, and the lowest nearly full group is named");
     return 0;
 }

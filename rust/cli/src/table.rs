@@ -195,6 +195,7 @@ const METADATA_OUT: Opt = optional("metadata-out", Value::File, "where the metad
 const ENVELOPE: Opt = flag("envelope", "forget the kept envelope too");
 const ALLOWANCE: Opt = required("allowance", Value::Number("N", u32::MAX), "the most permutations of each group");
 const MARK: Opt = required("mark", Value::Number("N", u32::MAX), "the index above which a group counts as nearly full");
+const ALL: Opt = flag("all", "list all such groups, one on each line");
 const PACKETS: Opt = required(
     "packets",
     Value::Range("RANGE", PACKET_MAX),
@@ -231,6 +232,9 @@ the same codes only while they stand at the same message. The state file stays a
 const EVERY_GROUP: &str = "\
 Every group may spend the allowance by itself, and every group's count starts at 0 again. A group that has spent it does not
 hinder the others.";
+const NEARLY_FULL: &str = "\
+Prints the number of the lowest group that is open with an index above the mark; with `--all` the numbers of all such groups, in
+rising order; or `none` if there is no such group. An index may reach 1048576. A group that is opened again starts at 0.";
 const CODE_CHECKED: &str = "\
 Prints `match`, or `mismatch` with status 9. The code's 16 digits may be in either case, and between the groups of four may
 be hyphens, or spaces, if the whole is in quotes. A code of the session before its last message is a mismatch.";
@@ -314,9 +318,9 @@ pub const COMMANDS: &[Command] = &[
         end: "office",
         name: "nearly-full",
         words: "",
-        about: "name a group whose index is above a mark",
-        options: &[STATE, MARK, WAIT, RESTORE],
-        more: "Prints the group's number, or `none` if there is no such group. An index may reach 1048576.",
+        about: "name the lowest group whose index is above a mark",
+        options: &[STATE, MARK, ALL, WAIT, RESTORE],
+        more: NEARLY_FULL,
     },
     Command {
         id: Id::OfficeCodes,

@@ -53,6 +53,8 @@ fn bash_offers_words_options_and_files() {
     assert_eq!(offered(&folder, &["sane", "start", "--counter", ""]), [""; 0]);
     assert_eq!(offered(&folder, &["sane", "--counter", "41", "sta"]), ["start"]);
     assert_eq!(offered(&folder, &["office", "seal", "--m"]), ["--message", "--metadata", "--metadata-text"]);
+    assert_eq!(offered(&folder, &["office", "nearly-full", "--a"]), ["--all"]);
+    assert_eq!(offered(&folder, &["office", "nearly-full", "--all", "--m"]), ["--mark"]);
     assert_eq!(offered(&folder, &["office", "--state", "office.state", "da"]), ["day"]);
     assert_eq!(offered(&folder, &["office", "day", "--state", "of"]), ["office.state"]);
     assert_eq!(offered(&folder, &["office", "day", "--allowance", ""]), [""; 0]);

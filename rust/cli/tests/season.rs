@@ -59,9 +59,9 @@ fn a_season_of_three_groups() {
     }
     assert_eq!(lines[4], "closed: 29 of 32 groups");
 
-    // Which group is nearly full: one that is, and none only where there is none.
-    let named = folder.done(&format!("office --state office nearly-full --mark {}", index - 1));
-    assert!(GROUPS.iter().any(|group| named == format!("{group}\n")), "{named}");
+    // Which group is nearly full: the lowest of the three, and none only where there is none.
+    assert_eq!(folder.done(&format!("office --state office nearly-full --mark {}", index - 1)), "0\n");
+    assert_eq!(folder.done(&format!("office --state office nearly-full --mark {} --all", index - 1)), "0\n9\n31\n");
     assert_eq!(folder.done(&format!("office --state office nearly-full --mark {index}")), "none\n");
 
     // Another day, and a session in the place of an old one.
@@ -223,6 +223,9 @@ fn the_demo_plays_a_season() {
     assert!(shown.contains("  the office checks the code of packet 0: match\n"), "{shown}");
     assert!(shown.contains("      This is not the code of packet 1 of group 4 at index 4. "), "{shown}");
     demo_in_sane(&shown);
+    // Of the three groups, which have indices of 8, 12 and 20.
+    let renewed = "\nThe groups with an index above 10, in the order in which it renews their keys:\n  11\n  27\n\n";
+    assert_eq!(shown.matches(renewed).count(), 1, "{shown}");
     assert_eq!(folder.done("demo"), shown, "every run prints the same");
     assert_eq!(folder.names(), [""; 0], "nothing is left behind");
 }

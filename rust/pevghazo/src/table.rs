@@ -185,12 +185,39 @@ impl Table {
         Code::of(&record.session, packet)
     }
 
-    /// An open group whose index is above the mark, or none, which is said only where there is none.
+    /// The lowest group that is open with an index above the mark; none exactly where there is none.
     #[must_use]
     pub fn nearly_full(&self, mark: u32) -> Option<u32> {
         let given = raw::nearly_full(&self.records[..], mark);
         assert_eq!(given.number, 0, "a table has 32 records");
         given.found.then_some(given.group)
+    }
+
+    /// All groups that are open with an index above the mark, in rising order. The first is that of [`Table::nearly_full`]. They are
+    /// read off the table here, and not by the proved library.
+    ///
+    /// ```
+    /// use pevghazo::{Plain, Table};
+    ///
+    /// # fn main() -> Result<(), pevghazo::Refusal> {
+    /// let mut office = Table::new();
+    /// office.start_day(1_000);
+    /// for group in [21, 9, 4] {
+    ///     office.open_group(group, &[group as u8; 16])?;
+    /// }
+    /// // A message without bytes takes 2 of the index.
+    /// for group in [21, 21, 9, 4, 4] {
+    ///     let _sealed = office.seal(group, &Plain { metadata: b"", message: b"" })?;
+    /// }
+    /// assert!(office.all_nearly_full(2).eq([4, 21]));
+    ///
+    /// office.open_group(4, b"a new key of group 4")?;
+    /// assert!(office.all_nearly_full(2).eq([21]));
+    /// # Ok(())
+    /// # }
+    /// ```
+    pub fn all_nearly_full(&self, mark: u32) -> impl Iterator<Item = u32> {
+        self.groups().filter(move |group| group.is_open && group.index > mark).map(|group| group.group)
     }
 
     /// A group's record; none for a group above 31.
@@ -290,5 +317,26 @@ impl fmt::Debug for Table {
     fn fmt(&self, f: &mut fmt::Formatter<'_>) -> fmt::Result {
         let shown: Vec<Group> = self.groups().filter(|group| group.is_open || group.count > 0).collect();
         f.debug_struct("Table").field("allowance", &self.allowance).field("groups", &shown).finish_non_exhaustive()
+    }
+}
+
+#[cfg(test)]
+mod tests {
+    use super::*;
+
+    /// Calls and stored bytes leave no index in a closed record; the questions do not count on it.
+    #[test]
+    fn closed_groups_are_not_nearly_full() {
+        let mut table = Table::new();
+        for record in table.records.iter_mut() {
+            record.session.index = u32::MAX;
+        }
+        assert_eq!((table.nearly_full(0), table.all_nearly_full(0).count()), (None, 0));
+        for group in [30, 20] {
+            table.records[group].session.opened = true;
+        }
+        assert_eq!(table.nearly_full(u32::MAX - 1), Some(20));
+        assert!(table.all_nearly_full(u32::MAX - 1).eq([20, 30]));
+        assert_eq!((table.nearly_full(u32::MAX), table.all_nearly_full(u32::MAX).count()), (None, 0));
     }
 }

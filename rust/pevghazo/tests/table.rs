@@ -83,9 +83,9 @@ fn any_question(random: &mut Random, tables: &Tables) -> u32 {
     let sessions = tables.reference.records.iter().map(|record| &record.session);
     let highest = sessions.filter(|session| session.open).map(|session| session.index).max().unwrap_or(0);
     for mark in [0, 1, highest.saturating_sub(1), highest, u32::MAX, random.bits() as u32] {
-        tables.nearly_full(mark);
+        let _ = tables.nearly_full(mark);
     }
-    tables.nearly_full(random.below(1_048_600) as u32)
+    tables.nearly_full(random.below(1_048_600) as u32).number
 }
 
 /// Some calls on any table, most of them for one group, with starts of a day in between.

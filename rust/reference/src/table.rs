@@ -1,4 +1,5 @@
-//! The office's table of sessions (document 01, "The row"; the counts of document 02, request 4).
+//! The office's table of sessions (document 01, "The row"; the counts of document 02, request 4; the lowest nearly full group of
+//! its request 5).
 //!
 //! The table has 32 records, one for each group: a session and, beside it, the group's own count of the day's permutations. One
 //! allowance holds for every group.
@@ -117,16 +118,11 @@ impl Table {
         record.charge(answer)
     }
 
-    /// Whether a group's session is open with an index above the mark.
-    pub fn is_nearly_full(&self, group: usize, mark: u32) -> bool {
-        self.records.get(group).is_some_and(|record| record.session.open && record.session.index > mark)
-    }
-
-    /// A group whose session is open with an index above the mark, or none if there is no such group. Meets 3 for a table
-    /// that does not hold 32 records. Of several such groups this names the lowest, and any of them would be right: a
-    /// comparison should ask [`Table::is_nearly_full`] of the group that it is given.
+    /// The lowest group whose session is open with an index above the mark, or none if there is no such group. Meets 3 for a
+    /// table that does not hold 32 records.
     pub fn nearly_full(&self, mark: u32) -> Result<Option<u32>, Number> {
         self.check_group(0)?;
-        Ok((0..GROUPS).find(|group| self.is_nearly_full(*group, mark)).map(|group| group as u32))
+        let is_nearly_full = |session: &Session| session.open && session.index > mark;
+        Ok((0..).zip(&self.records).find(|(_, record)| is_nearly_full(&record.session)).map(|(group, _)| group))
     }
 }

@@ -103,21 +103,66 @@ fn a_table_of_another_size_is_refused() {
         assert_eq!(table.unwrap(0, &[], &[], &tag, &mut out), Err(Number::Group.into()));
         assert_eq!(table.nearly_full(0), Err(Number::Group));
         assert_eq!(table, before);
+        let full = Session { index: INDEX_MAX, open: true, ..Session::CLOSED };
+        table.records.fill(GroupRecord { session: full, count: 0 });
+        assert_eq!((table.nearly_full(0), table.nearly_full(u32::MAX)), (Err(Number::Group), Err(Number::Group)));
     }
 }
 
-#[test]
-fn nearly_full_groups() {
+/// A table of closed records, but for these groups, which are open and have these indices.
+fn open_with(indices: &[(usize, u32)]) -> Table {
     let mut table = Table::new();
-    assert_eq!(table.nearly_full(0), Ok(None));
-    table.records[5].session = Session { index: 100, ..Session::CLOSED };
-    assert_eq!(table.nearly_full(0), Ok(None), "closed");
-    table.records[9].session = Session { index: 100, open: true, ..Session::CLOSED };
-    table.records[31].session = Session { index: INDEX_MAX, open: true, ..Session::CLOSED };
-    assert_eq!(table.nearly_full(99), Ok(Some(9)));
-    assert_eq!(table.nearly_full(100), Ok(Some(31)));
-    assert_eq!(table.nearly_full(INDEX_MAX), Ok(None));
-    assert!(table.is_nearly_full(31, 100) && !table.is_nearly_full(5, 0) && !table.is_nearly_full(GROUPS, 0));
+    for (group, index) in indices {
+        table.records[*group].session = Session { index: *index, open: true, ..Session::CLOSED };
+    }
+    table
+}
+
+#[test]
+fn the_lowest_nearly_full_group() {
+    assert_eq!(Table::new().nearly_full(0), Ok(None));
+    let mut table = open_with(&[(2, 5), (9, 100), (17, 6), (31, INDEX_MAX)]);
+    for (mark, lowest) in [(0, Some(2)), (4, Some(2)), (5, Some(9)), (99, Some(9)), (100, Some(31))] {
+        assert_eq!(table.nearly_full(mark), Ok(lowest), "mark {mark}");
+    }
+    assert_eq!((table.nearly_full(INDEX_MAX - 1), table.nearly_full(INDEX_MAX)), (Ok(Some(31)), Ok(None)));
+    // Renewed or closed, a group is named no more, and the next one is.
+    table.start_day(1);
+    assert_eq!((table.open_group(2, &[7; 16]), table.nearly_full(4)), (Ok(1), Ok(Some(9))));
+    table.records[9].session.open = false;
+    assert_eq!(table.nearly_full(4), Ok(Some(17)));
+    table.records[17].session = Session::CLOSED;
+    table.records[31].session = Session::CLOSED;
+    assert_eq!(table.nearly_full(4), Ok(None));
+}
+
+#[test]
+fn one_nearly_full_group_and_all_of_them() {
+    for group in 0..GROUPS {
+        assert_eq!(open_with(&[(group, 1)]).nearly_full(0), Ok(Some(group as u32)));
+    }
+    let all: Vec<(usize, u32)> = (0..GROUPS).map(|group| (group, 1 + group as u32)).collect();
+    assert_eq!((open_with(&all).nearly_full(0), open_with(&all).nearly_full(31)), (Ok(Some(0)), Ok(Some(31))));
+}
+
+#[test]
+fn an_index_equal_to_the_mark_is_not_above_it() {
+    for mark in [0, 1, 47, INDEX_MAX, u32::MAX - 1] {
+        assert_eq!(open_with(&[(7, mark)]).nearly_full(mark), Ok(None), "mark {mark}");
+        assert_eq!(open_with(&[(7, mark), (30, mark + 1)]).nearly_full(mark), Ok(Some(30)), "mark {mark}");
+    }
+    assert_eq!(open_with(&[(0, u32::MAX), (31, u32::MAX)]).nearly_full(u32::MAX), Ok(None));
+}
+
+#[test]
+fn closed_groups_are_not_nearly_full() {
+    let mut table = Table::new();
+    for record in &mut table.records {
+        record.session.index = u32::MAX;
+    }
+    assert_eq!((table.nearly_full(0), table.nearly_full(u32::MAX - 1)), (Ok(None), Ok(None)));
+    table.records[20].session.open = true;
+    assert_eq!((table.nearly_full(0), table.nearly_full(u32::MAX)), (Ok(Some(20)), Ok(None)));
 }
 
 #[test]

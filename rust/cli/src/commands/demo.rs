@@ -55,6 +55,8 @@ pub fn run(out: &mut dyn Write, run: Run) -> Result<(), Failure> {
     with_counter(&folder, out)?;
     print(out, "\nWhat the office holds:\n")?;
     print(out, &indented(&folder.play(&["office", "show"], "office.state")?))?;
+    print(out, "The groups with an index above 10, in the order in which it renews their keys:\n")?;
+    print(out, &indented(&folder.play(&["office", "nearly-full", "--mark", "10", "--all"], "office.state")?))?;
     print(out, "\nWhat the groups hold:\n")?;
     for (group, ..) in BLOCKS {
         print(out, &indented(&folder.play(&["group", "show"], &format!("group-{group}.state"))?))?;

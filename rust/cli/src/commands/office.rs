@@ -54,10 +54,16 @@ pub fn open_group(arguments: &Arguments) -> Result<(), Failure> {
     Ok(())
 }
 
-/// Names a group that is nearly full.
+/// Names the lowest group that is nearly full, or lists all of them.
 pub fn nearly_full(arguments: &Arguments, out: &mut dyn Write) -> Result<(), Failure> {
     let mark = arguments.required_number("mark")?;
     let used = Used::<Office>::open(arguments)?;
-    let answer = used.state.table.nearly_full(mark).map_or("none".to_string(), |group| group.to_string());
-    print(out, &format!("{answer}\n"))
+    let table = &used.state.table;
+    let groups: Vec<u32> = if arguments.has("all") {
+        table.all_nearly_full(mark).collect()
+    } else {
+        table.nearly_full(mark).into_iter().collect()
+    };
+    let lines: String = groups.iter().map(|group| format!("{group}\n")).collect();
+    print(out, if lines.is_empty() { "none\n" } else { &lines })
 }

@@ -22,9 +22,9 @@ pub struct GroupRecord {
 pub struct Found {
     /// 0, or the refusal's number.
     pub number: u32,
-    /// Whether there is such a group.
+    /// Whether a group is named: never with a refusal.
     pub found: bool,
-    /// The group, or 0.
+    /// The group, or 0 where none is named.
     pub group: u32,
 }
 
@@ -159,7 +159,8 @@ pub fn unwrap_group(
     answer
 }
 
-/// An open group whose index is above the mark. Check 3.
+/// The lowest group that is open with an index above the mark; none exactly where there is none. Check 3, exactly where the table
+/// has not 32 records.
 pub fn nearly_full(table: &[GroupRecord], mark: u32) -> Found {
     // SAFETY: see the module's head.
     let found = unsafe { pevghazo_nearly_full(table.as_ptr(), table.len(), mark) };

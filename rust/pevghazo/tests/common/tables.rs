@@ -1,7 +1,8 @@
 //! The office's table, held twice: by the library, and by the reference.
 
-use pevghazo::raw::{self, Answer, GroupRecord};
+use pevghazo::raw::{self, Answer, Found, GroupRecord};
 use pevghazo_reference::random::Random;
+use pevghazo_reference::refusal::Number;
 use pevghazo_reference::table::{GroupRecord as Reference, Table};
 
 use super::{answer_of, any_session, other_length, packet, record_of, same};
@@ -17,6 +18,15 @@ pub struct Tables {
 /// The library's record for one of the reference.
 pub fn group_record_of(reference: &Reference) -> GroupRecord {
     GroupRecord { session: record_of(&reference.session), count: reference.count }
+}
+
+/// The reference's answer to the nearly-full question as the library gives it.
+pub fn found_of(answer: Result<Option<u32>, Number>) -> Found {
+    match answer {
+        Ok(Some(group)) => Found { number: 0, found: true, group },
+        Ok(None) => Found { number: 0, found: false, group: 0 },
+        Err(number) => Found { number: number.number().into(), found: false, group: 0 },
+    }
 }
 
 /// Whether two records have the same session and count. Only tests compare them.
@@ -109,20 +119,11 @@ impl Tables {
         self.check(given, answer_of(answer))
     }
 
-    /// Which of several groups is named is free.
-    pub fn nearly_full(&self, mark: u32) -> u32 {
+    /// The nearly-full question: number and group must be the reference's.
+    pub fn nearly_full(&self, mark: u32) -> Found {
         let given = raw::nearly_full(&self.records, mark);
-        match self.reference.nearly_full(mark) {
-            Err(number) => {
-                assert_eq!((given.number, given.found, given.group), (number.number().into(), false, 0))
-            }
-            Ok(None) => assert_eq!((given.number, given.found, given.group), (0, false, 0)),
-            Ok(Some(_)) => {
-                assert_eq!((given.number, given.found), (0, true));
-                assert!(self.reference.is_nearly_full(given.group as usize, mark), "group {}", given.group);
-            }
-        }
+        assert_eq!(given, found_of(self.reference.nearly_full(mark)), "mark {mark}");
         self.check_records();
-        given.number
+        given
     }
 }
