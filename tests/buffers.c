@@ -37,15 +37,16 @@ static unsigned calls;
 
 /* ---- the calls */
 
-/* Those of a lone session, of a group of a table and of a session in SANE, three each; a packet's code; and the start of a day. */
+/* Those of a lone session, of a group of a table and of a session in SANE, three each; a packet's code; the start of a day; and the nearly-full
+ * question, by a mark that no index is above, so that every record is read. */
 enum { LONE, GROUP, SANE, KINDS };
-enum { START, WRAP, UNWRAP, OPEN_GROUP, WRAP_GROUP, UNWRAP_GROUP, SANE_START, SANE_WRAP, SANE_UNWRAP, CODE, DAY, CALLS, OF_A_KIND = 3 };
+enum { START, WRAP, UNWRAP, OPEN_GROUP, WRAP_GROUP, UNWRAP_GROUP, SANE_START, SANE_WRAP, SANE_UNWRAP, CODE, DAY, QUESTION, CALLS, OF_A_KIND = 3 };
 static const char *const names[CALLS] = {"start", "wrap", "unwrap", "open a group", "wrap for a group", "unwrap for a group",
-                                         "start in SANE", "wrap in SANE", "unwrap in SANE", "code", "start of a day"};
+                                         "start in SANE", "wrap in SANE", "unwrap in SANE", "code", "start of a day", "nearly-full question"};
 static const uint32_t group = 7, allowance = UINT32_MAX;
 
 /* Whether a call's records are those of a table, and how many there are then. */
-static bool in_table(int call) { return call / OF_A_KIND == GROUP || call == DAY; }
+static bool in_table(int call) { return call / OF_A_KIND == GROUP || call == DAY || call == QUESTION; }
 static size_t table_len(void) { return n[RECORD] / IN_TABLE; }
 
 /* The number that the library gives. */
@@ -65,6 +66,7 @@ static uint32_t called(int call, uint8_t *const b[BUFFERS]) {
         return pevghazo_unwrap_group(table, table_len(), group, allowance, b[METADATA], n[METADATA], b[INPUT], n[INPUT], b[TAG], n[TAG],
                                      b[OUTPUT], n[OUTPUT]).number;
     case DAY: return pevghazo_start_day(table, table_len(), allowance) == allowance ? PEVGHAZO_ACCEPTED : PEVGHAZO_ALLOWANCE;
+    case QUESTION: return pevghazo_nearly_full(table, table_len(), UINT32_MAX).number;
     case SANE_START: return pevghazo_sane_start(sane, b[KEY], n[KEY], b[NONCE], n[NONCE], b[TAG], n[TAG]).number;
     case SANE_WRAP: return pevghazo_sane_wrap(sane, b[METADATA], n[METADATA], b[INPUT], n[INPUT], b[OUTPUT], n[OUTPUT], b[TAG], n[TAG]).number;
     case SANE_UNWRAP:
@@ -178,21 +180,22 @@ static void session(int kind) {
         }
 }
 
-/* A day over a run of so many records, of any content. */
-static void day(size_t records) {
+/* A day over a run of so many records, of any content, and the question. */
+static void run(size_t records) {
     fill(RECORD, records * IN_TABLE);
     for (size_t i = 0; i < records; i++) {
         uint8_t *flags = (uint8_t *)other_record(i) + offsetof(pevghazo_session, toggle);
         flags[0] &= 1, flags[1] &= 1;
     }
     both(DAY, PEVGHAZO_ACCEPTED);
+    both(QUESTION, records == PEVGHAZO_GROUPS ? PEVGHAZO_ACCEPTED : PEVGHAZO_BAD_GROUP);
 }
 
 static void everywhere(void) {
     static const size_t runs[] = {0, 1, PEVGHAZO_GROUPS - 1, PEVGHAZO_GROUPS, PEVGHAZO_GROUPS + 1};
     for (where = 0; where < PLACES; where++) {
         for (int kind = 0; kind < KINDS; kind++) session(kind);
-        for (int i = 0; i < 5; i++) day(runs[i]);
+        for (int i = 0; i < 5; i++) run(runs[i]);
     }
 }
 

@@ -1,8 +1,8 @@
 /* Constant time: which branches and addresses depend on a secret?
  *
  * Valgrind's memcheck follows every bit that was never set, and reports a branch or an address that depends on one. Here the secrets are
- * marked so: the key, the lanes of a record, and the message, before they are handed to the library. Start, wrap, codes and the start of a day
- * must give no report.
+ * marked so: the key, the lanes of a record, and the message, before they are handed to the library. Start, wrap, codes, the start of a day and
+ * the nearly-full question must give no report.
  * Unwrap may give one, once in a call: its verdict on the tag, which everybody may know. tests/constant_time.sh runs this for lone sessions, for a
  * group of a table and for sessions in SANE, and checks that all these reports come from one branch. The lengths go up to the limit of
  * 16,384 bytes. A second argument N plants a leak in every wrap of a message of more than N bytes, and 'early' and N a comparison that ends at
@@ -260,17 +260,17 @@ static void codes(void) {
     table[group].session.opened = true;
 }
 
-/* A day over a run of so many records, whose lanes are all secret and stay so. */
-static void day(size_t records) {
+/* Before a call over a run of so many records: their lanes are all secret. */
+static void hide_run(const char *call, size_t records) {
     static char text[64];
-    snprintf(text, sizeof text, "start of a day over %zu records", records);
+    snprintf(text, sizeof text, "%s over %zu records", call, records);
     doing = text;
     for (size_t i = 0; i < records; i++) hide(&table[i].session, LANES);
     reports();
-    const uint32_t given = pevghazo_start_day(table, records, allowance);
-    no_report();
-    is_public(&given, sizeof given, "the allowance depends on a secret");
-    if (given != allowance) fail("the allowance is another one");
+}
+
+/* After it: they still are, and nothing else is. */
+static void reveal_run(size_t records) {
     for (size_t i = 0; i < records; i++) {
         is_public(&table[i].count, sizeof table[i].count, "a count depends on a secret");
         is_public((uint8_t *)&table[i].session + LANES, PUBLIC, "index, toggle or openness depend on a secret");
@@ -279,9 +279,33 @@ static void day(size_t records) {
     }
 }
 
-static void days(void) {
+static void day(size_t records) {
+    hide_run("start of a day", records);
+    const uint32_t given = pevghazo_start_day(table, records, allowance);
+    no_report();
+    is_public(&given, sizeof given, "the allowance depends on a secret");
+    if (given != allowance) fail("the allowance is another one");
+    reveal_run(records);
+}
+
+static void question(size_t records, uint32_t mark) {
+    hide_run("nearly-full question", records);
+    const pevghazo_found given = pevghazo_nearly_full(table, records, mark);
+    no_report();
+    is_public(&given.number, sizeof given.number, "the number depends on a secret");
+    is_public(&given.found, sizeof given.found, "what is found depends on a secret");
+    is_public(&given.group, sizeof given.group, "the group depends on a secret");
+    reveal_run(records);
+    if (given.found != (records == PEVGHAZO_GROUPS && mark == 0)) fail("the open group was missed, or another one was found");
+}
+
+static void runs(void) {
     static const size_t runs[] = {0, 1, PEVGHAZO_GROUPS - 1, PEVGHAZO_GROUPS, PEVGHAZO_GROUPS + 1};
-    for (size_t i = 0; i < sizeof runs / sizeof runs[0]; i++) day(runs[i]);
+    for (size_t i = 0; i < sizeof runs / sizeof runs[0]; i++) {
+        day(runs[i]);
+        question(runs[i], 0);
+        question(runs[i], PEVGHAZO_INDEX_MAX);
+    }
 }
 
 /* Both ends of a session are played in turn with one record: what it was before a wrap is put back for the unwrap. */
@@ -341,7 +365,7 @@ int main(int argc, char **argv) {
     store_and_load();
     messages();
     if (kind != SANE) codes();
-    if (kind == GROUP) days();
+    if (kind == GROUP) runs();
     printf("constant time, %s: %u calls, %u verdicts on tags seen, nothing else\n", argv[1], calls, verdicts);
     return 0;
 }
