@@ -1,8 +1,8 @@
 #!/usr/bin/env python3
 """cited.py: says of each name that docs/ARCHITECTURE.md cites whether it is there. The exit status is 1 where one is not.
 
-A name in back quotes is a definition, a law, a record's field, a function, a struct, a constant or a crate; 'record .field' is a field of that
-record; a word with a slash is a file, a folder or a must-fail edit. Where a place in round brackets follows, as in `name` (crate/specs/File),
+A name in back quotes is a definition, a law, a record's field, a function, a struct, an enum, a constant or a crate; 'record .field' is a field of
+that record; a word with a slash is a file, a folder or a must-fail edit. Where a place in round brackets follows, as in `name` (crate/specs/File),
 each name since the last such place, semicolon or cell has to stand in that file, or in a file of that folder. And the map has every crate of
 crates.txt, with the crates that it reads.
 """
@@ -35,10 +35,10 @@ def sources():
 
 
 def declares(text, name):
-    """Whether a file declares a name: 'name :', 'data name', 'record name', a constructor, 'fn name', 'struct name', 'const name'."""
+    """Whether a file declares a name: 'name :', 'data name', 'record name', a constructor, 'fn name', 'struct name', 'enum name', 'const name'."""
     word = re.escape(name)
     antt = rf"^[ \t]*(?:(?:abbrev|unfoldable|pub|data|record)[ \t]+)*(?:[^\s:(){{}}]+[ \t]+)*{word}(?:[ \t][^\n:]*)?[ \t]*:"
-    rattle = rf"\b(?:fn|struct|const|mod)[ \t]+{word}\b"
+    rattle = rf"\b(?:fn|struct|enum|const|mod)[ \t]+{word}\b"
     return re.search(antt, text, re.M) or re.search(rattle, text)
 
 

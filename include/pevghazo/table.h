@@ -72,8 +72,8 @@ PEVGHAZO_MUST_USE pevghazo_answer pevghazo_unwrap_group(pevghazo_record *table, 
                                                         size_t cryptogram_len, const uint8_t *tag, size_t tag_len, uint8_t *out,
                                                         size_t out_len);
 
-/* Check 3, exactly where the table has not 32 records; it then names no group. Otherwise it names the lowest group that is open with an index
- * above the mark, and none exactly where there is no such group. An index that equals the mark is not above it, and a closed group is never
+/* Check 3, exactly where the table does not hold 32 records; it then names no group. Otherwise it names the lowest group that is open with an
+ * index above the mark, and none exactly where there is no such group. An index that equals the mark is not above it, and a closed group is never
  * named, whatever its index. A group that is opened again has index 0: the same question then names the next. */
 PEVGHAZO_MUST_USE pevghazo_found pevghazo_nearly_full(const pevghazo_record *table, size_t table_len, uint32_t mark);
 

@@ -125,9 +125,9 @@ static void highest(void) {
     check("the count of an opening", office[3].count, UINT32_MAX);
 }
 
-/* The nearly-full question names this group, or none. */
 enum { NONE = 99 };
 
+/* The nearly-full question names this group, or none. */
 static void names(const char *what, uint32_t mark, uint32_t expected) {
     const pevghazo_found full = pevghazo_nearly_full(office, PEVGHAZO_GROUPS, mark);
     check(what, full.number, PEVGHAZO_ACCEPTED);

@@ -80,6 +80,8 @@ fn every_group_has_the_old_count_of_the_day() {
     assert_eq!(shown.matches("\"open\":true,\"index\":4,\"toggle\":1,").count(), 2, "{shown}");
     assert_eq!(shown.matches("\"open\":false,\"index\":0,\"toggle\":0,").count(), 30, "{shown}");
     assert_eq!(folder.done("office --state office nearly-full --mark 4"), "none\n");
+    assert_eq!(folder.done("office --state office nearly-full --mark 3"), "4\n");
+    assert_eq!(folder.done("office --state office nearly-full --mark 3 --all"), "4\n9\n");
     folder.done("office --state office codes --group 4 --packets 0-3");
     assert!(folder.read("office") == before);
 }

@@ -106,8 +106,24 @@ fn the_office_renews_keys_down_the_list() {
     names(&folder, 1, "8", "8");
 }
 
+/// An older copy is refused, and with `--restore` it is only looked at.
 #[test]
-fn marks_that_are_none() {
+fn an_older_copy_is_only_looked_at() {
+    let folder = office(&[(9, 60), (4, 50)]);
+    let older = folder.read("office").unwrap();
+    folder.done("office --state office day --allowance 5");
+    folder.write("office", &older);
+    for (all, printed) in [("", "4\n"), (" --all", "4\n9\n")] {
+        let line = format!("office --state office nearly-full --mark 0{all}");
+        folder.fails(8, &line);
+        assert_eq!(folder.done(&format!("{line} --restore --wait 1")), printed);
+        folder.fails(8, &line);
+    }
+    assert!(folder.read("office").unwrap() == older);
+}
+
+#[test]
+fn wrong_command_lines() {
     let folder = office(&[(4, 50)]);
     let said = "pevghazo: The option --mark needs a number from 0 to 4294967295, in digits.\n";
     for mark in ["-1", "4294967296", "abc", "+5", "5.0", "0x10", "18446744073709551616"] {
@@ -123,6 +139,7 @@ fn marks_that_are_none() {
         ("office --state office nearly-full --mark", "The option --mark needs a value: --mark N."),
         ("office --state office nearly-full --mark --all", "The option --mark needs a value: --mark N."),
         ("office --state office nearly-full --mark 5 --all=yes", "The option --all takes no value."),
+        ("office --state office nearly-full --mark 5 --all --all", "The option --all is given twice."),
         ("office nearly-full --mark 5 --all", "The option --state is missing."),
         ("office --state office show --all", "`pevghazo office show` has no option --all: see its --help."),
     ] {

@@ -224,7 +224,8 @@ fn the_demo_plays_a_season() {
     assert!(shown.contains("      This is not the code of packet 1 of group 4 at index 4. "), "{shown}");
     demo_in_sane(&shown);
     // Of the three groups, which have indices of 8, 12 and 20.
-    let renewed = "\nThe groups with an index above 10, in the order in which it renews their keys:\n  11\n  27\n\n";
+    let renewed =
+        "\nThe groups with an index above 10, in the order in which the office renews their keys:\n  11\n  27\n\n";
     assert_eq!(shown.matches(renewed).count(), 1, "{shown}");
     assert_eq!(folder.done("demo"), shown, "every run prints the same");
     assert_eq!(folder.names(), [""; 0], "nothing is left behind");

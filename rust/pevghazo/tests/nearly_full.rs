@@ -220,7 +220,7 @@ fn any_table_and_any_mark() {
         }
     });
     if is_whole_run() {
-        assert!(asked.len() == 17 && asked.values().all(|times| *times >= 10), "{asked:#?}");
+        assert!(asked.values().all(|times| *times >= 10), "{asked:#?}");
         assert_eq!(answered.len(), 34, "each of 32 groups, none, and the refusal: {answered:?}");
     }
 }
@@ -270,6 +270,7 @@ fn one_by_one(mut table: ReferenceTable, mark: u32) -> Vec<u32> {
     while let Some(group) = table.nearly_full(mark).unwrap() {
         table.records[group as usize].session.open = false;
         named.push(group);
+        assert!(named.len() <= table.records.len(), "the reference names a group again: {named:?}");
     }
     named
 }

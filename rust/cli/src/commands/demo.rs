@@ -23,6 +23,9 @@ const BLOCKS: [(u32, &str, &str); 3] = [
     (27, "K 701 to K 720", "none"),
 ];
 
+/// The mark of the office: it renews the key of a group whose index is above it.
+const MARK: &str = "10";
+
 /// Plays the season; `run` runs each of its commands.
 pub fn run(out: &mut dyn Write, run: Run) -> Result<(), Failure> {
     let folder = Folder::new(run)?;
@@ -55,13 +58,19 @@ pub fn run(out: &mut dyn Write, run: Run) -> Result<(), Failure> {
     with_counter(&folder, out)?;
     print(out, "\nWhat the office holds:\n")?;
     print(out, &indented(&folder.play(&["office", "show"], "office.state")?))?;
-    print(out, "The groups with an index above 10, in the order in which it renews their keys:\n")?;
-    print(out, &indented(&folder.play(&["office", "nearly-full", "--mark", "10", "--all"], "office.state")?))?;
+    to_renew(&folder, out)?;
     print(out, "\nWhat the groups hold:\n")?;
     for (group, ..) in BLOCKS {
         print(out, &indented(&folder.play(&["group", "show"], &format!("group-{group}.state"))?))?;
     }
     Ok(())
+}
+
+/// The office lists the groups whose index is above its mark.
+fn to_renew(folder: &Folder, out: &mut dyn Write) -> Result<(), Failure> {
+    let line = format!("The groups with an index above {MARK}, in the order in which the office renews their keys:\n");
+    print(out, &line)?;
+    print(out, &indented(&folder.play(&["office", "nearly-full", "--mark", MARK, "--all"], "office.state")?))
 }
 
 /// The office and the groups start, each group with the key that the office has for it.

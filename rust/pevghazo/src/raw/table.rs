@@ -160,7 +160,7 @@ pub fn unwrap_group(
 }
 
 /// The lowest group that is open with an index above the mark; none exactly where there is none. Check 3, exactly where the table
-/// has not 32 records.
+/// does not hold 32 records.
 pub fn nearly_full(table: &[GroupRecord], mark: u32) -> Found {
     // SAFETY: see the module's head.
     let found = unsafe { pevghazo_nearly_full(table.as_ptr(), table.len(), mark) };
