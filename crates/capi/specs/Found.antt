@@ -2,6 +2,6 @@
 use Rattle.office.specs.Table.{TableFinding}
 use Rattle.capi.specs.declared.c_table.Found.{Found}
 
--- the same number, finding and group
+-- field by field
 abbrev pub foundResult : Found → TableFinding
 foundResult f = record { number = f .number; found = f .found; group = f .group }

@@ -2,7 +2,7 @@
 ghost use mathlib.Core.Path.{_≡_};
 ghost use Prim.Native.Nat.{_<_};
 ghost use Rattle.sanse.specs.Session.{handed};
-ghost use Rattle.office.specs.Table.{tableOf, dayResult, tableResult, openingResult, startDayAt, wrapGroupAt, unwrapGroupAt, openGroupAt, nearlyFullAt, findingOf};
+ghost use Rattle.office.specs.Table.{tableOf, dayResult, tableResult, openingResult, startDayAt, wrapGroupAt, unwrapGroupAt, openGroupAt, nearlyFullAt, nearlyFullResult};
 ghost use Rattle.capi.specs.Found.{foundResult};
 use groups::Record;
 use office::NearlyFull;
@@ -91,8 +91,8 @@ pub extern "C" fn pevghazo_unwrap_group(
 
 // The table's answer as a number and values, with the group in 32 bits.
 fn narrow(r: NearlyFull) -> Found
-    requires { ⌜ findingOf r .group < 32 ⌝ }
-    ensures { λ f. ⌜ foundResult f ≡ findingOf r ⌝ }
+    requires { ⌜ nearlyFullResult r .group < 32 ⌝ }
+    ensures { λ f. ⌜ foundResult f ≡ nearlyFullResult r ⌝ }
 {
     match r {
         NearlyFull::Refused => Found {

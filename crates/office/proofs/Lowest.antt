@@ -1,5 +1,5 @@
 -- What the nearly-full question's answer says: the lowest group that is open above the mark, or none, and no other answer says so
--- (`FoundExactly`, `FoundDecided`, `AnswerDecided` of `specs/Exactly.antt`). Assumes nothing.
+-- (`FoundExactly`, `FoundDecided` of `specs/Exactly.antt`). Assumes nothing.
 use mathlib.Core.Path.{_≡_, refl, sym, ap, ap₂, _∙_, subst}
 use mathlib.Core.Bool.{Bool, true, false, _&&_}
 use mathlib.Core.List.{[], _∷_}
@@ -9,9 +9,11 @@ use native.Mathlib.Omega.{arith}
 use lib.Dec.{ltb, eqb}
 use lib.ListN.{length}
 use borrow.Author.Tests.{ltb-true, lt-ltb, eqb-true, eqb-false}
+use borrow.Author.Count.{below-none}
+use Rattle.office.specs.declared.NearlyFull.{NearlyFull}
 use Rattle.office.specs.declared.NearlyFull.the-variants.{Refused, None, Group}
-use Rattle.office.specs.Table.{Table, sessionAt, aboveMark, TableFinding, groupNamed, noneNamed, refusedFinding, nearlyFullAt}
-use Rattle.office.specs.Exactly.{OpenAbove, LowestAbove, FoundExactly, FoundDecided, AnswerDecided}
+use Rattle.office.specs.Table.{Table, sessionAt, aboveMark, TableFinding, groupNamed, noneNamed, refusedFinding, nearlyFullAt, nearlyFullResult}
+use Rattle.office.specs.Exactly.{OpenAbove, LowestAbove, FoundExactly, FoundDecided}
 use Rattle.office.proofs.Search.{never, NoneBelow, names, names-none, asked, refused}
 
 -- ---- the lowest
@@ -28,12 +30,13 @@ above-is t mark g less = go (sessionAt t g .opened) (ltb mark (sessionAt t g .hi
 is-above : (t : Table) (mark g : ℕ) → OpenAbove t mark g → aboveMark (sessionAt t g) mark ≡ true
 is-above t mark g o = ap₂ _&&_ (o .opened) (lt-ltb mark (sessionAt t g .history .index) (o .above))
 
--- the first record that is open above the mark, or that none is
+-- where the first record stands that is open above the mark
 abbrev First : Table → (mark : ℕ) → Type 0
 First t mark = (g : ℕ) × (g < length t) × NoneBelow t mark g × (aboveMark (sessionAt t g) mark ≡ true)
 
+-- there is a first one, or there is none
 first-or-none : (t : Table) (mark : ℕ) → First t mark ⊎ NoneBelow t mark (length t)
-first-or-none [] mark = inr (λ k less. absurd (omega arith))
+first-or-none [] mark = inr (below-none _)
 first-or-none (r ∷ t) mark = go (aboveMark (r .session) mark) refl (first-or-none t mark)
   where
     more : (g : ℕ) → aboveMark (r .session) mark ≡ false → NoneBelow t mark g → NoneBelow (r ∷ t) mark (suc g)
@@ -42,16 +45,14 @@ first-or-none (r ∷ t) mark = go (aboveMark (r .session) mark) refl (first-or-n
 
     go : (b : Bool) → aboveMark (r .session) mark ≡ b → First t mark ⊎ NoneBelow t mark (length t)
         → First (r ∷ t) mark ⊎ NoneBelow (r ∷ t) mark (length (r ∷ t))
-    go true e _ = inl (0, omega arith, (λ k less. absurd (omega arith)), e)
+    go true e _ = inl (0, omega arith, below-none _, e)
     go false e (inl (g, less, none, here)) = inl (suc g, omega arith, more g e none, here)
     go false e (inr none) = inr (more (length t) e none)
 
--- two that are the lowest are one
-neither-below : (a b : ℕ) → (a < b → ⊥) → (b < a → ⊥) → a ≡ b
-neither-below a b f g = omega arith
-
+-- there is one lowest
 one-lowest : (t : Table) (mark g k : ℕ) → LowestAbove t mark g → LowestAbove t mark k → g ≡ k
-one-lowest t mark g k a b = neither-below g k (λ less. b .no-lower g less (a .above)) (λ less. a .no-lower k less (b .above))
+one-lowest t mark g k a b =
+    let f : g < k → ⊥ = λ less. b .no-lower g less (a .above) in let h : k < g → ⊥ = λ less. a .no-lower k less (b .above) in omega arith
 
 -- ---- the claim holds of the search
 
@@ -151,6 +152,18 @@ module _ (t : Table) (mark : ℕ) (r s : TableFinding) (x : FoundExactly t mark 
       go false true e f = let w = x .named (s .group) .1 (y .named (s .group) .0 (f, refl)) in never (sym (w .0) ∙ e)
       go false false e f = same-finding r s same-number (e ∙ sym f) (x .unnamed e ∙ sym (y .unnamed f))
 
+-- the cases of the program's answer have different values
+same-answer : (r s : NearlyFull) → nearlyFullResult r ≡ nearlyFullResult s → r ≡ s
+same-answer Refused Refused e = refl
+same-answer Refused None e = absurd (omega (arith, ap (λ (f : TableFinding). f .number) e))
+same-answer Refused (Group g) e = absurd (omega (arith, ap (λ (f : TableFinding). f .number) e))
+same-answer None Refused e = absurd (omega (arith, ap (λ (f : TableFinding). f .number) e))
+same-answer None None e = refl
+same-answer None (Group g) e = never (sym (ap (λ (f : TableFinding). f .found) e))
+same-answer (Group g) Refused e = absurd (omega (arith, ap (λ (f : TableFinding). f .number) e))
+same-answer (Group g) None e = never (ap (λ (f : TableFinding). f .found) e)
+same-answer (Group g) (Group k) e = ap Group (ap (λ (f : TableFinding). f .group) e)
+
 pub found-decided : (t : Table) (mark : ℕ) → FoundDecided t mark
 found-decided t mark =
     record {
@@ -159,16 +172,5 @@ found-decided t mark =
         λ e. subst (FoundExactly t mark) (sym e) (found-exactly t mark),
       );
       two = two-findings t mark;
+      answers = λ r s x y. same-answer r s (two-findings t mark (nearlyFullResult r) (nearlyFullResult s) x y);
     }
-
--- the program's answer: its cases have different values
-pub answer-decided : AnswerDecided
-answer-decided Refused Refused e = refl
-answer-decided Refused None e = absurd (omega (arith, ap (λ (f : TableFinding). f .number) e))
-answer-decided Refused (Group g) e = absurd (omega (arith, ap (λ (f : TableFinding). f .number) e))
-answer-decided None Refused e = absurd (omega (arith, ap (λ (f : TableFinding). f .number) e))
-answer-decided None None e = refl
-answer-decided None (Group g) e = never (sym (ap (λ (f : TableFinding). f .found) e))
-answer-decided (Group g) Refused e = absurd (omega (arith, ap (λ (f : TableFinding). f .number) e))
-answer-decided (Group g) None e = never (ap (λ (f : TableFinding). f .found) e)
-answer-decided (Group g) (Group k) e = ap Group (ap (λ (f : TableFinding). f .group) e)

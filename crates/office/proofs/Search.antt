@@ -12,7 +12,7 @@ use borrow.Author.Count.{below-more}
 use Rattle.groups.specs.declared.Record.{Record}
 use Rattle.groups.specs.Groups.{GroupState, recordOf}
 use Rattle.office.specs.declared.NearlyFull.the-variants.{Refused, None, Group}
-use Rattle.office.specs.Table.{Table, sessionAt, aboveMark, TableFinding, groupNamed, noneNamed, refusedFinding, searchFrom, nearlyFullAt, zeroRecord, tableOf, findingOf}
+use Rattle.office.specs.Table.{Table, sessionAt, aboveMark, TableFinding, groupNamed, noneNamed, refusedFinding, searchFrom, nearlyFullAt, zeroRecord, tableOf, nearlyFullResult}
 use Rattle.office.proofs.Laws.{group-at}
 
 pub never : {A : Type 0} → true ≡ false → A
@@ -37,7 +37,7 @@ NoneBelow t mark group = (k : ℕ) → k < group → aboveMark (sessionAt t k) m
 abbrev first-or : (group : ℕ) → TableFinding → Bool → TableFinding
 first-or group later b = cond b (groupNamed group) later
 
--- it ends with g where no record below g is, and g is
+-- it ends with group from + g where record g of the run is the first that is open above the mark
 pub names : (from : ℕ) (t : Table) (mark g : ℕ) → g < length t → NoneBelow t mark g → aboveMark (sessionAt t g) mark ≡ true
     → searchFrom from t mark ≡ groupNamed (from + g)
 names from [] mark g less none e = absurd (omega arith)
@@ -49,7 +49,7 @@ names from (r ∷ t) mark (suc g) less none e =
     ∙ names (from + 1) t mark g (omega arith) (λ k below. none (suc k) (omega arith)) e
     ∙ ap groupNamed same
 
--- and with none where no record is
+-- and with none where no record of the run is
 pub names-none : (from : ℕ) (t : Table) (mark : ℕ) → NoneBelow t mark (length t) → searchFrom from t mark ≡ noneNamed
 names-none from [] mark none = refl
 names-none from (r ∷ t) mark none =
@@ -83,7 +83,7 @@ in-run l t g e other = omega arith
 pub at-most-fits : (l t g : ℕ) → l < 2 ^ 64 → g + t ≡ l → g < 2 ^ 64
 at-most-fits l t g room e = omega arith
 
-pub says-refused : (l : List Record) (mark : ℕ) → (length l ≡ 32 → ⊥) → findingOf Refused ≡ nearlyFullAt (tableOf l) mark
+pub says-refused : (l : List Record) (mark : ℕ) → (length l ≡ 32 → ⊥) → nearlyFullResult Refused ≡ nearlyFullAt (tableOf l) mark
 says-refused l mark other = sym (refused (tableOf l) mark (λ e. other (sym (length-map l recordOf) ∙ e)))
 
 module _ (l : List Record) (mark t g : ℕ) (inv : Turn l mark t g) where
@@ -94,12 +94,12 @@ module _ (l : List Record) (mark t g : ℕ) (inv : Turn l mark t g) where
     search : searchFrom 0 (tableOf l) mark ≡ nearlyFullAt (tableOf l) mark
     search = sym (asked (tableOf l) mark (length-map l recordOf ∙ is32))
 
-    pub says-group : g < length l → over l mark g ≡ true → findingOf (Group g) ≡ nearlyFullAt (tableOf l) mark
+    pub says-group : g < length l → over l mark g ≡ true → nearlyFullResult (Group g) ≡ nearlyFullAt (tableOf l) mark
     says-group less e =
         let within : g < length (tableOf l) = subst (λ (n : ℕ). g < n) (sym (length-map l recordOf)) less in
         let same : g ≡ 0 + g = omega arith in
         ap groupNamed same ∙ sym (names 0 (tableOf l) mark g within (inv .1) (over-is l mark g ∙ e)) ∙ search
 
-    pub says-none : g ≡ length l → findingOf None ≡ nearlyFullAt (tableOf l) mark
+    pub says-none : g ≡ length l → nearlyFullResult None ≡ nearlyFullAt (tableOf l) mark
     says-none end =
         sym (names-none 0 (tableOf l) mark (subst (NoneBelow (tableOf l) mark) (end ∙ sym (length-map l recordOf)) (inv .1))) ∙ search

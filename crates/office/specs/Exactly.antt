@@ -13,7 +13,7 @@ use Rattle.modes.specs.Mode.{sanse, incremental}
 use Rattle.modes.specs.Rules.{Outcome, checkNumber, countOf, newSession, wrapAt, unwrapAt}
 use Rattle.groups.specs.Groups.{charged, recordOf}
 use Rattle.office.specs.declared.NearlyFull.{NearlyFull}
-use Rattle.office.specs.Table.{Table, unopened, newTable, groupAt, sessionAt, DayStart, startDayAt, TableOutcome, TableOpening, refusedBy, writtenBack, wrapGroupAt, unwrapGroupAt, openGroupAt, TableFinding, noneNamed, nearlyFullAt, tableOf, zeroRecord, findingOf}
+use Rattle.office.specs.Table.{Table, unopened, newTable, groupAt, sessionAt, DayStart, startDayAt, TableOutcome, TableOpening, refusedBy, writtenBack, wrapGroupAt, unwrapGroupAt, openGroupAt, TableFinding, noneNamed, nearlyFullAt, tableOf, zeroRecord, nearlyFullResult}
 
 -- 3: the table does not hold 32 records, or the group is above 31
 abbrev pub Check3 : Table → (group : ℕ) → Type 0
@@ -104,7 +104,7 @@ pub record LowestAbove (t : Table) (mark group : ℕ) : Type 0 where
   pub above : OpenAbove t mark group
   pub no-lower : (k : ℕ) → k < group → OpenAbove t mark k → ⊥
 
--- what the question gives
+-- what is claimed of its finding r
 pub record FoundExactly (t : Table) (mark : ℕ) (r : TableFinding) : Type 0 where
   pub three : (r .number ≡ 3) ↔ (length t ≢ 32)
   pub answered : (r .number ≡ 0) ↔ (length t ≡ 32)
@@ -121,10 +121,8 @@ pub record FoundExactly (t : Table) (mark : ℕ) (r : TableFinding) : Type 0 whe
 pub record FoundDecided (t : Table) (mark : ℕ) : Type 0 where
   pub search : (r : TableFinding) → FoundExactly t mark r ↔ (r ≡ nearlyFullAt t mark)
   pub two : (r s : TableFinding) → FoundExactly t mark r → FoundExactly t mark s → r ≡ s
-
--- and the program's answer is decided with it
-abbrev pub AnswerDecided : Type 0
-AnswerDecided = (r s : NearlyFull) → findingOf r ≡ findingOf s → r ≡ s
+  -- and so it is as the program gives it, by cases
+  pub answers : (r s : NearlyFull) → FoundExactly t mark (nearlyFullResult r) → FoundExactly t mark (nearlyFullResult s) → r ≡ s
 
 -- ---- the table at first
 

@@ -109,7 +109,7 @@ pub record TableFinding : Type 0 where
   pub found : Bool
   pub group : ℕ
 
--- a group is named; none is; and check 3
+-- the three findings: a group, none, and refused by 3
 abbrev pub groupNamed : (group : ℕ) → TableFinding
 groupNamed group = record { number = 0; found = true; group = group }
 
@@ -119,8 +119,9 @@ noneNamed = record { number = 0; found = false; group = 0 }
 abbrev pub refusedFinding : TableFinding
 refusedFinding = record { number = 3; found = false; group = 0 }
 
--- the search from a group on, through its record and those after it: it ends with the first whose session is open above the mark, or with none
-abbrev pub searchFrom : (group : ℕ) → Table → (mark : ℕ) → TableFinding
+-- the search from a group on, over the records of that group and of those after it: it ends with the first whose session is open with an index
+-- above the mark, or with none
+abbrev pub searchFrom : (group : ℕ) → (records : Table) → (mark : ℕ) → TableFinding
 searchFrom group [] mark = noneNamed
 searchFrom group (r ∷ rest) mark = cond (aboveMark (r .session) mark) (groupNamed group) (searchFrom (group + 1) rest mark)
 
@@ -152,7 +153,7 @@ abbrev pub openingResult : Answer → (table : List Record) → TableOpening
 openingResult r table = record { number = r .number; count = r .count; table = tableOf table }
 
 -- the number and the values of each case of the program's answer
-abbrev pub findingOf : NearlyFull → TableFinding
-findingOf Refused = refusedFinding
-findingOf None = noneNamed
-findingOf (Group group) = groupNamed group
+abbrev pub nearlyFullResult : NearlyFull → TableFinding
+nearlyFullResult Refused = refusedFinding
+nearlyFullResult None = noneNamed
+nearlyFullResult (Group group) = groupNamed group

@@ -3,7 +3,7 @@
 ghost use mathlib.Core.Path.{_≡_};
 ghost use Rattle.sanse.specs.Session.{handed};
 ghost use Rattle.groups.specs.Groups.{recordOf};
-ghost use Rattle.office.specs.Table.{noGroup, refused3, aboveMark, tableOf, dayResult, tableResult, openingResult, startDayAt, wrapGroupAt, unwrapGroupAt, openGroupAt, nearlyFullAt, findingOf};
+ghost use Rattle.office.specs.Table.{noGroup, refused3, aboveMark, tableOf, dayResult, tableResult, openingResult, startDayAt, wrapGroupAt, unwrapGroupAt, openGroupAt, nearlyFullAt, nearlyFullResult};
 use groups::Record;
 use session::Answer;
 
@@ -137,7 +137,7 @@ fn above_mark(r: Record, mark: u32) -> bool
 
 // The nearly-full question: the lowest group that is open with an index above the mark, or none. Check 3.
 pub fn nearly_full(table: &[Record], mark: u32) -> NearlyFull
-    ensures { λ r. ⌜ findingOf r ≡ nearlyFullAt (tableOf (now (table .entry))) mark ⌝ }
+    ensures { λ r. ⌜ nearlyFullResult r ≡ nearlyFullAt (tableOf (now (table .entry))) mark ⌝ }
 {
     if table.len() != GROUPS {
         return NearlyFull::Refused;

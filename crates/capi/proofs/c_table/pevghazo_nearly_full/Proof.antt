@@ -32,7 +32,7 @@ use denote.Triple.Entry.{Args, alive}
 use denote.Triple.Spec.{Meets, tripleOf}
 use denote.Triple.Table.{entered, cited}
 use denote.Triple.Walked.{says}
-use Rattle.office.specs.Table.{TableFinding, nearlyFullAt, tableOf, findingOf}
+use Rattle.office.specs.Table.{TableFinding, nearlyFullAt, tableOf, nearlyFullResult}
 use Rattle.office.specs.declared.NearlyFull.{NearlyFull}
 use Rattle.capi.specs.Found.{foundResult}
 use Rattle.capi.specs.declared.c_table.Found.{Found}
@@ -82,13 +82,13 @@ module _ {M : Type 1} (𝓤 : URA M) (H : Heap 𝓤) (A : Atoms 𝓤) (W : Given
     abbrev Answers : TableFinding → Type 0
     Answers r = r ≡ nearlyFullAt (tableOf (a .0 .now)) (a .1 .0)
 
-    below : (r : NearlyFull) → Answers (findingOf r) → findingOf r .group < 32
+    below : (r : NearlyFull) → Answers (nearlyFullResult r) → nearlyFullResult r .group < 32
     below r e = subst (λ (f : TableFinding). f .group < 32) (sym e) (group-below (tableOf (a .0 .now)) (a .1 .0))
 
     abbrev to-narrow : NearlyFull → Val → Narrow 𝓤 H A at-mem run .Ghost
     to-narrow r v = ((tt, tt, tt, (r, tt), (v ∷ [], tt)), tt)
 
-    goes-narrow : (r : NearlyFull) (v : Val) → Answers (findingOf r) → ent 𝓤 (sem 𝓤 H A (N.the-row .own r (v ∷ []))) (Narrow 𝓤 H A at-mem run .pre (to-narrow r v))
+    goes-narrow : (r : NearlyFull) (v : Val) → Answers (nearlyFullResult r) → ent 𝓤 (sem 𝓤 H A (N.the-row .own r (v ∷ []))) (Narrow 𝓤 H A at-mem run .pre (to-narrow r v))
     goes-narrow r v e = qed W (‵ (N.the-row .own r (v ∷ [])) ∷ []) ∵ says ! (below r e) $ nothing ! $ move ! (1 ∷ 0 ∷ []) $ fjoin ! $ nothing ! $ done !
 
     said-so : (w : Found) (ws : Lasts f.ended κs a) → Answers (foundResult w) → ent 𝓤 (sem 𝓤 H A (lasts f.ended κs a ws)) (f.spec 𝓤 H A at-mem run κs a .ensures tt w)
@@ -103,13 +103,13 @@ module _ {M : Type 1} (𝓤 : URA M) (H : Heap 𝓤) (A : Atoms 𝓤) (W : Given
         -- the question
         move ! (8 ∷ []) $ calls-at ! fm (Asked 𝓤 H A at-mem run) known bound (and-then ! (load ! (from ! (stop !)) (look ! 5 refl)) (and-then ! (load ! (from ! (stop !)) (look ! 3 refl)) (no-more !))) (λ v.
         use1 W (later (some (λ (r : NearlyFull). (raw (alive 𝓤 H A f.signature κs qs) ⊛ ‵ (N.the-row .own r (v ∷ []))) ⊛ raw (asked.spec 𝓤 H A at-mem run κs a .ensures tt r)))) (id⊢ 𝓤 _) $ await ! tt $ pick ! (λ r. split ! $ move ! (1 ∷ []) $
-        use1 W (some (λ (ws : Lasts f.ended κs a). ‵ (lasts f.ended κs a ws) ⊛ raw (fact 𝓤 (Answers (findingOf r))))) (id⊢ 𝓤 _) $ pick ! (λ ws. split ! $ move ! (1 ∷ []) $ heard ! (Answers (findingOf r)) (λ e. move ! (1 ∷ []) $ split ! $ move ! (1 ∷ []) $
+        use1 W (some (λ (ws : Lasts f.ended κs a). ‵ (lasts f.ended κs a ws) ⊛ raw (fact 𝓤 (Answers (nearlyFullResult r))))) (id⊢ 𝓤 _) $ pick ! (λ ws. split ! $ move ! (1 ∷ []) $ heard ! (Answers (nearlyFullResult r)) (λ e. move ! (1 ∷ []) $ split ! $ move ! (1 ∷ []) $
         -- [what the answer owns; the token; the last values; _3; …]
         peeks ! N.the-row (Is N.the-row) (shows 𝓤 H A N.the-row) r (v ∷ []) (λ is. land ! (from ! (stop !)) (init ! 3 refl (LE.lawful N.the-type N′.the-laws 𝓤 H A W tt .typed r _ is .0)) $
-        -- the group is narrowed
+        -- the answer is narrowed
         use1 W (raw (Narrow 𝓤 H A at-mem run .pre (to-narrow r v))) (goes-narrow r v e) $ calls-at ! fm (Narrow 𝓤 H A at-mem run) known-narrow (to-narrow r v) (and-then ! (load ! (from ! (stop !)) (look ! 3 refl)) (no-more !)) (λ u.
         use1 W (later (some (λ (w : Found). (raw (alive 𝓤 H A narrow.signature tt tt) ⊛ ‵ (F.the-row .own w (u ∷ []))) ⊛ raw (narrow.spec 𝓤 H A at-mem run tt (r, tt) .ensures tt w)))) (id⊢ 𝓤 _) $ await ! tt $ pick ! (λ w. split ! $ move ! (1 ∷ []) $
-        use1 W (some (λ (us : Lasts narrow.ended tt (r, tt)). ‵ (lasts narrow.ended tt (r, tt) us) ⊛ raw (fact 𝓤 (foundResult w ≡ findingOf r)))) (id⊢ 𝓤 _) $ pick ! (λ us. split ! $ drop ! $ heard ! (foundResult w ≡ findingOf r) (λ same. split ! $ drop ! $
+        use1 W (some (λ (us : Lasts narrow.ended tt (r, tt)). ‵ (lasts narrow.ended tt (r, tt) us) ⊛ raw (fact 𝓤 (foundResult w ≡ nearlyFullResult r)))) (id⊢ 𝓤 _) $ pick ! (λ us. split ! $ drop ! $ heard ! (foundResult w ≡ nearlyFullResult r) (λ same. split ! $ drop ! $
         -- [what the result owns; the token; the last values; _3; …]
         peeks ! F.the-row (Is F.the-row) (shows 𝓤 H A F.the-row) w (u ∷ []) (λ is′. land ! (from ! (stop !)) (init ! 9 refl (LL.lawful F.the-type F′.the-laws 𝓤 H A W .typed w _ is′ .0)) $
         returns ! (look ! 9 refl) $ forget ! 3 refl $ forget ! 5 refl $ forget ! 7 refl $ forget ! 9 refl $
