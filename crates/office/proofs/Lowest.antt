@@ -19,13 +19,14 @@ use Rattle.office.proofs.Search.{never, NoneBelow, names, names-none, a
 -- ---- the lowest
 
 -- the test as a statement
+both : (u v : Bool) → (u && v) ≡ true → (u ≡ true) × (v ≡ true)
+both true v e = (refl, e)
+both false v e = never (sym e)
+
 above-is : (t : Table) (mark g : ℕ) → g < 32 → aboveMark (sessionAt t g) mark ≡ true → OpenAbove t mark g
-above-is t mark g less = go (sessionAt t g .opened) (ltb mark (sessionAt t g .history .index)) refl refl
-  where
-    go : (u v : Bool) → sessionAt t g .opened ≡ u → ltb mark (sessionAt t g .history .index) ≡ v → (u && v) ≡ true → OpenAbove t mark g
-    go true true e f _ = record { in-table = less; opened = e; above = ltb-true mark (sessionAt t g .history .index) f }
-    go true false e f z = never (sym z)
-    go false v e f z = never (sym z)
+above-is t mark g less e =
+    let w = both (sessionAt t g .opened) _ e in
+    record { in-table = less; opened = w .0; above = ltb-true mark (sessionAt t g .history .index) (w .1) }
 
 is-above : (t : Table) (mark g : ℕ) → OpenAbove t mark g → aboveMark (sessionAt t g) mark ≡ true
 is-above t mark g o = ap₂ _&&_ (o .opened) (lt-ltb mark (sessionAt t g .history .index) (o .above))
