@@ -105,7 +105,7 @@ static void leaks_are_seen(void) {
 
 /* ---- the calls */
 
-/* A group's session stands in a table, and so does the lone one; one more record is for a day over 33. */
+/* A group's session stands in a table, and so does the lone one; one more record is for runs of 33. */
 static pevghazo_record table[PEVGHAZO_GROUPS + 1];
 static pevghazo_sane_session sane;
 static const uint32_t group = 7, allowance = UINT32_MAX;
@@ -279,6 +279,7 @@ static void reveal_run(size_t records) {
     }
 }
 
+/* A day over such a run. */
 static void day(size_t records) {
     hide_run("start of a day", records);
     const uint32_t given = pevghazo_start_day(table, records, allowance);
@@ -288,6 +289,7 @@ static void day(size_t records) {
     reveal_run(records);
 }
 
+/* The nearly-full question of such a run: one group is open, and its index is above a mark of 0 and not above the limit. */
 static void question(size_t records, uint32_t mark) {
     hide_run("nearly-full question", records);
     const pevghazo_found given = pevghazo_nearly_full(table, records, mark);
@@ -300,11 +302,11 @@ static void question(size_t records, uint32_t mark) {
 }
 
 static void runs(void) {
-    static const size_t runs[] = {0, 1, PEVGHAZO_GROUPS - 1, PEVGHAZO_GROUPS, PEVGHAZO_GROUPS + 1};
-    for (size_t i = 0; i < sizeof runs / sizeof runs[0]; i++) {
-        day(runs[i]);
-        question(runs[i], 0);
-        question(runs[i], PEVGHAZO_INDEX_MAX);
+    static const size_t records[] = {0, 1, PEVGHAZO_GROUPS - 1, PEVGHAZO_GROUPS, PEVGHAZO_GROUPS + 1};
+    for (size_t i = 0; i < sizeof records / sizeof records[0]; i++) {
+        day(records[i]);
+        question(records[i], 0);
+        question(records[i], PEVGHAZO_INDEX_MAX);
     }
 }
 
