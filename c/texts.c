@@ -20,6 +20,9 @@ const char *pevghazo_number_text(uint32_t number) {
     case PEVGHAZO_ALLOWANCE: return "The group's allowance for the day does not cover this call.";
     case PEVGHAZO_WRONG_TAG: return "The tag is wrong: the arrival is damaged, repeated, out of order or not meant for this session.";
     case PEVGHAZO_NO_CODE: return "There is no such code: no message was accepted yet, or the packet is above 2,047.";
+    case PEVGHAZO_BAD_LINE: return "This is not an issue line: it must be group,size,first,last,day, as 7,C,12001,12100,20250304, and a line feed.";
+    case PEVGHAZO_POOLED: return "A number of this line is in the pool already, in its size.";
+    case PEVGHAZO_POOL_FULL: return "The pool is full: with this line it would need more than 256 runs.";
     case PEVGHAZO_STORED_LENGTH: return "The stored bytes are too few or too many.";
     case PEVGHAZO_STORED_FLAG: return "The stored bytes hold a flag that is neither 0 nor 1.";
     case PEVGHAZO_STORED_INDEX: return "The stored bytes hold an index above 1,048,576.";

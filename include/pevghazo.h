@@ -1,23 +1,25 @@
-/* Pevghazo: sessions in Xoofff-SANSE and Xoofff-SANE, the office's table of sessions, message envelopes, and codes for packets.
+/* Pevghazo: sessions in Xoofff-SANSE and Xoofff-SANE, the office's table of sessions, message envelopes, codes for packets, and a pool of unused
+ * rings.
  *
  *     pevghazo/session.h    a lone session in SANSE
  *     pevghazo/sane.h       a lone session in SANE, for groups that keep a counter; a nonce must not repeat under one key
  *     pevghazo/table.h      the office's table of 32 sessions, each with its count of the day
  *     pevghazo/envelope.h   the bytes in which a message travels
  *     pevghazo/codes.h      codes for packets of rings
+ *     pevghazo/pool.h       a pool of unused rings, which issue lines bring back
  *     pevghazo/stored.h     a session of either mode as bytes, for storing it
  *     pevghazo/memory.h     setting secrets in memory to zero
  *     pevghazo/numbers.h    the numbers of refusals, with a sentence for each, and limits; the others include it
  *     pevghazo/version.h    the version
  *     pevghazo/language.h   what differs between old C, later C and C++
  *
- * Proved for all bytes are the functions of session.h, sane.h, table.h, envelope.h and codes.h. The others are plain C, which is tested only:
- * pevghazo_store_session, pevghazo_load_session, pevghazo_store_sane_session, pevghazo_load_sane_session, pevghazo_wipe, pevghazo_wipe_stack,
+ * Proved for all bytes are the functions of session.h, sane.h, table.h, envelope.h, codes.h and pool.h. The others are plain C, which is tested
+ * only: pevghazo_store_session, pevghazo_load_session, pevghazo_store_sane_session, pevghazo_load_sane_session, pevghazo_wipe, pevghazo_wipe_stack,
  * pevghazo_number_text and pevghazo_version.
  *
  * Every proved function takes any bytes and returns. Its number is 0 where the call was accepted, and otherwise the number of the first check
- * that it met (PEVGHAZO_* in numbers.h); pevghazo_start_day alone has no number, as it is never refused. A refusal has count 0 and leaves
- * sessions, buffers and the groups' counts as they were, but for two:
+ * that it met (PEVGHAZO_* in numbers.h); pevghazo_start_day, pevghazo_pool_holds and pevghazo_pool_rings have no number, as they are never
+ * refused. A refusal has count 0 and leaves sessions, pools, buffers and the groups' counts as they were, but for two:
  *
  *   - A refused pevghazo_start or pevghazo_sane_start closes the record that it was lent. The session that the record held is lost with all
  *     that it could still seal or open; no call gives it back. Who wants to keep it until the new one has started hands over another record.
@@ -33,8 +35,8 @@
  * In place: a buffer or a record that is written to overlaps no other argument, so a message cannot be wrapped into its own buffer. Hand over
  * a second buffer for the output, copy it back where it is wanted, and pevghazo_wipe the one that held the message.
  *
- * Threads: the library has no globals and allocates nothing, so any number of threads may call it at once. A record, a table and a buffer are
- * used by one call at a time: who shares one between threads takes a lock around the call.
+ * Threads: the library has no globals and allocates nothing, so any number of threads may call it at once. A record, a table, a pool and a buffer
+ * are used by one call at a time: who shares one between threads takes a lock around the call.
  */
 #ifndef PEVGHAZO_H
 #define PEVGHAZO_H
@@ -43,6 +45,7 @@
 #include "pevghazo/envelope.h"
 #include "pevghazo/memory.h"
 #include "pevghazo/numbers.h"
+#include "pevghazo/pool.h"
 #include "pevghazo/sane.h"
 #include "pevghazo/session.h"
 #include "pevghazo/stored.h"

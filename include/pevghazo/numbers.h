@@ -22,7 +22,10 @@ enum {
     PEVGHAZO_INDEX_FULL = 9,     /* the index after the call would exceed 1,048,576 */
     PEVGHAZO_ALLOWANCE = 10,     /* the allowance is smaller than the group's count of the day plus this call's count */
     PEVGHAZO_WRONG_TAG = 11,     /* the tag differs */
-    PEVGHAZO_NO_CODE = 12        /* no message was accepted yet, or the packet is above 2,047 */
+    PEVGHAZO_NO_CODE = 12,       /* no message was accepted yet, or the packet is above 2,047 */
+    PEVGHAZO_BAD_LINE = 13,      /* the bytes are not exactly one issue line */
+    PEVGHAZO_POOLED = 14,        /* a number of the line is pooled already in its size */
+    PEVGHAZO_POOL_FULL = 15      /* the pool would need more than 256 runs after joining */
 };
 
 /* Limits: the groups of a table, the bytes of a tag in SANSE and in SANE, and the most bytes of metadata and of a message. */

@@ -33,6 +33,7 @@
 //! | what is handed over, by name | [`Plain`], [`Arrival`] |
 //! | the bytes in which a sealed message travels | [`envelope`] |
 //! | the code that is printed on a packet of rings | [`Code`] |
+//! | unused rings that groups return as issue lines | [`Pool`], with its [`Run`]s and their [`Size`] |
 //! | a refused call: its number and a plain sentence | [`Refusal`], [`Number`] |
 //! | the C interface itself, on slices | [`raw`] |
 //!
@@ -47,6 +48,7 @@
 
 mod code;
 pub mod envelope;
+mod pool;
 #[allow(unsafe_code)]
 pub mod raw;
 mod record;
@@ -54,16 +56,19 @@ mod refusal;
 mod sane;
 mod secret;
 mod session;
+mod size;
 mod table;
 mod texts;
 
 pub use code::{BadCode, Code};
 pub use envelope::{Envelope, Letter};
+pub use pool::{BadRuns, Pool, Run};
 pub use raw::wipe;
 pub use refusal::{BadBytes, Number, Refusal};
 pub use sane::SaneSession;
 pub use secret::Secret;
 pub use session::Session;
+pub use size::{BadSize, Size};
 pub use table::{Group, Table};
 pub use texts::{Arrival, Opened, Plain, Sealed, Unwrapped, Wrapped};
 
@@ -89,6 +94,12 @@ pub const INDEX_MAX: u32 = 1_048_576;
 pub const CODE_LENGTH: usize = 8;
 /// The highest number of a packet.
 pub const PACKET_MAX: u32 = 2_047;
+/// The most runs of a pool.
+pub const POOL_RUNS: usize = 256;
+/// The highest number of a ring; the lowest is 1.
+pub const RING_MAX: u32 = 99_999_999;
+/// The most bytes of an issue line, its line feed included.
+pub const LINE_MAX: usize = 32;
 
 /// A tag of a [`Session`].
 pub type Tag = [u8; TAG_LENGTH];

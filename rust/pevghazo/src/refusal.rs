@@ -13,6 +13,7 @@ use std::fmt;
 ///     match number {
 ///         BadHeader | TooFewBytes | WrongTag => true,
 ///         BadGroup | BadKey | NotOpen | TooLong | BadTagLength | NoRoom | IndexFull | Allowance | NoCode => false,
+///         BadLine | Pooled | PoolFull => false,
 ///     }
 /// }
 /// ```
@@ -45,11 +46,17 @@ pub enum Number {
     WrongTag = 11,
     /// 12: no message was accepted yet, or the packet is above 2,047.
     NoCode = 12,
+    /// 13: the bytes are not exactly one issue line.
+    BadLine = 13,
+    /// 14: a number of the line is pooled already in its size.
+    Pooled = 14,
+    /// 15: the pool would need more than 256 runs after joining.
+    PoolFull = 15,
 }
 
 impl Number {
     /// All numbers, in their order.
-    pub const ALL: [Number; 12] = [
+    pub const ALL: [Number; 15] = [
         Number::BadHeader,
         Number::TooFewBytes,
         Number::BadGroup,
@@ -62,9 +69,12 @@ impl Number {
         Number::Allowance,
         Number::WrongTag,
         Number::NoCode,
+        Number::BadLine,
+        Number::Pooled,
+        Number::PoolFull,
     ];
 
-    /// The number itself, 1 to 12.
+    /// The number itself, 1 to 15.
     pub const fn number(self) -> u8 {
         self as u8
     }
@@ -86,6 +96,11 @@ impl Number {
                 "The tag is wrong: the arrival is damaged, repeated, out of order or not meant for this session."
             }
             Number::NoCode => "There is no such code: no message was accepted yet, or the packet is above 2,047.",
+            Number::BadLine => {
+                "This is not an issue line: it must be group,size,first,last,day, as 7,C,12001,12100,20250304, and a line feed."
+            }
+            Number::Pooled => "A number of this line is in the pool already, in its size.",
+            Number::PoolFull => "The pool is full: with this line it would need more than 256 runs.",
         }
     }
 }
@@ -96,7 +111,7 @@ impl fmt::Display for Number {
     }
 }
 
-/// A refused call. Sessions, buffers and counts of the day are as they were before it, but for [`Number::WrongTag`]: there the
+/// A refused call. Sessions, pools, buffers and counts of the day are as they were before it, but for [`Number::WrongTag`]: there the
 /// group's count in a table has grown by `count`, and the part of the output buffer that the message would have taken is zero.
 /// That holds of this crate's types; [`raw::start`](crate::raw::start) and [`raw::sane_start`](crate::raw::sane_start) close the record that
 /// they are lent where they are refused.

@@ -7,7 +7,8 @@
 //!   (section 5);
 //! * the Farfalle paper, section 3: the construction that makes a deck function from a permutation;
 //! * the scope document, number 01: limits, counts, what a refusal leaves behind, the envelope and the office's table;
-//! * document 02: the codes for packets; counts, limits and the envelope's letter of SANE; a count of the day for each group.
+//! * document 02: the codes for packets; counts, limits and the envelope's letter of SANE; a count of the day for each group;
+//!   the pool of unused rings.
 //!
 //! # The layers
 //!
@@ -25,6 +26,8 @@
 //! | [`ledger`] | the same sessions kept as key and full history, with the deck function worked out afresh at each call |
 //! | [`envelope`] | the bytes in which a sealed message travels, with a letter for its mode |
 //! | [`table`] | the office's table of 32 sessions, each with its count of the day, under one allowance of permutations |
+//! | [`issue`] | issue lines, as groups return rings |
+//! | [`pool`] | the pool of unused rings |
 //! | [`refusal`] | the numbers under which a call is refused |
 //! | [`random`] | a small deterministic generator of test data |
 //!
@@ -51,8 +54,10 @@ pub mod bits;
 pub mod codes;
 pub mod deck;
 pub mod envelope;
+pub mod issue;
 pub mod ledger;
 pub mod limits;
+pub mod pool;
 pub mod random;
 pub mod refusal;
 pub mod rolling;

@@ -31,6 +31,12 @@ pub enum Number {
     Tag = 11,
     /// 12: the session has accepted no message yet, or the packet is above 2,047.
     NoCode = 12,
+    /// 13: the bytes are not exactly one issue line.
+    Line = 13,
+    /// 14: a number of the line is pooled already in its size.
+    Pooled = 14,
+    /// 15: after joining, the pool would have more than 256 runs.
+    Runs = 15,
 }
 
 impl Number {
@@ -54,6 +60,9 @@ impl Number {
             Number::Allowance => "The group's allowance for the day does not cover this call.",
             Number::Tag => "The tag is wrong: the arrival is damaged, repeated, out of order or not for this session.",
             Number::NoCode => "There is no code: no message was accepted yet, or the packet is above 2,047.",
+            Number::Line => "The bytes are not exactly one issue line.",
+            Number::Pooled => "A number of the line is pooled already.",
+            Number::Runs => "The pool would have more than 256 runs.",
         }
     }
 }

@@ -1,12 +1,13 @@
 //! The calls of `include/pevghazo.h`, one to one, on slices. All of the crate's `unsafe` is in this folder, whose files are
 //! those of the header.
 //!
-//! Programs use [`Session`](crate::Session), [`SaneSession`](crate::SaneSession) and [`Table`](crate::Table). What is here answers
-//! with the library's own numbers and takes tags and tables of any length, which the tests need.
+//! Programs use [`Session`](crate::Session), [`SaneSession`](crate::SaneSession), [`Table`](crate::Table) and
+//! [`Pool`](crate::Pool). What is here answers with the library's own numbers and takes tags and tables of any length, and pools of
+//! any content, which the tests need.
 //!
 //! Each call hands over the pointers and lengths of slices and references, so they are not null and hold what the types say;
 //! an altered one is borrowed alone, so it overlaps no other. That is all that the header asks for. After a call on records
-//! the stack that it used is overwritten.
+//! of sessions the stack that it used is overwritten.
 //!
 //! The answers' numbers must not be ignored:
 //!
@@ -22,6 +23,7 @@ use std::sync::atomic::{Ordering, compiler_fence};
 
 mod codes;
 mod envelope;
+mod pool;
 mod sane;
 mod session;
 mod stack;
@@ -29,6 +31,7 @@ mod table;
 
 pub use codes::code;
 pub use envelope::{Parts, Written, read_envelope, write_envelope};
+pub use pool::{PoolRecord, RunRecord, pool_add, pool_holds, pool_rings};
 pub use sane::{SaneRecord, sane_start, sane_unwrap, sane_wrap};
 pub use session::{Answer, Record, start, unwrap, wrap};
 pub(crate) use stack::clear_stack;
