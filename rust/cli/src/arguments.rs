@@ -1,6 +1,6 @@
 //! The words and options of a command line, checked against the table of commands.
 //!
-//! A command line is some words, as `office seal`, and options, as `--group 4` or `--group=4`, in any order.
+//! A command line is some words, as `office seal` or `pool find C 12001`, and options, as `--group 4` or `--group=4`, in any order.
 
 use std::ffi::{OsStr, OsString};
 use std::ops::RangeInclusive;
@@ -10,7 +10,7 @@ use std::str::FromStr;
 use crate::completions;
 use crate::failure::Failure;
 use crate::help;
-use crate::table::{self, COMMON, Command, ENDS, Id, Opt, Value};
+use crate::table::{self, AREAS, COMMON, Command, Id, Opt, Value};
 
 /// What a command line asks for.
 #[derive(Debug)]
@@ -21,9 +21,12 @@ pub enum Request {
     Run(&'static Command, Arguments),
 }
 
-/// The options of a command line, each at most once.
+/// The options of a command line, each at most once, and the words after those of the command, with their names.
 #[derive(Debug, Default)]
-pub struct Arguments(Given);
+pub struct Arguments {
+    given: Given,
+    operands: Vec<(&'static str, String)>,
+}
 
 /// Options as they were given.
 type Given = Vec<(&'static Opt, OsString)>;
@@ -31,7 +34,15 @@ type Given = Vec<(&'static Opt, OsString)>;
 impl Arguments {
     /// An option's value, if it was given.
     pub fn value(&self, name: &str) -> Option<&OsStr> {
-        self.0.iter().find(|(known, _)| known.name == name).map(|(_, value)| value.as_os_str())
+        self.given.iter().find(|(known, _)| known.name == name).map(|(_, value)| value.as_os_str())
+    }
+
+    /// The word with this name after those of the command.
+    pub fn operand(&self, name: &str) -> Result<&str, Failure> {
+        let found = self.operands.iter().find(|(known, _)| *known == name);
+        found
+            .map(|(_, word)| word.as_str())
+            .ok_or_else(|| Failure::Usage(format!("The word {name} is missing: see --help.")))
     }
 
     /// Whether an option was given.
@@ -64,7 +75,7 @@ impl Arguments {
 
     /// The highest number with a meaning that an option takes.
     fn highest(&self, name: &str) -> u64 {
-        match self.0.iter().find(|(known, _)| known.name == name).map(|(option, _)| option.value) {
+        match self.given.iter().find(|(known, _)| known.name == name).map(|(option, _)| option.value) {
             Some(Value::Number(_, highest) | Value::Range(_, highest)) => u64::from(highest),
             _ => u64::MAX,
         }
@@ -102,7 +113,7 @@ impl Arguments {
 }
 
 /// A number in digits, of as many bits as its type has.
-fn digits<T: FromStr>(text: &str) -> Option<T> {
+pub fn digits<T: FromStr>(text: &str) -> Option<T> {
     text.bytes().all(|byte| byte.is_ascii_digit()).then(|| text.parse().ok()).flatten()
 }
 
@@ -117,33 +128,39 @@ pub fn parse(tokens: impl IntoIterator<Item = OsString>) -> Result<Request, Fail
         ["help", ref topic @ ..] if !topic.is_empty() && given.is_empty() => return help_on(topic),
         _ => {}
     }
-    let (end, command) = command_of(&words).map_err(|word| unknown_word(word, &given))?;
+    let (area, command, operands) = command_of(&words).map_err(|word| unknown_word(word, &given))?;
     match command {
-        _ if has("help") => Ok(Request::Print(command.map_or_else(|| help::list(end), help::command))),
+        _ if has("help") => Ok(Request::Print(command.map_or_else(|| help::list(area), help::command))),
         None if has("version") => Ok(Request::Print(help::version())),
-        None => Err(Failure::Usage(format!("Which command?\n\n{}", help::list(end).trim_end()))),
+        None => Err(Failure::Usage(format!("Which command?\n\n{}", help::list(area).trim_end()))),
         Some(command) => {
-            let arguments = check(command, given)?;
+            let arguments = check(command, given, operands)?;
             Ok(if command.id == Id::Help { Request::Print(help::list("")) } else { Request::Run(command, arguments) })
         }
     }
 }
 
-/// The help text on a command, or on an end's commands.
+/// The help text on a command, or on all that are about one thing.
 fn help_on(topic: &[&str]) -> Result<Request, Failure> {
-    let (end, command) = command_of(topic).map_err(|word| unknown_word(word, &[]))?;
-    Ok(Request::Print(command.map_or_else(|| help::list(end), help::command)))
+    let (area, command, operands) = command_of(topic).map_err(|word| unknown_word(word, &[]))?;
+    if let Some(word) = operands.first() {
+        return Err(unknown_word(word, &[]));
+    }
+    Ok(Request::Print(command.map_or_else(|| help::list(area), help::command)))
 }
 
-/// The end, or nothing, and the command of some words; or the first word that fits nowhere.
-fn command_of<'a>(words: &[&'a str]) -> Result<(&'a str, Option<&'static Command>), &'a str> {
-    let (end, rest) = match words {
-        [end, rest @ ..] if ENDS.contains(end) => (*end, rest),
+/// What some words are about, or nothing; their command; and the words after it.
+type Found<'w, 'a> = (&'a str, Option<&'static Command>, &'w [&'a str]);
+
+/// What is found in some words; or the first word that fits nowhere.
+fn command_of<'w, 'a>(words: &'w [&'a str]) -> Result<Found<'w, 'a>, &'a str> {
+    let (area, rest) = match words {
+        [area, rest @ ..] if AREAS.contains(area) => (*area, rest),
         words => ("", words),
     };
-    let [name, extra @ ..] = rest else { return Ok((end, None)) };
-    let command = table::find(end, name).ok_or(*name)?;
-    extra.first().map_or(Ok((end, Some(command))), |word| Err(word))
+    let [name, operands @ ..] = rest else { return Ok((area, None, &[])) };
+    let command = table::find(area, name).ok_or(*name)?;
+    operands.get(command.operands().count()).map_or(Ok((area, Some(command), operands)), |word| Err(word))
 }
 
 /// A word that fits nowhere. It may be a part of a text, where one was given.
@@ -207,8 +224,8 @@ fn long(option: &[u8], tokens: &mut impl Iterator<Item = OsString>) -> Result<(&
     Ok((known, value))
 }
 
-/// Checks that all options are the command's own, that none is missing, and that each value is what its option takes.
-fn check(command: &'static Command, given: Given) -> Result<Arguments, Failure> {
+/// Checks that all options are the command's own, that none is missing, nor a word, and that each value is what its option takes.
+fn check(command: &'static Command, given: Given, operands: &[&str]) -> Result<Arguments, Failure> {
     let mut own = Given::new();
     for (option, value) in given {
         let name = option.name;
@@ -217,7 +234,11 @@ fn check(command: &'static Command, given: Given) -> Result<Arguments, Failure> 
         };
         own.push((option, value));
     }
-    let arguments = Arguments(own);
+    let operands = command.operands().zip(operands.iter().map(|word| word.to_string())).collect();
+    let arguments = Arguments { given: own, operands };
+    for name in command.operands() {
+        arguments.operand(name)?;
+    }
     for option in command.options {
         if option.required {
             arguments.required(option.name)?;

@@ -4,7 +4,7 @@
 use std::fmt::Write;
 
 use crate::failure::Failure;
-use crate::table::{ABOUT_ENDS, COMMANDS, COMMON, Command, ENDS, Opt, Value};
+use crate::table::{ABOUT_AREAS, AREAS, COMMANDS, COMMON, Command, Opt, Value};
 
 /// The shells.
 pub const SHELLS: [&str; 3] = ["bash", "zsh", "fish"];
@@ -28,15 +28,15 @@ pub fn unknown() -> Failure {
     ))
 }
 
-/// The words that may come first: the ends, and the commands of neither.
+/// The words that may come first: what commands are about, and the commands that have no such word.
 fn first_words() -> impl Iterator<Item = (&'static str, String)> {
-    let ends = ENDS.into_iter().zip(ABOUT_ENDS.map(str::to_string));
-    ends.chain(of_end("").map(|command| (command.name, command.about.to_string())))
+    let areas = AREAS.into_iter().zip(ABOUT_AREAS.map(str::to_string));
+    areas.chain(of_area("").map(|command| (command.name, command.about.to_string())))
 }
 
-/// The commands of an end, or of neither.
-fn of_end(end: &str) -> impl Iterator<Item = &'static Command> {
-    COMMANDS.iter().filter(move |command| command.end == end)
+/// The commands about one thing, or those that have no such word.
+fn of_area(area: &str) -> impl Iterator<Item = &'static Command> {
+    COMMANDS.iter().filter(move |command| command.area == area)
 }
 
 /// The options of a command, and `--help`, which every command has.
@@ -78,7 +78,7 @@ fn bash() -> String {
     let mut text = String::from(
         "# Completions of pevghazo for bash; `pevghazo completions bash` prints them.\n\
          _pevghazo() {\n    \
-             local word before prefix='' help='' end='' name='' i skip=''\n    \
+             local word before prefix='' help='' area='' name='' i skip=''\n    \
              COMPREPLY=()\n    \
              # `--name=value` comes as three words where `=` is a word break, and as one where it is not.\n    \
              local -a all=()\n    \
@@ -101,9 +101,9 @@ fn bash() -> String {
     );
     let _ = writeln!(text, "{}) skip=1 ;;", with_value(|value| value != Value::None));
     text.push_str("            -*) ;;\n");
-    let _ = writeln!(text, "            {}) [[ -z $end$name ]] && end=$i || name=$i ;;", ENDS.join("|"));
-    text.push_str("            help) [[ -z $help$end$name ]] && help=1 || name=$i ;;\n");
-    text.push_str("            *) name=$i ;;\n        esac\n    done\n    case $before in\n");
+    let _ = writeln!(text, "            {}) [[ -z $area$name ]] && area=$i || name=${{name:-$i}} ;;", AREAS.join("|"));
+    text.push_str("            help) [[ -z $help$area$name ]] && help=1 || name=${name:-$i} ;;\n");
+    text.push_str("            *) name=${name:-$i} ;;\n        esac\n    done\n    case $before in\n");
     let _ = writeln!(
         text,
         "        {}) compopt -o filenames; mapfile -t COMPREPLY < <(compgen -P \"$prefix\" -f -- \"$word\"); return ;;",
@@ -120,19 +120,19 @@ fn bash() -> String {
         "        {}) return ;;\n    esac\n    local words",
         with_value(|value| !matches!(value, Value::None | Value::File | Value::Word(_)))
     );
-    text.push_str("    [[ -n $help && -n $name ]] && return\n    case \"$end $name\" in\n");
+    text.push_str("    [[ -n $help && -n $name ]] && return\n    case \"$area $name\" in\n");
     let _ = writeln!(
         text,
         "        ' ') words='{} --help --version' ;;",
         joined(first_words().map(|(word, _)| word.to_string()))
     );
-    for end in ENDS {
-        let names = joined(of_end(end).map(|command| command.name.to_string()));
-        let _ = writeln!(text, "        '{end} ') words='{names} --help' ;;");
+    for area in AREAS {
+        let names = joined(of_area(area).map(|command| command.name.to_string()));
+        let _ = writeln!(text, "        '{area} ') words='{names} --help' ;;");
     }
     for command in COMMANDS {
         let options = joined(all_options(command).map(|option| format!("--{}", option.name)));
-        let _ = writeln!(text, "        '{} {}') words='{options}' ;;", command.end, command.name);
+        let _ = writeln!(text, "        '{} {}') words='{options}' ;;", command.area, command.name);
     }
     text.push_str(
         "        *) words='' ;;\n    esac\n    [[ -n $help ]] && words=${words%% --*}\n    mapfile -t COMPREPLY < <(compgen -W \"$words\" -- \"$word\")\n}\n\
@@ -173,25 +173,25 @@ fn zsh_words(text: &mut String, label: &str, words: impl Iterator<Item = (&'stat
 fn zsh() -> String {
     let mut text = String::from(
         "#compdef pevghazo\n# Completions of pevghazo for zsh; `pevghazo completions zsh` prints them.\n\
-         _pevghazo() {\n    local -a words_of\n    local help='' end='' name='' word skip=''\n    \
+         _pevghazo() {\n    local -a words_of\n    local help='' area='' name='' word skip=''\n    \
          for word in ${words[2,CURRENT-1]}; do\n        \
          if [[ -n $skip ]]; then skip=''; continue; fi\n        case $word in\n",
     );
     let _ = writeln!(text, "            {}) skip=1 ;;\n            -*) ;;", with_value(|value| value != Value::None));
-    let _ = writeln!(text, "            {}) [[ -z $end$name ]] && end=$word ;;", ENDS.join("|"));
+    let _ = writeln!(text, "            {}) [[ -z $area$name ]] && area=$word ;;", AREAS.join("|"));
     text.push_str(
-        "            help) [[ -z $help$end$name ]] && help=1 || name=$word ;;\n            \
+        "            help) [[ -z $help$area$name ]] && help=1 || name=$word ;;\n            \
          *) [[ -z $name ]] && name=$word ;;\n        esac\n    done\n    \
-         [[ -n $help && -n $name ]] && return\n    case \"$end $name\" in\n        ' ') ",
+         [[ -n $help && -n $name ]] && return\n    case \"$area $name\" in\n        ' ') ",
     );
     zsh_words(&mut text, "command", first_words());
-    for end in ENDS {
-        let _ = write!(text, "        '{end} ') ");
-        zsh_words(&mut text, "command", of_end(end).map(|command| (command.name, command.about.to_string())));
+    for area in AREAS {
+        let _ = write!(text, "        '{area} ') ");
+        zsh_words(&mut text, "command", of_area(area).map(|command| (command.name, command.about.to_string())));
     }
     for command in COMMANDS {
         let options = joined(all_options(command).map(zsh_option));
-        let _ = writeln!(text, "        '{} {}') _arguments '*: :' {options} ;;", command.end, command.name);
+        let _ = writeln!(text, "        '{} {}') _arguments '*: :' {options} ;;", command.area, command.name);
     }
     text.push_str("    esac\n}\n_pevghazo \"$@\"\n");
     text
@@ -206,27 +206,27 @@ fn fish() -> String {
     let mut text = String::from(
         "# Completions of pevghazo for fish; `pevghazo completions fish` prints them.\ncomplete -c pevghazo -f\n",
     );
-    let ends = ENDS.join(" ");
-    let lone: Vec<&str> = of_end("").map(|command| command.name).collect();
+    let areas = AREAS.join(" ");
+    let lone: Vec<&str> = of_area("").map(|command| command.name).collect();
     // After `help` the words of a command follow.
-    let none_yet = lone.iter().filter(|name| **name != "help").fold(ends, |all, name| all + " " + name);
+    let none_yet = lone.iter().filter(|name| **name != "help").fold(areas, |all, name| all + " " + name);
     let none_yet = format!("not __fish_seen_subcommand_from {none_yet}");
     for (word, about) in first_words() {
         let _ = writeln!(text, "complete -c pevghazo -n '{none_yet}' -a {word} -d '{}'", fish_text(&about));
     }
     for command in COMMANDS {
-        let seen = if command.end.is_empty() {
+        let seen = if command.area.is_empty() {
             format!("__fish_seen_subcommand_from {}", command.name)
         } else {
-            let names = joined(of_end(command.end).map(|command| command.name.to_string()));
-            let end = format!("__fish_seen_subcommand_from {}", command.end);
+            let names = joined(of_area(command.area).map(|command| command.name.to_string()));
+            let area = format!("__fish_seen_subcommand_from {}", command.area);
             let _ = writeln!(
                 text,
-                "complete -c pevghazo -n '{end}; and not __fish_seen_subcommand_from {names}' -a {} -d '{}'",
+                "complete -c pevghazo -n '{area}; and not __fish_seen_subcommand_from {names}' -a {} -d '{}'",
                 command.name,
                 fish_text(command.about)
             );
-            format!("{end}; and __fish_seen_subcommand_from {}", command.name)
+            format!("{area}; and __fish_seen_subcommand_from {}", command.name)
         };
         let seen = format!("{seen}; and not __fish_seen_subcommand_from help");
         for option in command.options {

@@ -6,7 +6,7 @@ use pevghazo_store::Secret;
 use crate::arguments::Arguments;
 use crate::failure::Failure;
 use crate::state::{Group, Kept, Lone, Mode, Office, State};
-use crate::table::ENDS;
+use crate::table::AREAS;
 
 /// An end of sessions: the office with its table, or an end with one session.
 pub trait End: State {
@@ -39,7 +39,7 @@ pub trait Codes: End {
 }
 
 impl End for Office {
-    const NAME: &'static str = ENDS[0];
+    const NAME: &'static str = AREAS[0];
     const LETTER: Letter = Letter::S;
 
     fn group(&self, arguments: &Arguments) -> Result<u32, Failure> {

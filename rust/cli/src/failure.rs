@@ -3,7 +3,7 @@
 use std::path::{Path, PathBuf};
 use std::{fmt, io};
 
-use pevghazo::{Group, Letter, Number, Refusal};
+use pevghazo::{Group, Letter, Number, Refusal, Size};
 use pevghazo_store::{self as store, shown};
 
 use crate::state::Bad;
@@ -15,6 +15,8 @@ pub enum Failure {
     Usage(String),
     /// The state file could not be used.
     State(store::Error),
+    /// The state file is an older copy; and what is to be said of one of its kind.
+    Older(store::Error, &'static str),
     /// The state file is whole, but it does not hold what the command needs.
     Content {
         /// The state file.
@@ -81,6 +83,26 @@ pub enum Failure {
         /// The index that the session stands at.
         index: u32,
     },
+    /// A ring is not in the pool.
+    NotPooled {
+        /// Its size.
+        size: Size,
+        /// Its number.
+        number: u32,
+    },
+    /// Issue lines were refused.
+    Lines {
+        /// The first refusal.
+        refusal: Refusal,
+        /// The number of its line.
+        line: u64,
+        /// How many lines were refused.
+        refused: u64,
+        /// How many were added to the pool.
+        added: u64,
+    },
+    /// Lines were added to a pool, but this could not be printed.
+    Added(Box<Failure>),
     /// The proved library refused the call, which was one of this letter's mode.
     Refused(Refusal, Letter),
     /// The library refused the call, as the group's allowance of the day does not cover it.
@@ -126,7 +148,7 @@ impl Failure {
         match self {
             Failure::Demo(_) => 1,
             Failure::Usage(_) => 2,
-            Failure::State(store::Error::Older { .. }) => 8,
+            Failure::Older(..) => 8,
             Failure::State(_)
             | Failure::Content { .. }
             | Failure::Lost(_)
@@ -141,9 +163,11 @@ impl Failure {
             Failure::NotNow(_) => 5,
             Failure::OtherGroup { .. } | Failure::OtherLetter(_) => 6,
             Failure::UsedKey | Failure::UsedNonce | Failure::UsedCounter { .. } => 7,
-            Failure::Mismatch { .. } | Failure::OtherTag => 9,
-            Failure::Refused(refusal, _) | Failure::Spent { refusal, .. } => 10 + refusal.number.number(),
-            Failure::Kept { source, .. } => source.status(),
+            Failure::Mismatch { .. } | Failure::OtherTag | Failure::NotPooled { .. } => 9,
+            Failure::Refused(refusal, _) | Failure::Spent { refusal, .. } | Failure::Lines { refusal, .. } => {
+                10 + refusal.number.number()
+            }
+            Failure::Kept { source, .. } | Failure::Added(source) => source.status(),
         }
     }
 }
@@ -164,7 +188,7 @@ impl fmt::Display for Failure {
     fn fmt(&self, f: &mut fmt::Formatter<'_>) -> fmt::Result {
         match self {
             Failure::Usage(sentence) | Failure::NotNow(sentence) => f.write_str(sentence),
-            Failure::State(error @ store::Error::Older { .. }) => write!(f, "{error} {OLDER}"),
+            Failure::Older(error, means) => write!(f, "{error} {means}"),
             Failure::State(error) => error.fmt(f),
             Failure::Content { path, bad } => write!(f, "The state file {} cannot be used: {bad}.", shown(path)),
             Failure::Lost(path) => write!(f, "The state file {} was here before, and is lost. {LOST}", shown(path)),
@@ -193,6 +217,11 @@ impl fmt::Display for Failure {
             Failure::UsedCounter { counter, last } => used_counter(f, *counter, *last),
             Failure::OtherTag => f.write_str(OTHER_TAG),
             Failure::Mismatch { group, packet, index } => mismatch(f, *group, *packet, *index),
+            Failure::NotPooled { size, number } => write!(f, "The ring {size} {number} is not in the pool."),
+            Failure::Lines { refusal, line, refused, added } => lines(f, refusal, *line, *refused, *added),
+            Failure::Added(source) => {
+                write!(f, "{source} The lines were added all the same: `pool show` shows the pool.")
+            }
             Failure::Refused(refusal, letter) => refused(f, refusal, *letter),
             Failure::Spent { refusal, group, allowance } => spent(f, refusal, group, *allowance),
             Failure::NotCounted(refusal, error) => {
@@ -211,11 +240,6 @@ impl fmt::Display for Failure {
         }
     }
 }
-
-/// What is said of an older copy besides that it is one.
-const OLDER: &str = "\
-What is sealed from it takes the place of what was sealed since, and in SANE also shares its keystream: replace its sessions \
-under new keys. `--restore` takes it all the same, which is right only if nothing was sealed or opened since the copy was made.";
 
 /// What is said of a key that was used before.
 const USED_KEY: &str = "\
@@ -291,6 +315,13 @@ fn spent(f: &mut fmt::Formatter<'_>, refusal: &Refusal, group: &Group, allowance
         " Group {group} has spent {count} of {allowance} permutations on this day, and the call needs more than the \
          remaining {left}. The other groups have counts of their own, and the next `pevghazo office day` sets all to 0."
     )
+}
+
+/// The sentences of issue lines that were refused.
+fn lines(f: &mut fmt::Formatter<'_>, refusal: &Refusal, line: u64, refused: u64, added: u64) -> fmt::Result {
+    let Refusal { number, .. } = refusal;
+    write!(f, "Refused, number {}, at line {line}: {}", number.number(), number.sentence())?;
+    write!(f, " Lines refused: {refused}. Lines added: {added}.")
 }
 
 /// The sentences of a code that does not match.

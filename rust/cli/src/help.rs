@@ -9,10 +9,10 @@ pub fn version() -> String {
     format!("pevghazo {}\n", env!("CARGO_PKG_VERSION"))
 }
 
-/// The list of all commands, or of those of one end.
-pub fn list(end: &str) -> String {
+/// The list of all commands, or of those about one thing.
+pub fn list(area: &str) -> String {
     let mut text = String::from("pevghazo: sealing of ring numbers, for the office and its groups\n\n");
-    for command in COMMANDS.iter().filter(|command| end.is_empty() || command.end == end) {
+    for command in COMMANDS.iter().filter(|command| area.is_empty() || command.area == area) {
         line(&mut text, &command.title(), command.about, 28);
     }
     text.push('\n');
@@ -24,8 +24,8 @@ pub fn list(end: &str) -> String {
     text.push_str(
         "\nExit status: 0 done; 2 command line; 3 state file; 4 input or output; 5 not now; 6 another group's or mode's;\n",
     );
-    text.push_str("7 key or nonce used before; 8 state file is an older copy; 9 code or tag does not match;\n");
-    text.push_str("11 to 22 refused, 10 and the refusal's number.\n");
+    text.push_str("7 key or nonce used before; 8 state file is an older copy; 9 code or tag does not match, or ring not pooled;\n");
+    text.push_str("11 to 25 refused, 10 and the refusal's number.\n");
     text.push_str("`man pevghazo` is the manual.\n");
     text
 }

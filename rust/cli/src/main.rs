@@ -1,9 +1,10 @@
-//! The command line `pevghazo`: sealing for the office and for its groups, with the sessions in a state file.
+//! The command line `pevghazo`: sealing for the office and for its groups, with the sessions in a state file, and a pool of unused
+//! rings in another.
 //!
 //! Every command that alters a session works in the same order: read all inputs, open and lock the state file, make the call of
 //! the proved library, commit the new state together with what belongs to it (the envelope, or the opened message), and only
 //! then hand that out. A kill at any moment leaves the state before or after the call, and what was not handed out is still in
-//! it. `docs/COMMANDS.md` is the manual.
+//! it. A pool's state is committed once for all lines of an input. `docs/COMMANDS.md` is the manual.
 //!
 //! | module | what it holds |
 //! |---|---|
@@ -13,6 +14,7 @@
 //! | [`commands`] | what each command does |
 //! | [`end`] | the ends of sessions, and their sealing, opening and codes by the proved library |
 //! | [`labels`] | the codes of packets as lines, as a table and as a page to print |
+//! | [`lines`], [`progress`] | the lines of a long input, and how far it was read, for a terminal |
 //! | [`state`] | what a state file holds, and its bytes |
 //! | [`keys`] | the keys that were used in a state file, and their fingerprints |
 //! | [`starts`] | the nonces that were used in the state file of a session in SANE, under each key |
@@ -32,7 +34,9 @@ mod help;
 mod input;
 mod keys;
 mod labels;
+mod lines;
 mod output;
+mod progress;
 mod starts;
 mod state;
 mod state_file;

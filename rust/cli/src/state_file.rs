@@ -23,7 +23,10 @@ pub struct Used<S> {
 impl<S: State> Used<S> {
     /// Opens the state file of the option `--state`.
     pub fn open(arguments: &Arguments) -> Result<Used<S>, Failure> {
-        let store = open(arguments, Presence::MustExist)?;
+        let store = open(arguments, Presence::MustExist).map_err(|failure| match failure {
+            Failure::State(error @ Error::Older { .. }) => Failure::Older(error, S::OLDER),
+            failure => failure,
+        })?;
         let bytes = store.bytes().unwrap_or_default();
         let content = |bad| Failure::Content { path: store.path().to_path_buf(), bad };
         let state = S::decode(bytes).map_err(content)?;

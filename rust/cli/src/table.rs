@@ -5,12 +5,17 @@ use std::fmt;
 
 use pevghazo::PACKET_MAX;
 
-/// The ends of sessions, whose commands start with these words. Either end of a session in SANE has the last.
-pub const ENDS: [&str; 3] = ["office", "group", "sane"];
+/// What commands are about, whose first words these are: the ends of sessions, of which either end of one in SANE has the third; and the
+/// pool.
+pub const AREAS: [&str; 4] = ["office", "group", "sane", "pool"];
 
 /// What the commands of each are.
-pub const ABOUT_ENDS: [&str; 3] =
-    ["the commands of the office", "the commands of a group", "the commands of a session in SANE, at either end"];
+pub const ABOUT_AREAS: [&str; 4] = [
+    "the commands of the office",
+    "the commands of a group",
+    "the commands of a session in SANE, at either end",
+    "the commands of a pool of unused rings",
+];
 
 /// How codes may be given.
 pub const FORMATS: [&str; 3] = ["text", "csv", "html"];
@@ -20,11 +25,11 @@ pub const FORMATS: [&str; 3] = ["text", "csv", "html"];
 pub struct Command {
     /// Which one it is.
     pub id: Id,
-    /// The end that it is for, or nothing.
-    pub end: &'static str,
+    /// What it is about, or nothing.
+    pub area: &'static str,
     /// Its name.
     pub name: &'static str,
-    /// The words that may follow, or nothing.
+    /// The words that may follow, or nothing; those in capitals alone must.
     pub words: &'static str,
     /// What it does, in a few words.
     pub about: &'static str,
@@ -66,16 +71,25 @@ pub enum Id {
     SaneReread,
     SaneForget,
     SaneShow,
+    PoolCreate,
+    PoolAdd,
+    PoolShow,
+    PoolFind,
     Keygen,
     Demo,
     Help,
 }
 
 impl Command {
-    /// The words of the command: its end, if it has one, and its name.
+    /// The words of the command: what it is about, if anything, and its name.
     pub fn path(&self) -> String {
-        let space = if self.end.is_empty() { "" } else { " " };
-        format!("{}{space}{}", self.end, self.name)
+        let space = if self.area.is_empty() { "" } else { " " };
+        format!("{}{space}{}", self.area, self.name)
+    }
+
+    /// The names of the words that must follow.
+    pub fn operands(&self) -> impl Iterator<Item = &'static str> {
+        self.words.split(' ').filter(|word| !word.is_empty() && word.bytes().all(|byte| byte.is_ascii_uppercase()))
     }
 
     /// The command as it is typed.
@@ -85,8 +99,8 @@ impl Command {
 }
 
 /// The command of these words.
-pub fn find(end: &str, name: &str) -> Option<&'static Command> {
-    COMMANDS.iter().find(|command| command.end == end && command.name == name)
+pub fn find(area: &str, name: &str) -> Option<&'static Command> {
+    COMMANDS.iter().find(|command| command.area == area && command.name == name)
 }
 
 /// An option of a command.
@@ -206,6 +220,10 @@ const CODES_OUT: Opt = optional("out", Value::File, "where the codes go; the sta
 const PACKET: Opt = required("packet", Value::Number("P", PACKET_MAX), "the packet, 0 to 2047");
 const CODE: Opt = required("code", Value::Text("TEXT"), "the code that was read off the packet");
 const JSON: Opt = flag("json", "as JSON, for scripts");
+const LINES: Opt = required("in", Value::File, "the file with issue lines, any number of them");
+const ALL_OR_NONE: Opt = flag("all-or-none", "add nothing if a line is refused");
+const RUNS: Opt = flag("runs", "the runs alone, one on each line");
+const CSV: Opt = flag("csv", "as a table with commas, for spreadsheets and scripts");
 const KEY_OUT: Opt = required("out", Value::File, "where the key goes");
 
 const NEW_KEY: &str = "\
@@ -239,11 +257,22 @@ const CODE_CHECKED: &str = "\
 Prints `match`, or `mismatch` with status 9. The code's 16 digits may be in either case, and between the groups of four may
 be hyphens, or spaces, if the whole is in quotes. A code of the session before its last message is a mismatch.";
 
+const POOLED: &str = "\
+An issue line is `group,size,first,last,day` and a line feed, as 7,C,12001,12100,20250304. All lines are tried in their order, and
+those that are accepted are committed together at the end; with `--all-or-none` only if no line is refused. Prints each refused
+line's place with number and reason, then what was added. The status is that of the first refusal, 10 and its number: 23 this is
+not a line, 24 a number of it is in the pool already, 25 the pool would need more than 256 runs.";
+const SHOWN: &str = "\
+Prints the runs and rings of each size, and then the runs. A table with commas has the sizes, or with `--runs` the runs.";
+const FOUND: &str = "\
+SIZE is a letter, A to H, and NUMBER is 1 to 99999999. Prints `pooled` with the run that the ring is in, or `not pooled` with
+status 9.";
+
 /// All commands.
 pub const COMMANDS: &[Command] = &[
     Command {
         id: Id::OfficeCreate,
-        end: "office",
+        area: "office",
         name: "create",
         words: "",
         about: "create the office's state file: 32 closed groups",
@@ -252,7 +281,7 @@ pub const COMMANDS: &[Command] = &[
     },
     Command {
         id: Id::OfficeDay,
-        end: "office",
+        area: "office",
         name: "day",
         words: "",
         about: "begin a day with an allowance for each group",
@@ -261,7 +290,7 @@ pub const COMMANDS: &[Command] = &[
     },
     Command {
         id: Id::OfficeOpenGroup,
-        end: "office",
+        area: "office",
         name: "open-group",
         words: "",
         about: "open a group from a key file",
@@ -270,7 +299,7 @@ pub const COMMANDS: &[Command] = &[
     },
     Command {
         id: Id::OfficeSeal,
-        end: "office",
+        area: "office",
         name: "seal",
         words: "",
         about: "seal a message for a group into an envelope",
@@ -279,7 +308,7 @@ pub const COMMANDS: &[Command] = &[
     },
     Command {
         id: Id::OfficeOpen,
-        end: "office",
+        area: "office",
         name: "open",
         words: "",
         about: "open an envelope that arrived from a group",
@@ -288,7 +317,7 @@ pub const COMMANDS: &[Command] = &[
     },
     Command {
         id: Id::OfficeResend,
-        end: "office",
+        area: "office",
         name: "resend",
         words: "",
         about: "hand out a group's last envelope again",
@@ -297,7 +326,7 @@ pub const COMMANDS: &[Command] = &[
     },
     Command {
         id: Id::OfficeReread,
-        end: "office",
+        area: "office",
         name: "reread",
         words: "",
         about: "hand out a group's last message again",
@@ -306,7 +335,7 @@ pub const COMMANDS: &[Command] = &[
     },
     Command {
         id: Id::OfficeForget,
-        end: "office",
+        area: "office",
         name: "forget",
         words: "",
         about: "remove a group's last message from the state file",
@@ -315,7 +344,7 @@ pub const COMMANDS: &[Command] = &[
     },
     Command {
         id: Id::OfficeNearlyFull,
-        end: "office",
+        area: "office",
         name: "nearly-full",
         words: "",
         about: "name the lowest group whose index is above a mark",
@@ -324,7 +353,7 @@ pub const COMMANDS: &[Command] = &[
     },
     Command {
         id: Id::OfficeCodes,
-        end: "office",
+        area: "office",
         name: "codes",
         words: "",
         about: "list the codes of a group's packets",
@@ -333,7 +362,7 @@ pub const COMMANDS: &[Command] = &[
     },
     Command {
         id: Id::OfficeCheckCode,
-        end: "office",
+        area: "office",
         name: "check-code",
         words: "",
         about: "check a code that was read off a packet",
@@ -342,7 +371,7 @@ pub const COMMANDS: &[Command] = &[
     },
     Command {
         id: Id::OfficeShow,
-        end: "office",
+        area: "office",
         name: "show",
         words: "",
         about: "show the allowance, and the groups with their counts",
@@ -351,7 +380,7 @@ pub const COMMANDS: &[Command] = &[
     },
     Command {
         id: Id::GroupStart,
-        end: "group",
+        area: "group",
         name: "start",
         words: "",
         about: "start the group's session and its state file",
@@ -360,7 +389,7 @@ pub const COMMANDS: &[Command] = &[
     },
     Command {
         id: Id::GroupSeal,
-        end: "group",
+        area: "group",
         name: "seal",
         words: "",
         about: "seal a message for the office into an envelope",
@@ -369,7 +398,7 @@ pub const COMMANDS: &[Command] = &[
     },
     Command {
         id: Id::GroupOpen,
-        end: "group",
+        area: "group",
         name: "open",
         words: "",
         about: "open an envelope that arrived from the office",
@@ -378,7 +407,7 @@ pub const COMMANDS: &[Command] = &[
     },
     Command {
         id: Id::GroupResend,
-        end: "group",
+        area: "group",
         name: "resend",
         words: "",
         about: "hand out the last envelope again",
@@ -387,7 +416,7 @@ pub const COMMANDS: &[Command] = &[
     },
     Command {
         id: Id::GroupReread,
-        end: "group",
+        area: "group",
         name: "reread",
         words: "",
         about: "hand out the last message again",
@@ -396,7 +425,7 @@ pub const COMMANDS: &[Command] = &[
     },
     Command {
         id: Id::GroupForget,
-        end: "group",
+        area: "group",
         name: "forget",
         words: "",
         about: "remove the last message from the state file",
@@ -405,7 +434,7 @@ pub const COMMANDS: &[Command] = &[
     },
     Command {
         id: Id::GroupCodes,
-        end: "group",
+        area: "group",
         name: "codes",
         words: "",
         about: "list the codes of packets",
@@ -414,7 +443,7 @@ pub const COMMANDS: &[Command] = &[
     },
     Command {
         id: Id::GroupCheckCode,
-        end: "group",
+        area: "group",
         name: "check-code",
         words: "",
         about: "check a code that was read off a packet",
@@ -423,7 +452,7 @@ pub const COMMANDS: &[Command] = &[
     },
     Command {
         id: Id::GroupShow,
-        end: "group",
+        area: "group",
         name: "show",
         words: "",
         about: "show the session",
@@ -432,7 +461,7 @@ pub const COMMANDS: &[Command] = &[
     },
     Command {
         id: Id::SaneStart,
-        end: "sane",
+        area: "sane",
         name: "start",
         words: "",
         about: "start a session in SANE and its state file",
@@ -441,7 +470,7 @@ pub const COMMANDS: &[Command] = &[
     },
     Command {
         id: Id::SaneSeal,
-        end: "sane",
+        area: "sane",
         name: "seal",
         words: "",
         about: "seal a message for the other end into an envelope",
@@ -450,7 +479,7 @@ pub const COMMANDS: &[Command] = &[
     },
     Command {
         id: Id::SaneOpen,
-        end: "sane",
+        area: "sane",
         name: "open",
         words: "",
         about: "open an envelope that arrived from the other end",
@@ -459,7 +488,7 @@ pub const COMMANDS: &[Command] = &[
     },
     Command {
         id: Id::SaneResend,
-        end: "sane",
+        area: "sane",
         name: "resend",
         words: "",
         about: "hand out the last envelope again",
@@ -468,7 +497,7 @@ pub const COMMANDS: &[Command] = &[
     },
     Command {
         id: Id::SaneReread,
-        end: "sane",
+        area: "sane",
         name: "reread",
         words: "",
         about: "hand out the last message again",
@@ -477,7 +506,7 @@ pub const COMMANDS: &[Command] = &[
     },
     Command {
         id: Id::SaneForget,
-        end: "sane",
+        area: "sane",
         name: "forget",
         words: "",
         about: "remove the last message from the state file",
@@ -486,7 +515,7 @@ pub const COMMANDS: &[Command] = &[
     },
     Command {
         id: Id::SaneShow,
-        end: "sane",
+        area: "sane",
         name: "show",
         words: "",
         about: "show the session, its counter and its start's tag",
@@ -494,8 +523,44 @@ pub const COMMANDS: &[Command] = &[
         more: "",
     },
     Command {
+        id: Id::PoolCreate,
+        area: "pool",
+        name: "create",
+        words: "",
+        about: "create the state file of an empty pool of unused rings",
+        options: &[STATE, WAIT],
+        more: "",
+    },
+    Command {
+        id: Id::PoolAdd,
+        area: "pool",
+        name: "add",
+        words: "",
+        about: "add issue lines to the pool",
+        options: &[STATE, LINES, ALL_OR_NONE, WAIT, RESTORE],
+        more: POOLED,
+    },
+    Command {
+        id: Id::PoolShow,
+        area: "pool",
+        name: "show",
+        words: "",
+        about: "show the runs and rings of each size",
+        options: &[STATE, RUNS, CSV, JSON, WAIT, RESTORE],
+        more: SHOWN,
+    },
+    Command {
+        id: Id::PoolFind,
+        area: "pool",
+        name: "find",
+        words: "SIZE NUMBER",
+        about: "say whether a ring is in the pool",
+        options: &[STATE, WAIT, RESTORE],
+        more: FOUND,
+    },
+    Command {
         id: Id::Keygen,
-        end: "",
+        area: "",
         name: "keygen",
         words: "",
         about: "make a new key of 32 random bytes",
@@ -504,7 +569,7 @@ pub const COMMANDS: &[Command] = &[
     },
     Command {
         id: Id::Demo,
-        end: "",
+        area: "",
         name: "demo",
         words: "",
         about: "play a season in a temporary folder",
@@ -513,7 +578,7 @@ pub const COMMANDS: &[Command] = &[
     },
     Command {
         id: Id::Help,
-        end: "",
+        area: "",
         name: "help",
         words: "[COMMAND ..]",
         about: "print the help text of a command, or the list of commands",

@@ -18,7 +18,7 @@ use crate::input;
 use crate::output::{Output, Time, print, tell};
 use crate::state::{Held, Message, waits};
 use crate::state_file::Used;
-use crate::table::ENDS;
+use crate::table::AREAS;
 
 /// Seals a message into an envelope.
 pub fn seal<E: End>(arguments: &Arguments, out: &mut dyn Write) -> Result<(), Failure> {
@@ -74,7 +74,7 @@ pub fn open<E: End>(arguments: &Arguments, out: &mut dyn Write) -> Result<(), Fa
     hand_out_message(&mut used, group, arguments, &outputs, Time::First, out)?;
     let index = used.state.index(group);
     tell(&format!("Opened an envelope of group {group}: message of {length} bytes, index {index}."));
-    let mut result = if E::NAME == ENDS[0] { format!("group {group}\n") } else { String::new() };
+    let mut result = if E::NAME == AREAS[0] { format!("group {group}\n") } else { String::new() };
     if !arrival.rest.is_empty() {
         let next = arguments.number("from")?.unwrap_or(0) as usize + arrival.place;
         result.push_str(&format!("next {next}\n"));
@@ -209,7 +209,7 @@ fn hand_out_message<E: End>(
 
 /// The command that hands something out again, as it is typed; only the output is left to choose.
 pub fn again<E: End>(command: &str, group: u32, arguments: &Arguments) -> String {
-    let option = if E::NAME == ENDS[0] { format!(" --group {group}") } else { String::new() };
+    let option = if E::NAME == AREAS[0] { format!(" --group {group}") } else { String::new() };
     format!("{}{option} --out FILE", typed::<E>(command, arguments))
 }
 

@@ -6,6 +6,7 @@ mod forget;
 mod keygen;
 mod messages;
 mod office;
+mod pool;
 mod show;
 mod start;
 
@@ -49,6 +50,10 @@ pub fn run(command: &Command, arguments: &Arguments, out: &mut dyn Write) -> Res
         Id::SaneReread => messages::reread::<Sane>(arguments, out),
         Id::SaneForget => forget::forget::<Sane>(arguments),
         Id::SaneShow => show::sane(arguments, out),
+        Id::PoolCreate => pool::create(arguments),
+        Id::PoolAdd => pool::add(arguments, out),
+        Id::PoolShow => pool::show(arguments, out),
+        Id::PoolFind => pool::find(arguments, out),
         Id::Keygen => keygen::keygen(arguments, out),
         Id::Demo => demo::run(out, run),
         Id::Help => print(out, &help::list("")),

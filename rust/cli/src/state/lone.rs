@@ -9,7 +9,7 @@ use super::format::{self, Bad, Kind, Part, Reader};
 use super::{Kept, State};
 use crate::keys::Keys;
 use crate::starts::Starts;
-use crate::table::ENDS;
+use crate::table::AREAS;
 
 /// What differs between the modes of lone sessions.
 pub trait Mode: Sized + fmt::Debug {
@@ -85,7 +85,7 @@ impl<S: Mode> State for Lone<S> {
 }
 
 impl Mode for Session {
-    const NAME: &'static str = ENDS[1];
+    const NAME: &'static str = AREAS[1];
     const LETTER: Letter = Letter::S;
     const KIND: Kind = format::GROUP;
     const BYTES: usize = Session::BYTES;
@@ -122,7 +122,7 @@ impl Mode for Session {
 }
 
 impl Mode for SaneSession {
-    const NAME: &'static str = ENDS[2];
+    const NAME: &'static str = AREAS[2];
     const LETTER: Letter = Letter::N;
     const KIND: Kind = format::SANE;
     const BYTES: usize = SaneSession::BYTES;

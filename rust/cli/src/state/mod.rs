@@ -3,7 +3,8 @@
 //! The office's file holds the table of sessions with the groups' counts and, for each group, what is *kept*: the last envelope that
 //! was sealed and the last message that was opened. A group's file, and that of a session in SANE, holds the group's number, the
 //! session and what is kept. They are in the file because a call and what belongs to it must be committed together: a kill between
-//! the commit and the handing out must not lose it. All hold the fingerprint of every key that was ever used in the file.
+//! the commit and the handing out must not lose it. All these hold the fingerprint of every key that was ever used in the file. The file
+//! of a pool of unused rings holds its runs, in an order that `pool` says.
 //!
 //! | bytes | content |
 //! |---|---|
@@ -26,6 +27,7 @@
 
 mod format;
 mod lone;
+mod pool;
 
 use pevghazo::{GROUPS, HEADER_MAX, Number, Refusal, TAG_LENGTH, TEXT_MAX, Table};
 use pevghazo_store::Secret;
@@ -99,10 +101,17 @@ impl Office {
     }
 }
 
+/// What is said of an older copy of a state file with sessions.
+const OLDER: &str = "\
+What is sealed from it takes the place of what was sealed since, and in SANE also shares its keystream: replace its sessions \
+under new keys. `--restore` takes it all the same, which is right only if nothing was sealed or opened since the copy was made.";
+
 /// A state that lives in a file.
 pub trait State: Sized {
     /// Whether it knows nonces, which must not repeat: then none is begun in the place of one that was lost.
     const KNOWS_NONCES: bool = false;
+    /// What is said of an older copy besides that it is one.
+    const OLDER: &'static str = OLDER;
     /// Its bytes.
     fn encode(&self) -> Secret;
     /// The state with these bytes.
