@@ -6,6 +6,7 @@
 
 mod both;
 pub mod play;
+pub mod pools;
 pub mod tables;
 
 pub use both::{Both, BothOf, Library, SaneBoth, answer_of, any_session, copy, record_of, same};

@@ -1,0 +1,255 @@
+//! Random lists of lines through the C library, beside the independent implementation and a plain set of numbers; and records that
+//! no list leaves.
+
+mod common;
+
+use std::collections::{BTreeMap, BTreeSet};
+
+use common::pools::{Memory, Pools, any_size, line_of};
+use common::{cases, damaged, is_whole_run};
+use pevghazo::raw::{self, PoolRecord, RunRecord};
+use pevghazo_reference::issue;
+use pevghazo_reference::random::Random;
+
+/// Numbers and sizes close together, so that lines meet and touch often.
+fn close_line(random: &mut Random) -> (char, u32, u32) {
+    let first = 1 + random.below(60) as u32;
+    (random.pick(&['A', 'C', 'H']), first, first + random.below(4) as u32)
+}
+
+/// A line beside a run of the pool, or on it: just before or behind it, one further away, over an end, within it, or between it and
+/// its neighbour.
+fn near_line(random: &mut Random, pools: &Pools) -> (char, u32, u32) {
+    let runs: Vec<_> = pools.reference.runs().collect();
+    if runs.is_empty() || random.once_in(8) {
+        let (first, length) = (1 + random.below(99_999_999) as u32, random.pick(&[0, 1, 99, 100_000]));
+        return (any_size(random), first, first.saturating_add(length).min(99_999_999));
+    }
+    let place = random.below(runs.len());
+    let (size, first, last) = runs[place];
+    let (low, high) = match random.below(8) {
+        0 => (first.saturating_sub(3), first.saturating_sub(1)),
+        1 => (last + 1, last + 1 + random.below(3) as u32),
+        2 => (last + 2, last + 2),
+        3 => (first.saturating_sub(2), first),
+        4 => (last, last + 2),
+        5 => (first, last),
+        // All between it and the next run, as far as that is of its size.
+        _ => (last + 1, runs.get(place + 1).map_or(last + 1, |next| next.1.saturating_sub(1))),
+    };
+    let size = if random.once_in(8) { any_size(random) } else { size };
+    let low = low.clamp(1, 99_999_999);
+    (size, low, high.clamp(low, 99_999_999))
+}
+
+/// A line of these rings, by any group and on any day; one time in eight damaged.
+fn bytes_of(random: &mut Random, (size, first, last): (char, u32, u32)) -> Vec<u8> {
+    let line = issue::Line { group: random.below(32) as u32, size, first, last, day: random.below(100_000_000) as u32 };
+    if random.once_in(8) { damaged(random, &line.bytes()) } else { line.bytes() }
+}
+
+/// How many runs a line was joined with, if it was accepted.
+fn joined(before: usize, after: usize) -> usize {
+    before + 1 - after
+}
+
+/// What happened, by number, and for accepted lines by the runs that they were joined with and whether the pool was full before.
+type Happened = BTreeMap<(u32, usize, bool), u32>;
+
+/// Adds a line and notes what happened.
+fn play(pools: &mut Pools, line: &[u8], happened: &mut Happened) -> u32 {
+    let before = pools.memory.record().used;
+    let number = pools.add(line);
+    let joined = if number == 0 { joined(before, pools.memory.record().used) } else { 0 };
+    *happened.entry((number, joined, before == 256)).or_insert(0) += 1;
+    number
+}
+
+/// Lists of lines whose numbers are close together, beside a plain set of numbers.
+#[test]
+fn any_list_beside_a_set() {
+    let mut happened = Happened::new();
+    cases("any_list_beside_a_set", |random| {
+        let (mut pools, mut set, mut rings) = (Pools::new(), BTreeSet::new(), 0);
+        for _ in 0..1 + random.below(32) {
+            let close = close_line(random);
+            let bytes = bytes_of(random, close);
+            let said = issue::read(&bytes).map(|line| (line.size, line.first, line.last));
+            let number = play(&mut pools, &bytes, &mut happened);
+            // What is damaged may say other, even very many numbers.
+            let few = said.filter(|(_, first, last)| last - first < 10_000);
+            if said.is_some() && few.is_none() {
+                return;
+            }
+            let numbers = || few.into_iter().flat_map(|(size, first, last)| (first..=last).map(move |n| (size, n)));
+            let pooled = numbers().any(|number| set.contains(&number));
+            assert_eq!(
+                number,
+                if few.is_none() {
+                    13
+                } else if pooled {
+                    14
+                } else {
+                    0
+                }
+            );
+            if number == 0 {
+                rings += numbers().count() as u64;
+                set.extend(numbers());
+            }
+        }
+        assert_eq!((raw::pool_rings(pools.memory.record()), set.len() as u64), (rings, rings));
+        for number in 0..130 {
+            for size in ['A', 'B', 'C', 'H'] {
+                assert_eq!(pools.holds(size, number), set.contains(&(size, number)));
+            }
+        }
+    });
+    if is_whole_run() {
+        for kind in [(0, 0, false), (0, 1, false), (0, 2, false), (13, 0, false), (14, 0, false)] {
+            assert!(happened.get(&kind).is_some_and(|times| *times >= 100), "{kind:?}: {happened:?}");
+        }
+    }
+}
+
+/// Pools of nearly 256 runs, some of one size and some of all.
+fn nearly_full() -> Vec<Pools> {
+    let mut random = Random::new(256);
+    let mut all = Vec::new();
+    for count in [250, 254, 255, 256, 256, 256] {
+        let sizes = random.pick(&[&['C'][..], &['A', 'H'], &['A', 'B', 'C', 'D', 'E', 'F', 'G', 'H']]);
+        let mut next = [1_u32; 256];
+        let mut pools = Pools::new();
+        while pools.memory.record().used < count {
+            let size = random.pick(sizes);
+            let first = next[size as usize] + 1 + random.below(3) as u32;
+            let last = first + random.below(4) as u32;
+            next[size as usize] = last + 1;
+            assert_eq!(pools.add(&line_of(size, first, last)), 0);
+        }
+        all.push(pools);
+    }
+    all
+}
+
+/// Lists of lines on pools of any fill, most of them beside their runs.
+#[test]
+fn any_list_beside_the_reference() {
+    let mut happened = Happened::new();
+    let starts = nearly_full();
+    cases("any_list_beside_the_reference", |random| {
+        let mut pools = if random.once_in(3) { Pools::new() } else { starts[random.below(starts.len())].clone() };
+        for _ in 0..1 + random.below(12) {
+            let near = near_line(random, &pools);
+            let bytes = bytes_of(random, near);
+            play(&mut pools, &bytes, &mut happened);
+        }
+        for _ in 0..8 {
+            let (size, first, last) = near_line(random, &pools);
+            pools.holds(size, random.pick(&[first, last, first - 1, last + 1]));
+        }
+    });
+    if is_whole_run() {
+        for number in [
+            (0, 0, false),
+            (0, 1, false),
+            (0, 2, false),
+            (0, 1, true),
+            (0, 2, true),
+            (13, 0, true),
+            (14, 0, true),
+            (15, 0, true),
+        ] {
+            assert!(happened.get(&number).is_some_and(|times| *times >= 100), "{number:?}: {happened:?}");
+        }
+        // No line that is joined with none is taken by a full pool, and none is refused for want of runs by another.
+        assert!(!happened.contains_key(&(0, 0, true)) && !happened.contains_key(&(15, 0, false)), "{happened:?}");
+    }
+}
+
+/// The same numbers, cut and ordered otherwise, give the same runs and the same answers afterwards.
+#[test]
+fn the_order_of_lines_does_not_matter() {
+    cases("the_order_of_lines_does_not_matter", |random| {
+        let mut pieces = Vec::new();
+        let mut first = 1;
+        for _ in 0..1 + random.below(20) {
+            let last = first + random.below(30) as u32;
+            pieces.push((random.pick(&['A', 'B']), first, last));
+            first = last + 1 + random.below(2) as u32;
+        }
+        let straight = Pools::of(pieces.clone());
+        let mut cut: Vec<(char, u32, u32)> = Vec::new();
+        for (size, first, last) in pieces {
+            let middle = first + random.below((last - first) as usize + 1) as u32;
+            cut.push((size, first, middle));
+            cut.extend((middle < last).then_some((size, middle + 1, last)));
+        }
+        for place in (1..cut.len()).rev() {
+            cut.swap(place, random.below(place + 1));
+        }
+        let mut other = Pools::of(cut);
+        assert_eq!(straight.reference, other.reference);
+        let mut straight = straight;
+        for _ in 0..4 {
+            let near = near_line(random, &straight);
+            let line = bytes_of(random, near);
+            assert_eq!(straight.add(&line), other.add(&line));
+        }
+    });
+}
+
+/// A record that is mostly no pool: any bytes, or runs of any numbers, and any count of used ones.
+fn any_memory(random: &mut Random) -> Memory {
+    let mut memory = Memory::zeroed();
+    match random.below(3) {
+        0 => memory.words_mut().iter_mut().for_each(|word| *word = random.bits()),
+        _ => memory.record_mut().runs.iter_mut().for_each(|run| *run = any_run(random)),
+    }
+    let used = [0, 1, 2, 255, 256, 257, random.below(300), random.bits() as usize, usize::MAX][random.below(9)];
+    memory.record_mut().used = used;
+    memory
+}
+
+/// A run of any numbers, often close to others or at an edge.
+fn any_run(random: &mut Random) -> RunRecord {
+    let mut number = || match random.below(4) {
+        0 => random.bits() as u32,
+        1 => random.pick(&[0, 1, 99_999_998, 99_999_999, 100_000_000, u32::MAX - 1, u32::MAX]),
+        _ => random.below(40) as u32,
+    };
+    let (first, last) = (number(), number());
+    RunRecord { size: [any_size(random) as u8, random.bits() as u8][random.below(2)], first, last }
+}
+
+/// The runs of any record.
+fn used_runs(record: &PoolRecord) -> &[RunRecord] {
+    &record.runs[..record.used.min(256)]
+}
+
+/// Every call on any record finishes; refusals leave every byte of it, and no call alters a byte beside it. The two questions are
+/// answered by the runs that there are.
+#[test]
+fn any_record_whatever_it_holds() {
+    let mut answers = BTreeMap::new();
+    cases("any_record_whatever_it_holds", |random| {
+        let mut memory = any_memory(random);
+        for _ in 0..4 {
+            let (record, size, number) = (memory.record(), random.bits() as u8, random.below(45) as u32);
+            for (size, number) in [(size, number), (any_size(random) as u8, number), (b'A', u32::MAX)] {
+                let has = |run: &RunRecord| run.size == size && run.first <= number && number <= run.last;
+                assert_eq!(raw::pool_holds(record, size, number), used_runs(record).iter().any(has));
+            }
+            let rings = used_runs(record).iter().filter(|run| run.first <= run.last);
+            assert_eq!(raw::pool_rings(record), rings.map(|run| u64::from(run.last - run.first) + 1).sum::<u64>());
+            let rings = if random.once_in(2) { close_line(random) } else { (any_size(random), 1, 99_999_999) };
+            let line = bytes_of(random, rings);
+            let number = memory.add(&line);
+            assert_eq!(number == 13, issue::read(&line).is_none(), "{}", line.escape_ascii());
+            *answers.entry(number).or_insert(0) += 1;
+        }
+    });
+    if is_whole_run() {
+        assert!(answers.keys().eq([&0, &13, &14, &15]) && answers.values().all(|times| *times >= 100), "{answers:?}");
+    }
+}
