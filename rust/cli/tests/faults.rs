@@ -130,6 +130,8 @@ const OTHER_SEALS: &str = "sane --state other seal --message text --metadata-tex
 const SANE_OPENS: &str = "sane --state sane open --in envelope --out opened --metadata-out metadata";
 const SANE_RESENDS: &str = "sane --state sane resend --out envelope";
 const SANE_REREADS: &str = "sane --state sane reread --out opened --metadata-out metadata";
+const POOL_CREATES: &str = "pool --state pool create";
+const POOL_ADDS: &str = "pool --state pool add --in lines";
 
 #[test]
 fn create_day_and_open() {
@@ -144,6 +146,21 @@ fn create_day_and_open() {
 fn start() {
     Case::new(&[], "new", "group --state new start --group 6 --key key").every_step();
     Case::new(&[GROUP_SEALS], "group", "group --state group start --group 5 --key new-key --replace").every_step();
+}
+
+/// The lines of an input are in the pool together, or none is; a second run finds out which.
+#[test]
+fn pool_create_and_add() {
+    Case::new(&[], "pool", POOL_CREATES).every_step();
+    let case = Case::new(&[POOL_CREATES], "pool", POOL_ADDS);
+    case.folder.write("lines", b"7,C,12001,12100,20250304\n7,D,1,5,20250304\n11,C,12101,12150,20250305\n");
+    case.every_step();
+    // To a pool that has some.
+    let case = Case::new(&[POOL_CREATES], "pool", POOL_ADDS);
+    case.folder.write("lines", b"7,C,12151,12160,20250304\n");
+    case.folder.done(POOL_ADDS);
+    case.folder.write("lines", b"7,C,12001,12100,20250304\n7,D,1,5,20250304\n11,C,12101,12150,20250305\n");
+    case.every_step();
 }
 
 /// A start in SANE that did not come to its end has used no counter up, and one that did has.

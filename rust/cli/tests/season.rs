@@ -196,6 +196,18 @@ fn demo_of_a_busy_group(shown: &str) {
     }
 }
 
+/// The demo's pool: 13 and 50 rings of one size that touch, and 20 of another.
+fn demo_of_a_pool(shown: &str) {
+    for text in [
+        "  4,C,20088,20100,20250304\n  27,E,701,720,20250304\n  11,C,20101,20150,20250305\n  added 3 of 3 lines, 83 rings\n",
+        "      Refused, number 14, at line 1: A number of this line is in the pool already, in its size. Lines refused: 1. ",
+        "  C         20088     20150        63\n  E           701       720        20\n",
+        "  where the ring C 20101 is: pooled in C 20088 to 20150\n",
+    ] {
+        assert_eq!(shown.matches(text).count(), 1, "{text}{shown}");
+    }
+}
+
 #[test]
 fn the_demo_plays_a_season() {
     let folder = Folder::new();
@@ -223,6 +235,7 @@ fn the_demo_plays_a_season() {
     assert!(shown.contains("  the office checks the code of packet 0: match\n"), "{shown}");
     assert!(shown.contains("      This is not the code of packet 1 of group 4 at index 4. "), "{shown}");
     demo_in_sane(&shown);
+    demo_of_a_pool(&shown);
     // Of the three groups, which have indices of 8, 12 and 20.
     let renewed =
         "\nThe groups with an index above 10, in the order in which the office renews their keys:\n  11\n  27\n\n";

@@ -56,6 +56,7 @@ pub fn run(out: &mut dyn Write, run: Run) -> Result<(), Failure> {
     misdirect(&folder, out)?;
     keep_busy(&folder, out)?;
     with_counter(&folder, out)?;
+    pool(&folder, out)?;
     print(out, "\nWhat the office holds:\n")?;
     print(out, &indented(&folder.play(&["office", "show"], "office.state")?))?;
     to_renew(&folder, out)?;
@@ -155,6 +156,24 @@ fn with_counter(folder: &Folder, out: &mut dyn Write) -> Result<(), Failure> {
     print(out, "  the office starts another session with counter 1:\n")?;
     folder.refused(out, &[&start[..], &["--replace"]].concat(), office)?;
     print(out, &indented(&folder.play(&["sane", "show"], group)?))
+}
+
+/// The office pools unused rings that groups return as issue lines.
+fn pool(folder: &Folder, out: &mut dyn Write) -> Result<(), Failure> {
+    const STATE: &str = "pool.state";
+    const LINES: &str = "4,C,20088,20100,20250304\n27,E,701,720,20250304\n11,C,20101,20150,20250305\n";
+    print(out, "\nThree groups return unused rings as issue lines, and the office pools them:\n")?;
+    print(out, &indented(LINES))?;
+    folder.play(&["pool", "create"], STATE)?;
+    folder.write("lines", LINES.as_bytes())?;
+    print(out, &indented(&folder.play(&["pool", "add", "--in", "lines"], STATE)?))?;
+    print(out, "  a line comes a second time:\n")?;
+    folder.write("lines", b"27,E,701,720,20250304\n")?;
+    folder.refused(out, &["pool", "add", "--in", "lines"], STATE)?;
+    print(out, "The runs of the pool:\n")?;
+    print(out, &indented(&folder.play(&["pool", "show", "--runs"], STATE)?))?;
+    let found = folder.play(&["pool", "find", "C", "20101"], STATE)?;
+    print(out, &format!("  where the ring C 20101 is: {found}"))
 }
 
 fn indented(text: &str) -> String {

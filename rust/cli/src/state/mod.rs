@@ -158,7 +158,7 @@ impl State for Office {
 
 #[cfg(test)]
 mod tests {
-    use pevghazo::{SaneSession, Session};
+    use pevghazo::{Pool, RING_MAX, Run, SaneSession, Session, Size};
 
     use super::*;
     use crate::keys::FINGERPRINT;
@@ -201,6 +201,11 @@ mod tests {
         Sane { group: 5, session: session.unwrap(), kept: kept(40, 9), starts }
     }
 
+    fn pool() -> Pool {
+        let runs = [(Size::H, 5, 5), (Size::C, 12_001, 12_100), (Size::C, 1, 9), (Size::A, 7, RING_MAX)];
+        Pool::from_runs(&runs.map(|(size, first, last)| Run { size, first, last })).unwrap()
+    }
+
     #[test]
     fn what_is_encoded_is_decoded() {
         let bytes = office().encode();
@@ -217,6 +222,11 @@ mod tests {
         let back = Sane::decode(&bytes).unwrap();
         assert_eq!((back.encode(), back.group, back.kept), (bytes, 5, kept(40, 9)));
         assert_eq!((back.starts.counter(), back.starts), (Some(6), sane().starts));
+        for pool in [pool(), Pool::new()] {
+            let bytes = pool.encode();
+            let back = Pool::decode(&bytes).unwrap();
+            assert_eq!((back.encode(), back), (bytes, pool));
+        }
     }
 
     /// The bytes of the office after their start, with the table as it was before each group had a count.
@@ -276,6 +286,10 @@ mod tests {
         let bytes = office.encode();
         assert!(bytes.len() <= pevghazo_store::MAX_BYTES);
         assert_eq!(Office::decode(&bytes).unwrap().keys, office.keys);
+        let runs: Vec<Run> =
+            (0..256).map(|place| Run { size: Size::C, first: 1 + 2 * place, last: 1 + 2 * place }).collect();
+        let pool = Pool::from_runs(&runs).unwrap();
+        assert_eq!(Pool::decode(&pool.encode()).unwrap(), pool);
         for keys in [1, 2, Starts::MOST] {
             let state = Sane { starts: Starts::full(keys), kept: kept(ENVELOPE_MAX, TEXT_MAX), ..sane() };
             let bytes = state.encode();
@@ -286,13 +300,14 @@ mod tests {
 
     #[test]
     fn one_end_is_not_taken_for_the_other() {
-        let states = [office().encode(), group().encode(), sane().encode()];
-        let names = ["the office's", "a group's", "a SANE session's"];
+        let states = [office().encode(), group().encode(), sane().encode(), pool().encode()];
+        let names = ["the office's", "a group's", "a SANE session's", "a pool's"];
         for (bytes, is) in states.iter().zip(names) {
             let decoded = [
                 Office::decode(bytes).map(drop).map_err(|bad| bad.to_string()),
                 Group::decode(bytes).map(drop).map_err(|bad| bad.to_string()),
                 Sane::decode(bytes).map(drop).map_err(|bad| bad.to_string()),
+                Pool::decode(bytes).map(drop).map_err(|bad| bad.to_string()),
             ];
             for (decoded, name) in decoded.into_iter().zip(names) {
                 assert_eq!(decoded, if name == is { Ok(()) } else { Err(format!("it is {is} and not {name}")) });
@@ -300,6 +315,7 @@ mod tests {
         }
         assert_eq!(Group::decode(b"").unwrap_err(), Bad::Format);
         assert_eq!(Sane::decode(b"sane---2").unwrap_err(), Bad::Version(2));
+        assert_eq!(Pool::decode(b"pool---2").unwrap_err(), Bad::Version(2));
         assert_eq!(Office::decode(b"office-4").unwrap_err(), Bad::Version(4));
         for start in [&b"office-0"[..], b"office--", b"office3", b"offices3", b"office\xff3"] {
             assert_eq!(Office::decode(start).unwrap_err(), Bad::Format);
@@ -327,6 +343,7 @@ mod tests {
     fn any_bytes_are_decoded_or_refused() {
         any_bytes::<Group>(&group().encode());
         any_bytes::<Sane>(&sane().encode());
+        any_bytes::<Pool>(&pool().encode());
         let bytes = office().encode();
         for length in (0..bytes.len()).step_by(97) {
             assert!(Office::decode(&bytes[..length]).is_err(), "cut to {length} bytes");
