@@ -15,6 +15,7 @@ ghost use Rattle.pool.specs.Pool.{maxRuns, runsOf, emptyPool, joinPool, 
 const MAX_RUNS: usize = 256;
 
 // A pool: the runs that stand first, as many as are used. What stands behind them has no meaning.
+#[repr(C)]
 pub struct Pool {
     pub used: usize,
     pub runs: [Run; 256],

@@ -99,8 +99,7 @@ module _ (lines : List (List ℕ)) where
 
   next-after : (bytes : List ℕ) (n : ℕ) → (addLine (poolAfter lines) bytes .number ≡ n) ↔ LineStop (HeldBy lines) bytes n
   next-after bytes n =
-      let exactly = line-exactly (poolAfter lines) bytes good-after n in
-      (
+      let exactly = line-exactly (poolAfter lines) bytes good-after n in (
         (λ e. line-stop-as (HeldBy lines) (InPool (poolAfter lines)) (λ size x. (held-after size x .1, held-after size x .0)) bytes (exactly .0 e)),
         (λ stop. exactly .1 (line-stop-as (InPool (poolAfter lines)) (HeldBy lines) held-after bytes stop)),
       )

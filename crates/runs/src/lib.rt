@@ -4,6 +4,7 @@ ghost use mathlib.Core.Path.{_≡_};
 ghost use Rattle.runs.specs.Runs.{meets, touches, join};
 
 // The ring numbers first to last of a size, which is the byte of its letter.
+#[repr(C)]
 pub struct Run {
     pub size: u8,
     pub first: u32,
