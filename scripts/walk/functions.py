@@ -135,9 +135,39 @@ use Rattle.codes.specs.Code.{codeResult, Coded}''',
         environment='Rattle.session.proofs.Env'),
 ]
 
+# ---- over a pool that is lent, to be altered or to be read: lent_pool
+
+POOL = [
+    Lent(
+        path='lent_pool::add_line', core='pool_lines::add_line', record='pool::Pool', result='pool::Added', session=('pool', 1),
+        answer='u32', answer_field=('number', 0), answer_parts=[],
+        params=[('p', 'record'), ('line', 'bytes')], core_args=['p', 'line'],
+        gives='r ≡ addLine h line', says='addedResult res p′ ≡ addLine p line', proof='e',
+        uses='''use Rattle.pool_lines.specs.Lines.{addLine}
+use Rattle.lent_pool.specs.Lent.{addedResult}''',
+        environment='Rattle.session.proofs.Env'),
+    Lent(
+        path='lent_pool::holds', core='pool::holds', record='pool::Pool', result='bool', session=None,
+        answer='bool', answer_field=None, answer_parts=[],
+        params=[('p', 'read'), ('size', 'u8'), ('number', 'u32')], core_args=['p', 'size', 'number'],
+        gives='r ≡ anyMeets (aRun size number number) (runsOf h)', says='res ≡ anyMeets (aRun size number number) (runsOf p)', proof='e',
+        uses='''use Rattle.runs.specs.Runs.{aRun, anyMeets}
+use Rattle.pool.specs.Pool.{runsOf}''',
+        environment='Rattle.session.proofs.Env'),
+    Lent(
+        path='lent_pool::rings', core='pool::rings', record='pool::Pool', result='u64', session=None,
+        answer='u64', answer_field=None, answer_parts=[],
+        params=[('p', 'read')], core_args=['p'],
+        gives='r ≡ ringsOf (runsOf h)', says='res ≡ ringsOf (runsOf p)', proof='e',
+        uses='''use Rattle.runs.specs.Runs.{ringsOf}
+use Rattle.pool.specs.Pool.{runsOf}''',
+        environment='Rattle.session.proofs.Env'),
+]
+
 # ---- that hand all their parameters on: capi
 
 PASSING = (
     [f'capi::c_session::pevghazo_{function}' for function in ('start', 'wrap', 'unwrap')] + ['capi::c_codes::pevghazo_code']
     + [f'capi::c_sane::pevghazo_sane_{function}' for function in ('start', 'wrap', 'unwrap')]
-    + [f'capi::c_table::pevghazo_{function}' for function in ('start_day', 'open_group', 'wrap_group', 'unwrap_group')])
+    + [f'capi::c_table::pevghazo_{function}' for function in ('start_day', 'open_group', 'wrap_group', 'unwrap_group')]
+    + [f'capi::c_pool::pevghazo_pool_{function}' for function in ('add', 'holds', 'rings')])

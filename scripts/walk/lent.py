@@ -3,6 +3,7 @@
 The shapes, beside other parameters:
     fn f(s: &mut S, ..) -> R       { let r = core(*s, ..); *s = r.session; R of r's fields }
     fn f(s: &S, ..) -> R           { core(*s, ..) }
+R is a plain struct, and in these two a number or a bool as well.
     fn f(table: &mut [S], g: usize, ..) -> R
         { if test(table.len(), g) { return refusal(..); } let r = core(table[g], ..); table[g] = r.session; r.answer }
 `core` takes the record by value. `test` and `refusal` are small functions: of numbers, bools and plain structs.
@@ -17,6 +18,7 @@ import mir
 from text import last, subscript
 
 WIDTHS = {'u8': 8, 'u16': 16, 'u32': 32, 'u64': 64, 'usize': 64}
+DENOTED = {'bool': 'Bool', **{kind: 'ℕ' for kind in WIDTHS}}      # the values of these
 
 
 @dataclass
@@ -47,7 +49,7 @@ class Lent:
     record: str                      # the path of S
     result: str                      # the path of the struct that the core gives
     session: Optional[tuple]         # its field that is the new record: (name, number); none where the record is only read
-    answer: str                      # the path of R
+    answer: str                      # the path of R, or 'bool', u8 .. usize
     answer_field: Optional[tuple]    # R is this field of the core's result, (name, number) ..
     answer_parts: list               # .. or is made of these, [(name, number)]; neither where R is the core's result itself
     params: list                     # [(name, kind)]; 'record': &mut S, 'read': &S, 'table': &mut [S], 'bytes': &[u8], 'buffer': &mut [u8], 'bool', u8 .. usize, or the path of a struct
@@ -87,7 +89,8 @@ class Terms:
         self.core_refs = [name for name in config.core_args if name in self.slices]
         self.core_buffers = [name for name in config.core_args if self.kind[name] == 'buffer']
         self.core_plain = [name for name in config.core_args if name in self.plain]
-        self.S, self.O, self.R = last(config.record), last(config.result), last(config.answer)
+        self.S, self.O, self.R = (DENOTED.get(path) or last(path) for path in (config.record, config.result, config.answer))
+        self.row = {'bool': 'Boolean'}.get(config.answer) or (config.answer if self.number_answer() else 'R.the-row')
         # the record that the core gave, and the answer, of its result r
         self.new_record = f'(r .{config.session[0]})' if config.session else None
         self.answer = (f'(r .{config.answer_field[0]})' if config.answer_field else 'r' if not config.answer_parts else
@@ -167,13 +170,30 @@ class Terms:
         """What the slices hold that the core is handed."""
         return [f'(x-{name} .now)' for name in self.core_refs]
 
+    def number_answer(self):
+        """Whether the answer is a number."""
+        return self.config.answer in WIDTHS
+
+    def plain_answer(self):
+        """Whether it is a number or a bool."""
+        return self.config.answer in DENOTED
+
     def answer_value(self, term):
         """The machine value of an answer."""
+        if self.plain_answer():
+            return f'({self.machine_of(self.config.answer, None, term)})'
         return f'(only (LL.vals R.the-type R′.the-laws {term}))'
 
     def is_answer(self, term):
         """That it is one of its type."""
-        return f'Is R.the-row {term} ({self.answer_value(term)} ∷ [])'
+        return f'Is {self.row} {term} ({self.answer_value(term)} ∷ [])'
+
+    def makes_answer(self):
+        """A step that makes what an answer owns."""
+        laws = 'LL.makes R.the-type R′.the-plain 𝓤 H A'
+        if self.plain_answer():
+            laws = f'uint-makes 𝓤 H A W w{WIDTHS[self.config.answer]}' if self.number_answer() else 'bool-makes 𝓤 H A W'
+        return f'owned ! {self.row} (Is {self.row}) ({laws}) res _ res-ok'
 
     def typed(self, module, value, known):
         """That the machine value of a struct has its type."""

@@ -35,6 +35,8 @@ class Proof(Walk):
         modules = ['T', 'B'] + [self.struct_module[name] for name in self.structs] + ['R']
         if self.reads:                                             # the core's result is the answer
             types, modules = types[:1] + types[2:], modules[:1] + modules[2:]
+        if self.plain_answer():                                    # a number or a bool is not declared
+            types, modules = types[:-1], modules[:-1]
         declared = [f'use {specs_module(path, crate)}.{{{last(path)}}}' for path in types[:2]]
         laws = [f'use {proofs_module(path, crate)} as {module}\nuse {proofs_module(path, crate)}.Laws as {module}′' for path, module in zip(types[:2], modules[:2])]
         more = [f'use {specs_module(path, crate)}.{{{last(path)}}}\nuse {proofs_module(path, crate)} as {module}\nuse {proofs_module(path, crate)}.Laws as {module}′'
@@ -215,7 +217,7 @@ mach-{name} d = LL.tuple-val {self.struct_module[name]}.the-type {self.struct_mo
         for name in reversed(self.names):
             label = None if name == self.lent and self.reads else f'own-{name}' if name == self.lent else f'fin-{name}' if name in self.core_buffers else None
             steps += (context.move(label, 'had') if label else context.push('none', 'nothing !')) + context.join('had')
-        steps += 'owned ! R.the-row (Is R.the-row) (LL.makes R.the-type R′.the-plain 𝓤 H A) res _ res-ok $ move ! (1 ∷ 0 ∷ []) $ done !'
+        steps += f'{self.makes_answer()} $ move ! (1 ∷ 0 ∷ []) $ done !'
         last_of = {self.lent: 'tt' if self.reads else 'last', **{name: f'last-{name}' for name in self.core_buffers}}
         length_of = {self.lent: 'len' if self.table else 'tt', **{name: f'len-{name}' for name in self.core_buffers}}
         lasts = [f'last-{name}' for name in self.core_buffers]

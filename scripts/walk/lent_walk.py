@@ -40,6 +40,7 @@ class Walk(Terms):
         self.cell_typed = ''                                       # that the record's value has its type, where the borrow is open
         self.cells = {}                                            # a local that is a pointer: the label of the cell that it points to
         self.handed = {}                                           # what each small function is handed, by its path
+        self.is_plain = 'is'                                       # that a core's result that is the answer is one of its type
 
     # ---- lines
 
@@ -187,8 +188,8 @@ class Walk(Terms):
         tokens = ' ⊛ '.join([f'‵ (flft {self.κ(name)} {self.q(name)})' for name in self.core_refs] + ['‵ ftrue'])
         tokens = f'({tokens})' if self.core_refs else tokens
         lifetimes, values = tuple_of([self.κ(name) for name in self.core_refs]), self.core_values()
-        result = 'R' if self.reads else 'B'
-        self.put(f'use1 W (later (some (λ (r : {self.O}). ({tokens} ⊛ ‵ ({result}.the-row .own r (v ∷ []))) ⊛ raw (ensured 𝓤 H A core.ended (core.clauses 𝓤 H A at-mem run) {lifetimes} {values} tt r)))) (id⊢ 𝓤 _) $ await ! tt $ pick ! (λ r.')
+        row = self.row if self.reads else 'B.the-row'
+        self.put(f'use1 W (later (some (λ (r : {self.O}). ({tokens} ⊛ ‵ ({row} .own r (v ∷ []))) ⊛ raw (ensured 𝓤 H A core.ended (core.clauses 𝓤 H A at-mem run) {lifetimes} {values} tt r)))) (id⊢ 𝓤 _) $ await ! tt $ pick ! (λ r.')
         self.note('what the core ensures, at some last lists')
         last_type = product_of(['List ℕ' if name in self.core_buffers else 'Unit {0}' for name in config.core_args])
         gives = ' '.join(['Gives h', *self.contents(), *self.core_plain, 'r', *[self.last_contents(name) for name in self.core_buffers]])
@@ -207,7 +208,10 @@ class Walk(Terms):
         for name in self.core_refs:                                # the tokens come back
             steps += context.split(f'tok-{name}', 'tokens', 'split') + context.move('tokens')
         self.put(steps + context.drop('tokens') + context.move('result'))
-        if self.reads:                                             # the answer itself
+        if self.reads and self.plain_answer():                     # the answer itself
+            self.lands_plain(target)
+            return
+        if self.reads:
             self.lands('R', 'r', target)
             self.put(f"peeks ! R.the-row (Is R.the-row) (shows 𝓤 H A R.the-row) r ({self.answer_value('r')} ∷ []) (λ is. drop ! $")
             context.labels.pop(0)
@@ -219,7 +223,7 @@ class Walk(Terms):
         context.labels.pop(0)
         self.locals[target] = Local('', {config.session[1]: self.typed('T', self.new_record, '(session-of r is)')})
         if config.answer_field:
-            self.locals[target].fields[config.answer_field[1]] = self.typed('R', self.answer, '(result-of r is)')
+            self.locals[target].fields[config.answer_field[1]] = fits('result-of r is .1') if self.number_answer() else self.typed('R', self.answer, '(result-of r is)')
         for _, number in config.answer_parts:
             self.locals[target].fields[number] = fits(f'LL.owed B.the-type B′.the-laws r _ is{part(number)} .1')
         self.show()
@@ -232,6 +236,20 @@ class Walk(Terms):
         tells = f'LL.tells {module}.the-type {module}′.the-laws {result} _ is′'
         self.put(f'rewrite ! {at} (λ (u : Val). ‵ (fat fullShare {module}′.mir l{subscript(target)} 0 u)) (ap only ({tells})) refl $')
         self.put(f'rewrite ! 0 (λ (us : List Val). ‵ ({module}.the-row .own {result} us)) ({tells}) refl $')
+
+    def lands_plain(self, target):
+        """The core's result, a number or a bool at the head, lands in a local, at its machine value written out; `is` is that it is one of its type."""
+        at, number = self.context.at(f'L{target}'), self.number_answer()
+        width = f' w{WIDTHS[self.config.answer]}' if number else ''
+        lawful, type_ = ('uint-lawful', f'(tyInt{width})') if number else ('bool-lawful', 'tyBool')
+        spelled = 'is′ .0' if number else 'is′'
+        self.put(f'peeks ! {self.row} (Is {self.row}) (shows 𝓤 H A {self.row}) r (v ∷ []) (λ is′.')
+        self.put(f'land ! (from ! (stop !)) (init ! {at} refl ({lawful} 𝓤 H A W{width} .typed r _ is′ .0)) $')
+        self.put(f'rewrite ! {at} (λ (u : Val). ‵ (fat fullShare {type_} l{subscript(target)} 0 u)) (ap only ({spelled})) refl $ drop ! $')
+        self.context.labels.pop(0)
+        self.locals[target] = Local('')
+        self.is_plain = '(refl, is′ .1)' if number else 'refl'
+        self.show()
 
     def call_small(self, statement, small):
         """A small function is called: its result r-NAME lands in a local, and e-NAME is what it ensures."""
@@ -360,7 +378,8 @@ class Walk(Terms):
         lengths = [f'len-{name}' for name in self.core_buffers]
         record = [] if self.reads else [f'(set ys {self.table.index} {self.new_record})' if self.table else self.new_record]
         length = [f'(length-set ys {self.table.index} {self.new_record})'] if self.table else []
-        exits = ' '.join(['exits', self.answer, *record, *lasts, 'is' if self.reads else '(result-of r is)', *length, *lengths, self.config.proof])
+        known = self.is_plain if self.reads else '(result-of r is)'
+        exits = ' '.join(['exits', self.answer, *record, *lasts, known, *length, *lengths, self.config.proof])
         self.put(self.context.keep(*self.exit_order) + f'by ! ({exits})')
 
     def body(self):

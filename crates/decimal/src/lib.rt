@@ -15,7 +15,7 @@ pub struct Number {
 }
 
 // The answer where no number stands.
-fn none() -> Number
+pub fn none() -> Number
     ensures { λ r. ⌜ r ≡ noNumber ⌝ }
 {
     Number {
@@ -26,7 +26,7 @@ fn none() -> Number
 }
 
 // The digit that a byte is the character of, or 10 where it is none.
-fn digit_of(b: u8) -> u64
+pub fn digit_of(b: u8) -> u64
     ensures { λ r. ⌜ r ≡ digitOf b ⌝ }
 {
     if 48 <= b {

@@ -1,0 +1,2 @@
+-- What the clauses of the exported functions for pools are.
+pub mod Contracts

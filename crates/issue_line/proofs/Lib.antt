@@ -1,0 +1,5 @@
+-- Laws and theorems that belong to no one function.
+pub mod Steps
+pub mod Fields
+pub mod Reading
+pub mod Examples

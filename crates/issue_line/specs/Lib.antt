@@ -1,0 +1,3 @@
+-- What the contracts of the crate `issue` cite.
+pub mod Layout
+pub mod Read

@@ -1,0 +1,3 @@
+-- What the contracts of the crate `pool_lines` cite, and what is said of lists of lines.
+pub mod Lines
+pub mod History
