@@ -1,6 +1,6 @@
 /* The C library that programs link, with each buffer of a call directly beside closed pages and at every address modulo 16 (tests/pages.h), at the
- * lengths where blocks begin and end. Sessions in SANSE, alone and in a table, are compared with the independent implementation; those in SANE, and
- * codes, with the same calls on ordinary buffers, which rust/pevghazo/tests compares with it. The other side works on copies elsewhere.
+ * lengths where blocks begin and end. Sessions in SANSE, alone and in a table, are compared with the independent implementation; those in SANE,
+ * codes, and calls on a pool, with the same calls on ordinary buffers, which rust/pevghazo/tests compares with it. The other side works on copies elsewhere.
  * tests/buffers.sh builds and runs this. */
 #include "pages.h"
 #include <pevghazo.h>
@@ -18,11 +18,12 @@ static const size_t lengths[] = {0, 1, 31, 32, 33, 47, 48, 49, 79, 80, 81, 95, 9
 enum { LENGTHS = sizeof lengths / sizeof lengths[0] };
 
 /* The buffers of a call: a row each, its length, and the same of the other side. Where they stand between, each kind's addresses go by steps of its
- * own, so that they differ from the others'; a record's are multiples of 4. */
-enum { RECORD, KEY, NONCE, METADATA, INPUT, OUTPUT, TAG, BUFFERS };
-static const int steps[BUFFERS] = {4, 1, 3, 5, 7, 9, 11};
+ * own, so that they differ from the others'; a record's are multiples of 4, and a pool's of 8. */
+enum { RECORD, KEY, NONCE, METADATA, INPUT, OUTPUT, TAG, POOL, LINE, BUFFERS };
+static const int steps[BUFFERS] = {4, 1, 3, 5, 7, 9, 11, 8, 13};
 static const char *const otherwise[BUFFERS] = {"another record", "the key was altered", "the nonce was altered", "the metadata were altered",
-                                               "the message or cryptogram was altered", "another output", "another tag"};
+                                               "the message or cryptogram was altered", "another output", "another tag", "another pool",
+                                               "the line was altered"};
 static row rows[BUFFERS];
 static size_t n[BUFFERS];
 static _Alignas(16) uint8_t other[BUFFERS][PEVGHAZO_TEXT_MAX];
@@ -37,12 +38,14 @@ static unsigned calls;
 
 /* ---- the calls */
 
-/* Those of a lone session, of a group of a table and of a session in SANE, three each; a packet's code; the start of a day; and the nearly-full
- * question, by a mark that no index is above, so that every record is read. */
+/* Those of a lone session, of a group of a table and of a session in SANE, three each; a packet's code; the start of a day; the nearly-full
+ * question, by a mark that no index is above, so that every record is read; and those of a pool, which are asked for a ring that it does not have. */
 enum { LONE, GROUP, SANE, KINDS };
-enum { START, WRAP, UNWRAP, OPEN_GROUP, WRAP_GROUP, UNWRAP_GROUP, SANE_START, SANE_WRAP, SANE_UNWRAP, CODE, DAY, QUESTION, CALLS, OF_A_KIND = 3 };
+enum { START, WRAP, UNWRAP, OPEN_GROUP, WRAP_GROUP, UNWRAP_GROUP, SANE_START, SANE_WRAP, SANE_UNWRAP, CODE, DAY, QUESTION,
+       ADD, HOLDS, RINGS, CALLS, OF_A_KIND = 3 };
 static const char *const names[CALLS] = {"start", "wrap", "unwrap", "open a group", "wrap for a group", "unwrap for a group",
-                                         "start in SANE", "wrap in SANE", "unwrap in SANE", "code", "start of a day", "nearly-full question"};
+                                         "start in SANE", "wrap in SANE", "unwrap in SANE", "code", "start of a day", "nearly-full question",
+                                         "add a line", "whether a ring is held", "rings"};
 static const uint32_t group = 7, allowance = UINT32_MAX;
 
 /* Whether a call's records are those of a table, and how many there are then. */
@@ -54,6 +57,7 @@ static uint32_t called(int call, uint8_t *const b[BUFFERS]) {
     pevghazo_session *session = (void *)b[RECORD];
     pevghazo_record *table = (void *)b[RECORD];
     pevghazo_sane_session *sane = (void *)b[RECORD];
+    pevghazo_pool *pool = (void *)b[POOL];
     switch (call) {
     case START: return pevghazo_start(session, b[KEY], n[KEY]).number;
     case WRAP: return pevghazo_wrap(session, b[METADATA], n[METADATA], b[INPUT], n[INPUT], b[OUTPUT], n[OUTPUT], b[TAG], n[TAG]).number;
@@ -67,6 +71,9 @@ static uint32_t called(int call, uint8_t *const b[BUFFERS]) {
                                      b[OUTPUT], n[OUTPUT]).number;
     case DAY: return pevghazo_start_day(table, table_len(), allowance) == allowance ? PEVGHAZO_ACCEPTED : PEVGHAZO_ALLOWANCE;
     case QUESTION: return pevghazo_nearly_full(table, table_len(), UINT32_MAX).number;
+    case ADD: return pevghazo_pool_add(pool, b[LINE], n[LINE]);
+    case HOLDS: return pevghazo_pool_holds(pool, 'C', 99);
+    case RINGS: return (uint32_t)pevghazo_pool_rings(pool);
     case SANE_START: return pevghazo_sane_start(sane, b[KEY], n[KEY], b[NONCE], n[NONCE], b[TAG], n[TAG]).number;
     case SANE_WRAP: return pevghazo_sane_wrap(sane, b[METADATA], n[METADATA], b[INPUT], n[INPUT], b[OUTPUT], n[OUTPUT], b[TAG], n[TAG]).number;
     case SANE_UNWRAP:
@@ -80,7 +87,8 @@ static pevghazo_record *other_record(size_t i) { return (pevghazo_record *)(void
 
 /* The same on the other side, but for what a table counts. */
 static uint32_t expected(int call) {
-    uint8_t *const b[BUFFERS] = {other[RECORD], other[KEY], other[NONCE], other[METADATA], other[INPUT], other[OUTPUT], other[TAG]};
+    uint8_t *const b[BUFFERS] = {other[RECORD], other[KEY], other[NONCE], other[METADATA], other[INPUT], other[OUTPUT], other[TAG], other[POOL],
+                                other[LINE]};
     pevghazo_session *session = in_table(call) ? &other_record(group)->session : (void *)b[RECORD];
     switch (call) {
     case START:
@@ -104,12 +112,18 @@ static void expected_counts(int call) {
     for (size_t i = 0; call == DAY && i < table_len(); i++) other_record(i)->count = 0;
 }
 
+/* Behind the size in a run anything may stand after an accepted line. */
+static void same_padding(const pevghazo_pool *pool) {
+    pevghazo_pool *copy = (void *)other[POOL];
+    for (int i = 0; i < PEVGHAZO_POOL_RUNS; i++) memcpy(&copy->runs[i].size + 1, &pool->runs[i].size + 1, 3);
+}
+
 /* Lays out what stands on the other side, makes the call there and here, and compares number and buffers. */
 static void both(int call, uint32_t number) {
     const size_t step = in_table(call) ? IN_TABLE : ONE_SESSION;
     uint8_t *b[BUFFERS];
-    snprintf(doing, sizeof doing, "%s, lengths %zu (records), %zu (key), %zu (nonce), %zu (metadata), %zu (message), %s (place %d)", names[call],
-             n[RECORD], n[KEY], n[NONCE], n[METADATA], n[INPUT], place_name(where), where);
+    snprintf(doing, sizeof doing, "%s, lengths %zu (records), %zu (key), %zu (nonce), %zu (metadata), %zu (message), %zu (line), %s (place %d)",
+             names[call], n[RECORD], n[KEY], n[NONCE], n[METADATA], n[INPUT], n[LINE], place_name(where), where);
     for (int i = 0; i < BUFFERS; i++) {
         lay(&rows[i], where, steps[i], other[i], n[i]);
         b[i] = rows[i].at;
@@ -119,6 +133,7 @@ static void both(int call, uint32_t number) {
     for (int i = KEY; i <= INPUT; i++) holds(&rows[i], other[i], otherwise[i]);
     if (called(call, b) != number) fail("another number");
     for (size_t i = FIELDS; i < n[RECORD]; i += step) memcpy(&other[RECORD][i], b[RECORD] + i, ONE_SESSION - FIELDS);
+    if (call == ADD && number == PEVGHAZO_ACCEPTED) same_padding((void *)b[POOL]);
     for (int i = 0; i < BUFFERS; i++) holds(&rows[i], other[i], otherwise[i]);
     calls++;
 }
@@ -191,11 +206,42 @@ static void run(size_t records) {
     both(QUESTION, records == PEVGHAZO_GROUPS ? PEVGHAZO_ACCEPTED : PEVGHAZO_BAD_GROUP);
 }
 
+/* A line that the pool is to give this number for. */
+static void line(const char *text, uint32_t number) {
+    n[LINE] = strlen(text);
+    memcpy(other[LINE], text, n[LINE]);
+    both(ADD, number);
+}
+
+/* A pool is filled; each number is given, by lines of all lengths; and both questions go over all runs. */
+static void pool(void) {
+    static const char *const whole = "31,C,99999998,99999999,20250304\n";
+    char text[PEVGHAZO_LINE_MAX + 1];
+    n[POOL] = sizeof(pevghazo_pool);
+    memset(other[POOL], 0, n[POOL]);
+    for (size_t length = 0; length < strlen(whole); length++) {
+        snprintf(text, sizeof text, "%.*s", (int)length, whole);
+        line(text, PEVGHAZO_BAD_LINE);
+    }
+    line(whole, PEVGHAZO_ACCEPTED);
+    for (unsigned i = 1; i < PEVGHAZO_POOL_RUNS; i++) {
+        snprintf(text, sizeof text, "7,C,%u,%u,20250304\n", 2 * i + 100, 2 * i + 100);
+        line(text, PEVGHAZO_ACCEPTED);
+    }
+    line(whole, PEVGHAZO_POOLED);
+    line("7,C,102,103,20250304\n", PEVGHAZO_POOLED);
+    line("0,D,1,1,20250304\n", PEVGHAZO_POOL_FULL);
+    both(HOLDS, false);
+    both(RINGS, PEVGHAZO_POOL_RUNS + 1);
+    line("7,C,103,103,20250304\n", PEVGHAZO_ACCEPTED);
+}
+
 static void everywhere(void) {
     static const size_t runs[] = {0, 1, PEVGHAZO_GROUPS - 1, PEVGHAZO_GROUPS, PEVGHAZO_GROUPS + 1};
     for (where = 0; where < PLACES; where++) {
         for (int kind = 0; kind < KINDS; kind++) session(kind);
         for (int i = 0; i < 5; i++) run(runs[i]);
+        pool();
     }
 }
 

@@ -5,7 +5,8 @@ for call in 'pevghazo_start(s, a, 16)' 'pevghazo_wrap(s, a, 9, b, 9, c, 9, a, 32
   'pevghazo_read_envelope(a, 9)' 'pevghazo_write_envelope(0, 0, a, 9, b, 9, c, 32, a, 99)' 'pevghazo_code(s, 0, a, 8)' \
   'pevghazo_sane_start(n, a, 16, b, 9, c, 16)' 'pevghazo_sane_wrap(n, a, 9, b, 9, c, 9, a, 16)' \
   'pevghazo_sane_unwrap(n, a, 9, b, 9, c, 16, a, 9)' 'pevghazo_store_session(s, a, 102)' 'pevghazo_load_session(s, a, 102)' \
-  'pevghazo_store_sane_session(n, a, 102)' 'pevghazo_load_sane_session(n, a, 102)'; do
+  'pevghazo_store_sane_session(n, a, 102)' 'pevghazo_load_sane_session(n, a, 102)' \
+  'pevghazo_pool_add(p, a, 25)' 'pevghazo_pool_holds(p, 67, 1)' 'pevghazo_pool_rings(p)'; do
   for compiler in "gcc -x c -std=c89" "gcc -x c -std=c17" "clang -x c -std=c89" "g++ -x c++ -std=c++98" "g++ -x c++ -std=c++17"; do
     has ${compiler%% *} || continue
     $compiler $flags -DUSED "-DCALL=$call" tests/interface/ignored.c -c -o "$out/object.o"
