@@ -1,6 +1,6 @@
 # Completions of pevghazo for bash; `pevghazo completions bash` prints them.
 _pevghazo() {
-    local word before prefix='' help='' end='' name='' i skip=''
+    local word before prefix='' help='' area='' name='' i skip=''
     COMPREPLY=()
     # `--name=value` comes as three words where `=` is a word break, and as one where it is not.
     local -a all=()
@@ -21,9 +21,9 @@ _pevghazo() {
         case $i in
             --state|--wait|--allowance|--group|--key|--message|--metadata|--metadata-text|--out|--in|--from|--metadata-out|--mark|--packets|--format|--packet|--code|--counter|--nonce|--expect) skip=1 ;;
             -*) ;;
-            office|group|sane) [[ -z $end$name ]] && end=$i || name=$i ;;
-            help) [[ -z $help$end$name ]] && help=1 || name=$i ;;
-            *) name=$i ;;
+            office|group|sane|pool) [[ -z $area$name ]] && area=$i || name=${name:-$i} ;;
+            help) [[ -z $help$area$name ]] && help=1 || name=${name:-$i} ;;
+            *) name=${name:-$i} ;;
         esac
     done
     case $before in
@@ -33,11 +33,12 @@ _pevghazo() {
     esac
     local words
     [[ -n $help && -n $name ]] && return
-    case "$end $name" in
-        ' ') words='office group sane keygen demo help --help --version' ;;
+    case "$area $name" in
+        ' ') words='office group sane pool keygen demo help --help --version' ;;
         'office ') words='create day open-group seal open resend reread forget nearly-full codes check-code show --help' ;;
         'group ') words='start seal open resend reread forget codes check-code show --help' ;;
         'sane ') words='start seal open resend reread forget show --help' ;;
+        'pool ') words='create add show find --help' ;;
         'office create') words='--state --wait --help' ;;
         'office day') words='--state --allowance --wait --restore --help' ;;
         'office open-group') words='--state --group --key --replace --reuse-key --wait --restore --help' ;;
@@ -66,6 +67,10 @@ _pevghazo() {
         'sane reread') words='--state --out --metadata-out --wait --restore --help' ;;
         'sane forget') words='--state --envelope --wait --restore --help' ;;
         'sane show') words='--state --json --wait --restore --help' ;;
+        'pool create') words='--state --wait --help' ;;
+        'pool add') words='--state --in --all-or-none --wait --restore --help' ;;
+        'pool show') words='--state --runs --csv --json --wait --restore --help' ;;
+        'pool find') words='--state --wait --restore --help' ;;
         ' keygen') words='--out --help' ;;
         ' demo') words='--help' ;;
         ' help') words='--help' ;;

@@ -16,13 +16,14 @@
 extern "C" {
 #endif
 
-/* The bytes of stack that pevghazo_wipe_stack overwrites, more than three times what the deepest call uses. */
+/* The bytes of stack that pevghazo_wipe_stack overwrites, more than three times what the deepest call on a session uses. Adding a line to a pool
+ * uses more, and leaves nothing secret. */
 enum { PEVGHAZO_STACK_BYTES = 8192 };
 
 /* Sets bytes to zero, also where nobody reads them afterwards. `memory` is not NULL, also where the length is 0. */
 void pevghazo_wipe(void *memory, size_t len);
 
-/* Overwrites the stack that calls of this library used, and the registers xmm0 to xmm15; wider ones, which the C library may have used to copy
+/* Overwrites the stack that calls on sessions used, and the registers xmm0 to xmm15; wider ones, which the C library may have used to copy
  * a message, stay. The function that made the calls calls it, after the last one and before it returns. */
 void pevghazo_wipe_stack(void);
 

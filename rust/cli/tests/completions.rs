@@ -62,6 +62,14 @@ fn bash_offers_words_options_and_files() {
     assert_eq!(offered(&folder, &["keygen", "--o"]), ["--out"]);
     assert_eq!(offered(&folder, &["--v"]), ["--version"]);
     assert_eq!(offered(&folder, &["office", "day", "--v"]), [""; 0]);
+    assert_eq!(offered(&folder, &["pool", ""]), ["create", "add", "show", "find", "--help"]);
+    assert_eq!(offered(&folder, &["pool", "add", "--a"]), ["--all-or-none"]);
+    assert_eq!(offered(&folder, &["pool", "add", "--in", "of"]), ["office.state"]);
+    assert_eq!(
+        offered(&folder, &["pool", "show", "--"]),
+        ["--state", "--runs", "--csv", "--json", "--wait", "--restore", "--help"]
+    );
+    assert_eq!(offered(&folder, &["pool", "find", "C", "12001", "--s"]), ["--state"]);
     // The words that an option takes.
     assert_eq!(offered(&folder, &["group", "c"]), ["codes", "check-code"]);
     assert_eq!(offered(&folder, &["office", "codes", "--format", ""]), ["text", "csv", "html"]);
@@ -71,7 +79,7 @@ fn bash_offers_words_options_and_files() {
     assert_eq!(offered(&folder, &["office", "codes", "--packets", ""]), [""; 0]);
     assert_eq!(offered(&folder, &["group", "--format", "html", "co"]), ["codes"]);
     // The words of a command after `help`.
-    assert_eq!(offered(&folder, &["help", ""]), ["office", "group", "sane", "keygen", "demo", "help"]);
+    assert_eq!(offered(&folder, &["help", ""]), ["office", "group", "sane", "pool", "keygen", "demo", "help"]);
     assert_eq!(offered(&folder, &["help", "office", "op"]), ["open-group", "open"]);
     assert_eq!(offered(&folder, &["help", "office", "open", ""]), [""; 0]);
     // A value after `=`, which may be a word of its own.
