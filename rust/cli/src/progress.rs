@@ -22,7 +22,7 @@ impl Progress {
 
     /// Shows how many lines were read, and how much of the input, now and then.
     pub fn show(&mut self, lines: u64, read: u64, length: Option<u64>) {
-        if self.is_terminal && lines % EVERY == 0 {
+        if self.is_terminal && lines.is_multiple_of(EVERY) {
             say(&format!("{CLEAR}{}", text(lines, read, length)));
             self.is_shown = true;
         }
