@@ -1,4 +1,4 @@
--- The line of document 02, CR 6, and bytes that are close to it and no line: with a leading zero, without the line feed, with a byte behind it.
+-- The line of document 02, request 6, and bytes that are close to it and no line: with a leading zero, without the line feed, with a byte behind it.
 -- Assumes nothing.
 use mathlib.Core.Path.{_≡_, refl}
 use mathlib.Core.List.{[], _∷_}
