@@ -149,7 +149,7 @@ use Rattle.lent_pool.specs.Lent.{addedResult}''',
     Lent(
         path='lent_pool::holds', core='pool::holds', record='pool::Pool', result='bool', session=None,
         answer='bool', answer_field=None, answer_parts=[],
-        params=[('p', 'read'), ('size', 'u8'), ('number', 'u32')], core_args=['p', 'size', 'number'],
+        params=[('p', 'read'), ('size', 'u32'), ('number', 'u32')], core_args=['p', 'size', 'number'],
         gives='r ≡ anyMeets (aRun size number number) (runsOf h)', says='res ≡ anyMeets (aRun size number number) (runsOf p)', proof='e',
         uses='''use Rattle.runs.specs.Runs.{aRun, anyMeets}
 use Rattle.pool.specs.Pool.{runsOf}''',

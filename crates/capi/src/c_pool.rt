@@ -16,7 +16,7 @@ pub extern "C" fn pevghazo_pool_add(pool: &mut Pool, line: &[u8]) -> u32
 
 // Whether a number of a size is in the pool.
 #[no_mangle]
-pub extern "C" fn pevghazo_pool_holds(pool: &Pool, size: u8, number: u32) -> bool
+pub extern "C" fn pevghazo_pool_holds(pool: &Pool, size: u32, number: u32) -> bool
     ensures { λ b. ⌜ b ≡ anyMeets (aRun size number number) (runsOf (now (pool .entry))) ⌝ }
 {
     lent_pool::holds(pool, size, number)

@@ -1,5 +1,5 @@
--- The line of document 02, CR 6, and bytes that are close to it and no line: with a leading zero, without the line feed, with a byte behind it.
--- Assumes nothing.
+-- The line of document 02, request 6, and bytes that are close to it and no line: with a leading zero, without the line feed, with a byte behind
+-- it, with a carriage return before it; and no bytes at all. Assumes nothing.
 use mathlib.Core.Path.{_≡_, refl}
 use mathlib.Core.List.{[], _∷_}
 use Rattle.decimal.specs.Decimal.{digitOf, readMore, readFirst, readDecimal}
@@ -24,3 +24,13 @@ example-no-line-feed = refl
 example-byte-behind : readLine (55 ∷ 44 ∷ 67 ∷ 44 ∷ 49 ∷ 50 ∷ 48 ∷ 48 ∷ 49 ∷ 44 ∷ 49 ∷ 50 ∷ 49 ∷ 48 ∷ 48 ∷ 44 ∷ 50 ∷ 48 ∷ 50 ∷ 53 ∷ 48 ∷ 51 ∷ 48 ∷ 52 ∷ 10 ∷ 10 ∷ []) ≡ noLine
 unfolding readLine lineOf isLine readDecimal readFirst readMore digitOf readSize readDay readDigits
 example-byte-behind = refl
+
+-- `7,C,12001,12100,20250304`, a carriage return and a line feed
+example-carriage-return : readLine (55 ∷ 44 ∷ 67 ∷ 44 ∷ 49 ∷ 50 ∷ 48 ∷ 48 ∷ 49 ∷ 44 ∷ 49 ∷ 50 ∷ 49 ∷ 48 ∷ 48 ∷ 44 ∷ 50 ∷ 48 ∷ 50 ∷ 53 ∷ 48 ∷ 51 ∷ 48 ∷ 52 ∷ 13 ∷ 10 ∷ []) ≡ noLine
+unfolding readLine lineOf isLine readDecimal readFirst readMore digitOf readSize readDay readDigits
+example-carriage-return = refl
+
+-- no bytes
+example-empty : readLine [] ≡ noLine
+unfolding readLine lineOf isLine readDecimal readFirst readMore digitOf readSize readDay readDigits
+example-empty = refl

@@ -14,7 +14,7 @@ use Rattle.decimal.specs.declared.Number.{Number}
 use Rattle.decimal.proofs.Laws.{after-number}
 use Rattle.decimal.proofs.Reading.{read-sound, read-complete}
 use Rattle.issue_line.specs.Layout.{comma, lineFeed, maxGroup, maxRing, digits, line, IsLine}
-use Rattle.issue_line.specs.Read.{readSize, readDay, noLine, aLine, isLine, lineOf, readLine}
+use Rattle.issue_line.specs.Read.{readSize, readDay, noLine, aLine, isLine, lineOf, readLine, ReadsExactly}
 use Rattle.issue_line.specs.declared.Size.{Size}
 use Rattle.issue_line.specs.declared.Line.{Line}
 use Rattle.issue_line.proofs.Steps.{line-read}
@@ -146,3 +146,31 @@ line-refused s = (
     go : ((group size first last day : ℕ) → IsLine s group size first last day → ⊥) → (t : Bool) → readLine s .found ≡ t → readLine s .found ≡ false
     go none true e = absurd (none _ _ _ _ _ (line-sound s e))
     go none false e = e
+
+-- the fields of a line that was found, and of one that was not
+none-found : (s : List ℕ) → readLine s .found ≡ false → readLine s ≡ noLine
+unfolding readLine lineOf
+none-found s =
+    let g = readDecimal maxGroup comma s 0 in
+    let z = readSize s (g .next) in
+    let f = readDecimal maxRing comma s (z .next) in
+    let l = readDecimal maxRing comma s (f .next) in
+    let d = readDay s (l .next) in
+    left (isLine (length s) g z f l d) (g .value) (z .letter) (f .value) (l .value) (d .value)
+  where
+    left : (t : Bool) (g z f l d : ℕ) → (cond t (aLine g z f l d) noLine) .found ≡ false → cond t (aLine g z f l d) noLine ≡ noLine
+    left true g z f l d e = absurd (true≢false e)
+    left false g z f l d e = refl
+
+pub reads-exactly : (s : List ℕ) → ReadsExactly s
+reads-exactly s =
+    record {
+      one = λ group size first last day. (
+        (λ e. subst (Stands s) e (line-sound s (ap (λ (x : Line). x .found) e))),
+        line-complete s group size first last day,
+      );
+      none = (
+        (λ e. line-refused s .0 (ap (λ (x : Line). x .found) e)),
+        (λ no. none-found s (line-refused s .1 no)),
+      );
+    }

@@ -1,4 +1,4 @@
--- The layout of an issue line: document 02, CR 6.
+-- The layout of an issue line: document 02, request 6. Assumes nothing.
 use Prim.Native.Nat.{ℕ, zero, suc, _/_, _%_, _≤_}
 use mathlib.Core.Path.{_≡_}
 use mathlib.Core.List.{List, [], _∷_, _++_}

@@ -1,12 +1,15 @@
--- What a reader of issue lines finds in some bytes. proofs/Reading.antt shows that this is exactly what the layout says.
+-- What a reader of issue lines finds in some bytes, and what is claimed of it: document 02, request 6, 13. proofs/Reading.antt has the proof that
+-- this is exactly what the layout says. Assumes nothing.
 use Prim.Native.Nat.{ℕ, zero, suc, _+_, _*_}
+use mathlib.Core.Path.{_≡_}
 use mathlib.Core.Bool.{Bool, true, false, cond, _&&_}
+use mathlib.Core.Logic.{_↔_}
 use mathlib.Core.List.{List, [], _∷_}
 use lib.ListN.{length, drop, getD}
 use lib.Dec.{ltb, leb, eqb}
 use Rattle.decimal.specs.Decimal.{digitOf, noNumber, readDecimal}
 use Rattle.decimal.specs.declared.Number.{Number}
-use Rattle.issue_line.specs.Layout.{comma, lineFeed, letterA, letterH, maxGroup, maxRing}
+use Rattle.issue_line.specs.Layout.{comma, lineFeed, letterA, letterH, maxGroup, maxRing, IsLine}
 use Rattle.issue_line.specs.declared.Line.{Line}
 use Rattle.issue_line.specs.declared.Size.{Size}
 
@@ -35,6 +38,7 @@ readDay s at = readDigits 8 0 at (drop at s)
 abbrev pub noLine : Line
 noLine = record { found = false; group = 0; size = 0; first = 0; last = 0; day = 0 }
 
+-- a line with these fields
 abbrev pub aLine : (group size first last day : ℕ) → Line
 aLine group size first last day = record { found = true; group = group; size = size; first = first; last = last; day = day }
 
@@ -43,6 +47,7 @@ unfoldable pub isLine : (n : ℕ) → Number → Size → Number → Number → 
 isLine n g z f l d =
     g .found && (z .found && (f .found && (l .found && (d .found && (leb 1 (f .value) && (leb (f .value) (l .value) && eqb (d .next) n))))))
 
+-- that line, or none
 unfoldable pub lineOf : (n : ℕ) → Number → Size → Number → Number → Number → Line
 lineOf n g z f l d = cond (isLine n g z f l d) (aLine (g .value) (z .letter) (f .value) (l .value) (d .value)) noLine
 
@@ -54,3 +59,8 @@ readLine s =
     let f = readDecimal maxRing comma s (z .next) in
     let l = readDecimal maxRing comma s (f .next) in
     lineOf (length s) g z f l (readDay s (l .next))
+
+-- What is claimed of reading the bytes s: a line with these fields is found exactly where they are it, and none exactly where they are none.
+pub record ReadsExactly (s : List ℕ) : Type 0 where
+  pub one : (group size first last day : ℕ) → (readLine s ≡ aLine group size first last day) ↔ IsLine s group size first last day
+  pub none : (readLine s ≡ noLine) ↔ ((group size first last day : ℕ) → IsLine s group size first last day → ⊥)

@@ -1,4 +1,4 @@
-// Issue lines (document 02, CR 6): `group,size,first,last,day` and a line feed, as in `7,C,12001,12100,20250304`. Bytes are one line or none:
+// Issue lines (document 02, request 6): `group,size,first,last,day` and a line feed, as in `7,C,12001,12100,20250304`. Bytes are one line or none:
 // specs/Layout.antt has the layout, specs/Read.antt what is found, and proofs/Reading.antt that this is just what is spelled.
 use decimal::Number;
 use decimal::digit_of;

@@ -17,7 +17,7 @@ pub fn add_line(p: &mut Pool, line: &[u8]) -> u32
 }
 
 // Whether a number of a size is in a pool.
-pub fn holds(p: &Pool, size: u8, number: u32) -> bool
+pub fn holds(p: &Pool, size: u32, number: u32) -> bool
     ensures { λ b. ⌜ b ≡ anyMeets (aRun size number number) (runsOf (now (p .entry))) ⌝ }
 {
     pool::holds(*p, size, number)

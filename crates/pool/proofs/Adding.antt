@@ -12,7 +12,7 @@ use lib.Dec.{ltb}
 use borrow.Author.Tests.{ltb-true, ltb-false}
 use Rattle.runs.specs.declared.Run.{Run}
 use Rattle.runs.specs.Runs.{aRun, anyMeets, withRun, ringsIn, ringsOf}
-use Rattle.runs.specs.Meaning.{Valid, In, Holds, GoodRuns, good-none}
+use Rattle.runs.specs.Meaning.{Valid, In, GoodRuns, good-none}
 use Rattle.runs.proofs.Joining.{clear-of, clear-disjoint, good-with, rings-with, holds-with, holds-only, meets-some}
 use Rattle.runs.proofs.Fewest.{fewest}
 use Rattle.pool.specs.declared.Pool.{Pool}

@@ -112,7 +112,7 @@ pub fn add(p: Pool, r: Run) -> Added
 }
 
 // Whether a number of a size is in the pool.
-pub fn holds(p: Pool, size: u8, number: u32) -> bool
+pub fn holds(p: Pool, size: u32, number: u32) -> bool
     ensures { λ b. ⌜ b ≡ anyMeets (aRun size number number) (runsOf p) ⌝ }
 {
     overlaps(

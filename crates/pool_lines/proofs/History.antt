@@ -1,7 +1,7 @@
 -- Every list of byte strings, added to the empty pool one after the other: the pool holds just the numbers and the rings of the accepted lines, and
 -- the next byte string gets the number that these lines alone decide. Assumes nothing.
-use Prim.Native.Nat.{ℕ, _+_, _-_, _≤_}
-use mathlib.Core.Path.{_≡_, refl, sym, ap, _∙_, subst}
+use Prim.Native.Nat.{ℕ, _+_, _-_}
+use mathlib.Core.Path.{_≡_, refl, ap, subst}
 use mathlib.Core.Bool.{Bool, true, false, cond}
 use mathlib.Core.Logic.{_↔_, _⊎_, inl, inr}
 use mathlib.Core.List.{List, [], _∷_}
@@ -12,9 +12,8 @@ use borrow.Author.Tests.{eqb-true, eqb-false}
 use Rattle.issue_line.specs.Layout.{IsLine}
 use Rattle.issue_line.specs.Read.{readLine}
 use Rattle.issue_line.proofs.Reading.{line-sound}
-use Rattle.runs.specs.declared.Run.{Run}
 use Rattle.runs.specs.Runs.{aRun, ringsOf}
-use Rattle.runs.specs.Meaning.{In, Holds, here, there, SameNumbers}
+use Rattle.runs.specs.Meaning.{In, Holds, here, there}
 use Rattle.runs.proofs.Joining.{held-asked}
 use Rattle.runs.proofs.Fewest.{holds-some, fewest, same-runs}
 use Rattle.pool.specs.declared.Pool.{Pool}
@@ -22,7 +21,7 @@ use Rattle.pool.specs.Pool.{runsOf, emptyPool}
 use Rattle.pool.specs.Good.{Good, InPool, HoldsWith, added}
 use Rattle.pool.proofs.Adding.{empty-runs, empty-good}
 use Rattle.pool_lines.specs.Lines.{runOf, addLine, LineStop, a-line}
-use Rattle.pool_lines.specs.History.{after, accepted, Held, in-first, in-later, ringsOfLines, poolAfter, taken, HeldBy, Pooled, SamePool, FirstLine}
+use Rattle.pool_lines.specs.History.{after, accepted, Held, in-first, in-later, ringsOfLines, poolAfter, HeldBy, Pooled, SamePool, FirstLine}
 use Rattle.pool_lines.proofs.Steps.{accepted-found}
 use Rattle.pool_lines.proofs.Adding.{line-good, line-exactly, line-refused-same, line-holds, line-rings, line-stop-as}
 
@@ -118,30 +117,30 @@ module _ (lines : List (List ℕ)) where
         refused = λ bytes no. line-refused-same (poolAfter lines) bytes good-after no;
       }
 
--- Two lists whose accepted lines held the same numbers.
-module _ (lines others : List (List ℕ)) (same : (size x : ℕ) → HeldBy lines size x ↔ HeldBy others size x) where
-  same-numbers : SameNumbers (runsOf (poolAfter lines)) (runsOf (poolAfter others))
-  same-numbers size x = (
-    (λ h. held-after others size x .1 (same size x .0 (held-after lines size x .0 h))),
-    (λ h. held-after lines size x .1 (same size x .1 (held-after others size x .0 h))),
-  )
-
-  pub same-pool : SamePool lines others
+-- Two good pools that hold the same numbers.
+module _ (p q : Pool) (good-p : Good p) (good-q : Good q) (same : (size x : ℕ) → InPool p size x ↔ InPool q size x) where
+  pub same-pool : SamePool p q
   same-pool =
-      let a : List Run = runsOf (poolAfter lines) in
-      let b : List Run = runsOf (poolAfter others) in
       record {
-        runs = same-runs a b (good-after lines .apart) (good-after others .apart) same-numbers;
+        runs = same-runs (runsOf p) (runsOf q) (good-p .apart) (good-q .apart) same;
         count =
             omega (
               arith,
-              fewest a b (good-after lines .apart) same-numbers,
-              fewest b a (good-after others .apart) (λ size x. (same-numbers size x .1, same-numbers size x .0)),
+              fewest (runsOf p) (runsOf q) (good-p .apart) same,
+              fewest (runsOf q) (runsOf p) (good-q .apart) (λ size x. (same size x .1, same size x .0)),
             );
         numbers = λ bytes.
-            next-after lines bytes (addLine (poolAfter others) bytes .number) .1
-            (line-stop-as (HeldBy lines) (HeldBy others) same bytes (next-after others bytes (addLine (poolAfter others) bytes .number) .0 refl));
+            line-exactly p bytes good-p (addLine q bytes .number) .1
+            (line-stop-as (InPool p) (InPool q) same bytes (line-exactly q bytes good-q (addLine q bytes .number) .0 refl));
       }
+
+-- So with two lists whose accepted lines held the same numbers.
+pub same-lists : (lines others : List (List ℕ)) → ((size x : ℕ) → HeldBy lines size x ↔ HeldBy others size x) → SamePool (poolAfter lines) (poolAfter others)
+same-lists lines others same =
+    same-pool (poolAfter lines) (poolAfter others) (good-after lines) (good-after others) (λ size x. (
+      (λ h. held-after others size x .1 (same size x .0 (held-after lines size x .0 h))),
+      (λ h. held-after lines size x .1 (same size x .1 (held-after others size x .0 h))),
+    ))
 
 -- The first line: nothing is pooled, and its run is one of 256.
 only-run : (size first last : ℕ) → HoldsWith (InPool emptyPool) (aRun size first last) (aRun size first last ∷ [])

@@ -62,11 +62,12 @@ pub record Pooled (lines : List (List ℕ)) : Type 0 where
   pub next : (bytes : List ℕ) (n : ℕ) → (addLine (poolAfter lines) bytes .number ≡ n) ↔ LineStop (HeldBy lines) bytes n
   pub refused : (bytes : List ℕ) → (addLine (poolAfter lines) bytes .number ≡ 0 → ⊥) → addLine (poolAfter lines) bytes .pool ≡ poolAfter lines
 
--- What is claimed of two lists whose accepted lines held the same numbers: the same runs, as many of them, and the same number for each byte string.
-pub record SamePool (lines others : List (List ℕ)) : Type 0 where
-  pub runs : SameRuns (runsOf (poolAfter lines)) (runsOf (poolAfter others))
-  pub count : length (runsOf (poolAfter lines)) ≡ length (runsOf (poolAfter others))
-  pub numbers : (bytes : List ℕ) → addLine (poolAfter lines) bytes .number ≡ addLine (poolAfter others) bytes .number
+-- What is claimed of two good pools that hold the same numbers, as two lists leave where their accepted lines held the same: they have the same
+-- runs, and as many, and give each byte string the same number.
+pub record SamePool (p q : Pool) : Type 0 where
+  pub runs : SameRuns (runsOf p) (runsOf q)
+  pub count : length (runsOf p) ≡ length (runsOf q)
+  pub numbers : (bytes : List ℕ) → addLine p bytes .number ≡ addLine q bytes .number
 
 -- What is claimed of the first byte string: it is accepted exactly where it is a line.
 abbrev pub FirstLine : List ℕ → Type 0

@@ -23,7 +23,7 @@ pub fn add_line(p: Pool, bytes: &[u8]) -> Added
     add(
         p,
         Run {
-            size: l.size,
+            size: l.size as u32,
             first: l.first,
             last: l.last,
         },

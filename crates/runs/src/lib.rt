@@ -6,7 +6,7 @@ ghost use Rattle.runs.specs.Runs.{meets, touches, join};
 // The ring numbers first to last of a size, which is the byte of its letter.
 #[repr(C)]
 pub struct Run {
-    pub size: u8,
+    pub size: u32,
     pub first: u32,
     pub last: u32,
 }

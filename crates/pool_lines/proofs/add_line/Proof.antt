@@ -10,10 +10,10 @@ returns : tie.Need-returns
 returns c = sym (not-a-line _ _ _ (c .before .before .read-line .ensures) (not-true _ (c .if1 .taken)))
 
 returns-2 : tie.Need-returns-2
-returns-2 c = c .add .ensures ∙ sym (a-line-added _ _ _ (c .before .before .before .read-line .ensures) (not-false _ (c .before .if1 .left)))
+returns-2 c = c .add .ensures ∙ sym (a-line-added _ _ _ (c .before .before .before .before .read-line .ensures) (not-false _ (c .before .before .if1 .left)))
 
 add-requires : tie.Need-add-requires
-add-requires c κs = line-valid _ _ (c .before .before .read-line .ensures) (not-false _ (c .if1 .left))
+add-requires c κs = line-valid _ _ (c .before .before .before .read-line .ensures) (not-false _ (c .before .if1 .left))
 
 pub add-line-spec : {M : Type 1} → statement M
-add-line-spec = tie.close (tie.spec (λ c κs. search needs) returns add-requires returns-2)
+add-line-spec = tie.close (tie.spec (λ c κs. search needs) returns (λ c. search needs) add-requires returns-2)
