@@ -112,12 +112,6 @@ static void expected_counts(int call) {
     for (size_t i = 0; call == DAY && i < table_len(); i++) other_record(i)->count = 0;
 }
 
-/* Behind the size in a run anything may stand after an accepted line. */
-static void same_padding(const pevghazo_pool *pool) {
-    pevghazo_pool *copy = (void *)other[POOL];
-    for (int i = 0; i < PEVGHAZO_POOL_RUNS; i++) memcpy(&copy->runs[i].size + 1, &pool->runs[i].size + 1, 3);
-}
-
 /* Lays out what stands on the other side, makes the call there and here, and compares number and buffers. */
 static void both(int call, uint32_t number) {
     const size_t step = in_table(call) ? IN_TABLE : ONE_SESSION;
@@ -133,7 +127,6 @@ static void both(int call, uint32_t number) {
     for (int i = KEY; i <= INPUT; i++) holds(&rows[i], other[i], otherwise[i]);
     if (called(call, b) != number) fail("another number");
     for (size_t i = FIELDS; i < n[RECORD]; i += step) memcpy(&other[RECORD][i], b[RECORD] + i, ONE_SESSION - FIELDS);
-    if (call == ADD && number == PEVGHAZO_ACCEPTED) same_padding((void *)b[POOL]);
     for (int i = 0; i < BUFFERS; i++) holds(&rows[i], other[i], otherwise[i]);
     calls++;
 }

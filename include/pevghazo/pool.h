@@ -35,9 +35,9 @@ enum {
     PEVGHAZO_LINE_MAX = 32
 };
 
-/* A run: the byte of its size's letter, 'A' to 'H', and its first and its last number. */
+/* A run: its size's letter, 'A' to 'H', and its first and its last number. The record has no padding. */
 typedef struct pevghazo_run {
-    uint8_t size;
+    uint32_t size;
     uint32_t first;
     uint32_t last;
 } pevghazo_run;
@@ -66,7 +66,7 @@ PEVGHAZO_MUST_USE uint32_t pevghazo_pool_add(pevghazo_pool *pool, const uint8_t 
 
 /* Whether a number of a size is pooled: whether a run of that size has it, from its first number to its last. Never refused, whatever size and
  * number. */
-PEVGHAZO_MUST_USE pevghazo_flag pevghazo_pool_holds(const pevghazo_pool *pool, uint8_t size, uint32_t number);
+PEVGHAZO_MUST_USE pevghazo_flag pevghazo_pool_holds(const pevghazo_pool *pool, uint32_t size, uint32_t number);
 
 /* The rings pooled: the sum of last - first + 1 over the runs. A run whose first number is above its last, which no call leaves, counts
  * nothing. */

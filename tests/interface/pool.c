@@ -41,14 +41,14 @@ static void has(const char *what, size_t runs, uint64_t all, char size, uint32_t
     check(what, pool.used, runs);
     check(what, pevghazo_pool_rings(&pool), all);
     for (size_t i = 0; i < runs; i++)
-        found |= pool.runs[i].size == (uint8_t)size && pool.runs[i].first == first && pool.runs[i].last == last;
+        found |= pool.runs[i].size == (uint32_t)size && pool.runs[i].first == first && pool.runs[i].last == last;
     check(what, found, true);
     for (size_t i = runs; i < PEVGHAZO_POOL_RUNS; i++)
         check("what stands behind the runs", pool.runs[i].size != 0 || pool.runs[i].first != 0 || pool.runs[i].last != 0, 0);
 }
 
 /* Whether a number of a size is held. */
-static void held(uint8_t size, uint32_t number, bool expected) {
+static void held(uint32_t size, uint32_t number, bool expected) {
     memcpy(&before, &pool, sizeof pool);
     check("whether a number is held", pevghazo_pool_holds(&pool, size, number), expected);
     check("the record after a question", memcmp(&before, &pool, sizeof pool) != 0, 0);
@@ -58,11 +58,11 @@ static void held(uint8_t size, uint32_t number, bool expected) {
 static void example(void) {
     empty();
     check("the rings of zeroed memory", pevghazo_pool_rings(&pool), 0);
-    for (uint32_t size = 0; size < 256; size++) held((uint8_t)size, size, false);
+    for (uint32_t size = 0; size < 1024; size++) held(size, size, false);
     line("7,C,12001,12100,20250304\n", PEVGHAZO_ACCEPTED);
     has("the first line", 1, 100, 'C', 12001, 12100);
     held('C', 12000, false), held('C', 12001, true), held('C', 12050, true), held('C', 12100, true), held('C', 12101, false);
-    held('D', 12050, false), held('c', 12050, false), held(0, 12050, false);
+    held('D', 12050, false), held('c', 12050, false), held(0, 12050, false), held('C' + 256, 12050, false), held(UINT32_MAX, 12050, false);
 }
 
 /* Runs that touch on the left, on the right and on both sides become one; those with a number between them, or of another size, do not. */
@@ -145,7 +145,7 @@ static void any_record(size_t used) {
         memcpy((uint8_t *)&pool + 8 * i, &word, 8);
     }
     for (size_t i = 0; i < PEVGHAZO_POOL_RUNS; i += 3)
-        pool.runs[i].size = (uint8_t)('A' + i % 8), pool.runs[i].first %= 64, pool.runs[i].last %= 64;
+        pool.runs[i].size = 'A' + (uint32_t)i % 8, pool.runs[i].first %= 64, pool.runs[i].last %= 64;
     pool.used = used;
     any_questions();
     line("7,C,1,99999999,20250304", PEVGHAZO_BAD_LINE);

@@ -67,13 +67,13 @@ impl Run {
 
     /// Its record.
     fn record(self) -> RunRecord {
-        RunRecord { size: self.size.byte(), first: self.first, last: self.last }
+        RunRecord { size: u32::from(self.size.byte()), first: self.first, last: self.last }
     }
 
     /// The run of a record that the library or [`Pool::from_runs`] has made.
     fn of(record: &RunRecord) -> Run {
-        let size = Size::try_from(record.size);
-        let size = size.unwrap_or_else(|_| unreachable!("the library has no size {}", record.size));
+        let size = Size::ALL.into_iter().find(|size| u32::from(size.byte()) == record.size);
+        let size = size.unwrap_or_else(|| unreachable!("the library has no size {}", record.size));
         Run { size, first: record.first, last: record.last }
     }
 }
@@ -106,7 +106,7 @@ impl Pool {
     /// Whether a number of a size is pooled.
     #[must_use]
     pub fn holds(&self, size: Size, number: u32) -> bool {
-        raw::pool_holds(&self.0, size.byte(), number)
+        raw::pool_holds(&self.0, size.byte().into(), number)
     }
 
     /// How many rings are pooled, of all sizes together.

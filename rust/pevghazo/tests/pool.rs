@@ -20,7 +20,7 @@ fn zeroed_memory_is_the_empty_pool() {
     let pools = Pools::new();
     pools.check();
     assert_eq!((raw::pool_rings(pools.memory.record()), pools.memory.runs()), (0, vec![]));
-    for size in 0..=255 {
+    for size in (0..=255).chain([256 + 65, 256 + 72, u32::MAX]) {
         for number in [0, 1, 12_001, 99_999_999, u32::MAX] {
             assert!(!raw::pool_holds(pools.memory.record(), size, number));
         }
@@ -35,6 +35,10 @@ fn a_line_is_pooled() {
     for (number, held) in [(0, false), (12_000, false), (12_001, true), (12_050, true), (12_100, true), (12_101, false)]
     {
         assert_eq!((pools.holds('C', number), pools.holds('B', number)), (held, false), "{number}");
+        // Sizes that have the letter in some of their bytes.
+        for size in [0, 0x143, 0x4300, 0x0100_0043, 0x4343_4343] {
+            assert!(!raw::pool_holds(pools.memory.record(), size, number), "{size:x}");
+        }
     }
 }
 

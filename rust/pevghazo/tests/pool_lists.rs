@@ -219,7 +219,9 @@ fn any_run(random: &mut Random) -> RunRecord {
         _ => random.below(40) as u32,
     };
     let (first, last) = (number(), number());
-    RunRecord { size: [any_size(random) as u8, random.bits() as u8][random.below(2)], first, last }
+    // Now and then a size that has a letter in its lowest byte only.
+    let size = u32::from(any_size(random));
+    RunRecord { size: [size, size | 0x100, random.bits() as u32][random.below(3)], first, last }
 }
 
 /// The runs of any record.
@@ -235,8 +237,9 @@ fn any_record_whatever_it_holds() {
     cases("any_record_whatever_it_holds", |random| {
         let mut memory = any_memory(random);
         for _ in 0..4 {
-            let (record, size, number) = (memory.record(), random.bits() as u8, random.below(45) as u32);
-            for (size, number) in [(size, number), (any_size(random) as u8, number), (b'A', u32::MAX)] {
+            let (record, size, number) = (memory.record(), random.bits() as u32, random.below(45) as u32);
+            let letter = u32::from(any_size(random));
+            for (size, number) in [(size, number), (letter, number), (letter | 0x100, number), (letter, u32::MAX)] {
                 let has = |run: &RunRecord| run.size == size && run.first <= number && number <= run.last;
                 assert_eq!(raw::pool_holds(record, size, number), used_runs(record).iter().any(has));
             }

@@ -8,8 +8,8 @@ use crate::POOL_RUNS;
 #[repr(C)]
 #[derive(Clone, Copy, Debug, Default, PartialEq, Eq)]
 pub struct RunRecord {
-    /// The byte of the size's letter, A to H.
-    pub size: u8,
+    /// The size's letter, A to H.
+    pub size: u32,
     /// The first number.
     pub first: u32,
     /// The last number.
@@ -33,7 +33,7 @@ const _: () = assert!(size_of::<PoolRecord>() == 3080 && offset_of!(PoolRecord, 
 
 unsafe extern "C" {
     fn pevghazo_pool_add(pool: *mut PoolRecord, line: *const u8, line_len: usize) -> u32;
-    fn pevghazo_pool_holds(pool: *const PoolRecord, size: u8, number: u32) -> bool;
+    fn pevghazo_pool_holds(pool: *const PoolRecord, size: u32, number: u32) -> bool;
     fn pevghazo_pool_rings(pool: *const PoolRecord) -> u64;
 }
 
@@ -53,7 +53,7 @@ pub fn pool_add(pool: &mut PoolRecord, line: &[u8]) -> u32 {
 
 /// Whether a number of a size is pooled. Never refused.
 #[must_use]
-pub fn pool_holds(pool: &PoolRecord, size: u8, number: u32) -> bool {
+pub fn pool_holds(pool: &PoolRecord, size: u32, number: u32) -> bool {
     // SAFETY: see the module's head.
     unsafe { pevghazo_pool_holds(pool, size, number) }
 }

@@ -60,7 +60,7 @@ impl Memory {
 
 /// A run of the reference as a record.
 pub fn run_record((size, first, last): (char, u32, u32)) -> RunRecord {
-    RunRecord { size: size as u8, first, last }
+    RunRecord { size: size.into(), first, last }
 }
 
 /// A line of these rings.
@@ -107,7 +107,8 @@ impl Pools {
     fn check_order(&self, before: Vec<RunRecord>, line: &[u8]) {
         let line = issue::read(line).expect("only a line is accepted");
         let now: Vec<RunRecord> = self.reference.runs().map(run_record).collect();
-        let has = |run: &&RunRecord| run.size == line.size as u8 && run.first <= line.first && line.last <= run.last;
+        let has =
+            |run: &&RunRecord| run.size == u32::from(line.size) && run.first <= line.first && line.last <= run.last;
         let joined = now.iter().find(has).expect("the line's numbers are in a run");
         let others = before.into_iter().filter(|run| now.contains(run));
         assert_eq!(self.memory.runs(), others.chain([*joined]).collect::<Vec<_>>());
@@ -125,7 +126,7 @@ impl Pools {
 
     /// Whether a number is held, on both sides.
     pub fn holds(&self, size: char, number: u32) -> bool {
-        let held = raw::pool_holds(self.memory.record(), size as u8, number);
+        let held = raw::pool_holds(self.memory.record(), size.into(), number);
         assert_eq!(held, self.reference.holds(size, number), "{size} {number}");
         held
     }
