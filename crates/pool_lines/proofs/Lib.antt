@@ -1,4 +1,5 @@
 -- Laws and theorems that belong to no one function.
 pub mod Steps
+pub mod Lists
 pub mod Adding
 pub mod History
