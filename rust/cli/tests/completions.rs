@@ -62,14 +62,6 @@ fn bash_offers_words_options_and_files() {
     assert_eq!(offered(&folder, &["keygen", "--o"]), ["--out"]);
     assert_eq!(offered(&folder, &["--v"]), ["--version"]);
     assert_eq!(offered(&folder, &["office", "day", "--v"]), [""; 0]);
-    assert_eq!(offered(&folder, &["pool", ""]), ["create", "add", "show", "find", "--help"]);
-    assert_eq!(offered(&folder, &["pool", "add", "--a"]), ["--all-or-none"]);
-    assert_eq!(offered(&folder, &["pool", "add", "--in", "of"]), ["office.state"]);
-    assert_eq!(
-        offered(&folder, &["pool", "show", "--"]),
-        ["--state", "--runs", "--csv", "--json", "--wait", "--restore", "--help"]
-    );
-    assert_eq!(offered(&folder, &["pool", "find", "C", "12001", "--s"]), ["--state"]);
     // The words that an option takes.
     assert_eq!(offered(&folder, &["group", "c"]), ["codes", "check-code"]);
     assert_eq!(offered(&folder, &["office", "codes", "--format", ""]), ["text", "csv", "html"]);
@@ -89,4 +81,18 @@ fn bash_offers_words_options_and_files() {
     assert_eq!(offered(&folder, &["office", "--state", "=", "office.state", "da"]), ["day"]);
     assert_eq!(offered(&folder, &["office", "--state=office.state", "da"]), ["day"]);
     assert_eq!(offered(&folder, &["office", "day", "--allowance", "=", "1"]), [""; 0]);
+}
+
+#[test]
+fn bash_offers_the_pool() {
+    let folder = Folder::new();
+    folder.write("office.state", b"");
+    assert_eq!(offered(&folder, &["pool", ""]), ["create", "add", "show", "find", "--help"]);
+    assert_eq!(offered(&folder, &["pool", "add", "--a"]), ["--all-or-none"]);
+    assert_eq!(offered(&folder, &["pool", "add", "--in", "of"]), ["office.state"]);
+    assert_eq!(
+        offered(&folder, &["pool", "show", "--"]),
+        ["--state", "--runs", "--csv", "--json", "--wait", "--restore", "--help"]
+    );
+    assert_eq!(offered(&folder, &["pool", "find", "C", "12001", "--s"]), ["--state"]);
 }
