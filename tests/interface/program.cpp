@@ -1,4 +1,4 @@
-// A message from an office to a group and back, and a packet's code at both ends, in C++ with the installed library.
+// A message from an office to a group and back, a packet's code at both ends, and a pool, in C++ with the installed library.
 #include <cstring>
 #include <iostream>
 #include <pevghazo.h>
@@ -63,6 +63,10 @@ int main() {
     const bytes cryptogram = office.wrap(metadata, message, tag);
     if (group.unwrap(metadata, cryptogram, tag) != message) return 1;
     if (group.code(12) != office.code(12) || group.code(12) == group.code(13)) return 1;
+    const bytes line = of("7,C,12001,12100,20250304\n");
+    pevghazo_pool pool{};
+    if (pevghazo_pool_add(&pool, line.data(), line.size()) != PEVGHAZO_ACCEPTED) return 1;
+    if (pevghazo_pool_rings(&pool) != 100 || !pevghazo_pool_holds(&pool, 'C', 12100)) return 1;
     try {
         (void)group.unwrap(metadata, cryptogram, tag);
         return 1;

@@ -1,7 +1,7 @@
 //! A program outside the repository, over the installed library: prints the sentences of the numbers, and the stored bytes and codes of
 //! sessions of either mode, which must be those that the C functions give.
 
-use pevghazo::{BadBytes, Number, PACKET_MAX, Plain, Refusal, SaneSession, Secret, Session, Table};
+use pevghazo::{BadBytes, Number, PACKET_MAX, Plain, Pool, Refusal, SaneSession, Secret, Session, Size, Table};
 
 fn digits(bytes: &Secret) -> String {
     bytes.iter().map(|byte| format!("{byte:02x}")).collect()
@@ -20,6 +20,9 @@ fn main() -> Result<(), Refusal> {
     let (mut there, same_tag, _) = SaneSession::start(key, b"size C")?;
     let sealed = here.seal(7, &plain)?;
     assert_eq!((tag, &there.open(&sealed.envelope)?.message[..]), (same_tag, plain.message));
+    let mut pool = Pool::new();
+    pool.add(b"7,C,12001,12100,20250304\n")?;
+    assert_eq!((pool.rings(), pool.holds(Size::C, 12_100), pool.holds(Size::D, 12_100)), (100, true, false));
     for number in Number::ALL {
         println!("{}", number.sentence());
     }

@@ -305,39 +305,59 @@ fn a_standard_output_that_is_full() {
     assert_eq!(runs(&folder), "C,1,1,1\n");
 }
 
-/// Random lists of lines, some in several commands, beside the independent implementation.
+/// An input of random lines, of which some are damaged: one byte of them is another, which may be a line feed, or missing.
+fn any_input(random: &mut Random) -> Vec<u8> {
+    let mut input = Vec::new();
+    for _ in 0..random.below(60) {
+        let first = 1 + random.below(80);
+        let (size, last) = (random.pick(&["A", "B", "H"]), first + random.below(6));
+        let mut line = format!("{},{size},{first},{last},20250304\n", random.below(32)).into_bytes();
+        let place = random.below(line.len());
+        match random.below(12) {
+            0 => line[place] = random.pick(&[b'\n', b'\r', b',', b'0', 0, 0xFF, random.clone().bits() as u8]),
+            1 => drop(line.remove(place)),
+            _ => {}
+        }
+        input.extend(line);
+    }
+    input
+}
+
+/// What the independent implementation makes of an input: what is to be printed, and the status.
+fn expected(reference: &mut Reference, input: &[u8]) -> (String, i32) {
+    let (mut list, mut status, mut added, rings) = (String::new(), 0, 0, reference.rings());
+    let pieces: Vec<&[u8]> = input.split_inclusive(|byte| *byte == b'\n').collect();
+    for (place, piece) in pieces.iter().enumerate() {
+        match reference.add(piece).map_err(|number| i32::from(number.number())) {
+            Ok(()) => added += 1,
+            Err(number) => {
+                status = if status == 0 { 10 + number } else { status };
+                list += &listed(place + 1, number);
+            }
+        }
+    }
+    let rings = reference.rings() - rings;
+    (format!("{list}added {added} of {} lines, {rings} rings\n", pieces.len()), status)
+}
+
+/// Random inputs, some in several commands, beside the independent implementation.
 #[test]
-fn any_lists_beside_the_reference() {
+fn any_inputs_beside_the_reference() {
     let mut random = Random::new(606);
-    for _ in 0..40 {
+    let mut statuses = [0, 23, 24].map(|status| (status, 0));
+    for _ in 0..60 {
         let folder = empty();
         let mut reference = Reference::default();
         for _ in 0..1 + random.below(3) {
-            let (mut lines, mut list, mut first, mut added) = (Vec::new(), String::new(), 0, 0);
-            let (count, rings) = (random.below(60), reference.rings());
-            for line in 1..=count {
-                let from = 1 + random.below(80);
-                let (size, last) = (random.pick(&["A", "B", "H", "I"]), (from + random.below(8)).saturating_sub(1));
-                let bytes = format!("{},{size},{from},{last},20250304\n", random.below(34));
-                match reference.add(bytes.as_bytes()) {
-                    Ok(()) => added += 1,
-                    Err(number) => {
-                        first = if first == 0 { i32::from(number.number()) } else { first };
-                        list += &listed(line, i32::from(number.number()));
-                    }
-                }
-                lines.extend(bytes.into_bytes());
-            }
-            folder.write("lines", &lines);
+            let input = any_input(&mut random);
+            folder.write("lines", &input);
             let run = folder.run(ADD);
-            let rings = reference.rings() - rings;
-            assert_eq!(
-                String::from_utf8(run.printed).unwrap(),
-                format!("{list}added {added} of {count} lines, {rings} rings\n")
-            );
-            assert_eq!(run.status, if first == 0 { 0 } else { 10 + first });
+            let (printed, status) = expected(&mut reference, &input);
+            assert_eq!((String::from_utf8(run.printed).unwrap(), run.status), (printed, status));
+            statuses.iter_mut().filter(|(known, _)| *known == status).for_each(|(_, times)| *times += 1);
         }
         let row = |(size, first, last): (char, u32, u32)| format!("{size},{first},{last},{}\n", last - first + 1);
         assert_eq!(runs(&folder), reference.runs().map(row).collect::<String>());
     }
+    assert!(statuses.iter().all(|(_, times)| *times > 0), "{statuses:?}");
 }

@@ -4,7 +4,7 @@
 //! was sealed and the last message that was opened. A group's file, and that of a session in SANE, holds the group's number, the
 //! session and what is kept. They are in the file because a call and what belongs to it must be committed together: a kill between
 //! the commit and the handing out must not lose it. All these hold the fingerprint of every key that was ever used in the file. The file
-//! of a pool of unused rings holds its runs, in an order that `pool` says.
+//! of a pool of unused rings holds its runs; `pool` says how.
 //!
 //! | bytes | content |
 //! |---|---|
