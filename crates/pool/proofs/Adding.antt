@@ -1,6 +1,6 @@
 -- Adding to a good pool: it stays good, and holds the numbers and the rings of the run besides its own, or the pool is as it was and the number
 -- says why. Assumes nothing.
-use Prim.Native.Nat.{ℕ, _+_, _-_, _<_, _≤_}
+use Prim.Native.Nat.{ℕ, _-_, _<_, _≤_}
 use mathlib.Core.Path.{_≡_, refl, sym, ap, _∙_, subst}
 use mathlib.Core.Bool.{Bool, true, false, cond}
 use mathlib.Core.Logic.{_↔_, _⊎_, inl, inr}
@@ -11,14 +11,14 @@ use lib.Seq.{take-append-seam}
 use lib.Dec.{ltb}
 use borrow.Author.Tests.{ltb-true, ltb-false}
 use Rattle.runs.specs.declared.Run.{Run}
-use Rattle.runs.specs.Runs.{aRun, anyMeets, withRun, ringsIn, ringsOf}
+use Rattle.runs.specs.Runs.{aRun, anyMeets, withRun, ringsOf}
 use Rattle.runs.specs.Meaning.{Valid, In, GoodRuns, good-none}
 use Rattle.runs.proofs.Joining.{clear-of, clear-disjoint, good-with, rings-with, holds-with, holds-only, meets-some}
 use Rattle.runs.proofs.Fewest.{fewest}
 use Rattle.pool.specs.declared.Pool.{Pool}
 use Rattle.pool.specs.declared.Added.{Added}
 use Rattle.pool.specs.Pool.{maxRuns, runsOf, poolOf, emptyPool, joinPool, addRun}
-use Rattle.pool.specs.Good.{Good, InPool, Free, HoldsWith, AddStop, pooled, too-many, added}
+use Rattle.pool.specs.Good.{Good, InPool, Free, HoldsWith, AddStop, pooled, too-many, added, AddExactly}
 
 -- the runs of the pool of a list are the list
 pub runs-of-pool : (l : List Run) → runsOf (poolOf l) ≡ l
@@ -92,7 +92,7 @@ refused-same p r = go (addRun p r) (went p r)
 
 module _ (p : Pool) (r : Run) (good : Good p) (valid : Valid r) where
   -- The pool stays good.
-  pub add-good : Good (addRun p r .pool)
+  add-good : Good (addRun p r .pool)
   unfolding poolOf
   add-good = go (addRun p r) (went p r)
     where
@@ -118,7 +118,7 @@ module _ (p : Pool) (r : Run) (good : Good p) (valid : Valid r) where
       (λ size x. ((λ h. is size x .1 (with-run size x .0 h)), (λ h. with-run size x .1 (is size x .0 h))))
 
   -- The number is the one whose condition holds.
-  pub add-stop : AddStop (InPool p) r (addRun p r .number)
+  add-stop : AddStop (InPool p) r (addRun p r .number)
   add-stop = go (addRun p r) (went p r)
     where
       free : anyMeets r (runsOf p) ≡ false → Free (InPool p) r
@@ -128,10 +128,6 @@ module _ (p : Pool) (r : Run) (good : Good p) (valid : Valid r) where
       go a (met e) = let m = meets-some r (runsOf p) valid (good .apart) e in pooled (m .0) (m .1) (m .2)
       go a (full e n) = too-many (free e) (λ l is. omega (arith, none-shorter e l is))
       go a (done e n) = added (free e) (withRun r (runsOf p)) with-run n
-
-  -- So a run gets a number exactly where its condition holds.
-  pub add-exactly : (n : ℕ) → (addRun p r .number ≡ n) ↔ AddStop (InPool p) r n
-  add-exactly n = ((λ e. subst (AddStop (InPool p) r) e add-stop), (λ stop. one-stop (InPool p) r add-stop stop))
 
   -- An added run: the pool is that of the longer list.
   module _ (ok : addRun p r .number ≡ 0) where
@@ -143,10 +139,13 @@ module _ (p : Pool) (r : Run) (good : Good p) (valid : Valid r) where
         go a (full e n) z = let no : ⊥ = omega arith in absurd no
         go a (done e n) z = runs-of-pool (withRun r (runsOf p))
 
-    -- It holds the numbers of the pool and of the run, and no others.
-    pub add-holds : HoldsWith (InPool p) r (runsOf (addRun p r .pool))
-    add-holds = subst (HoldsWith (InPool p) r) (sym add-runs) with-run
-
-    -- It has as many rings as both together.
-    pub add-rings : ringsOf (runsOf (addRun p r .pool)) ≡ ringsOf (runsOf p) + ringsIn r
-    add-rings = ap ringsOf add-runs ∙ rings-with r (runsOf p) valid (good .apart)
+  -- All that is claimed.
+  pub add-exactly : AddExactly p r
+  add-exactly =
+      record {
+        number = λ n. ((λ e. subst (AddStop (InPool p) r) e add-stop), (λ stop. one-stop (InPool p) r add-stop stop));
+        refused = refused-same p r;
+        good = add-good;
+        holds = λ ok. subst (HoldsWith (InPool p) r) (sym (add-runs ok)) with-run;
+        rings = λ ok. ap ringsOf (add-runs ok) ∙ rings-with r (runsOf p) valid (good .apart);
+      }

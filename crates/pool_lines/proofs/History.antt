@@ -16,20 +16,20 @@ use Rattle.pool.proofs.Adding.{empty-good}
 use Rattle.pool_lines.specs.Lines.{addLine, LineStop, a-line}
 use Rattle.pool_lines.specs.History.{poolAfter, HeldBy, ListPooled, SamePool, FirstLine}
 use Rattle.pool_lines.proofs.Steps.{accepted-found}
-use Rattle.pool_lines.proofs.Adding.{line-takes, line-exactly, line-stop-as}
+use Rattle.pool_lines.proofs.Adding.{line-takes, line-number, line-stop-as}
 use Rattle.pool_lines.proofs.Lists.{nothing, list-pooled, same-pool as same-pools, same-lists as lists-same}
 
 -- The theorem over every list.
 pub lines-pooled : (lines : List (List ℕ)) → ListPooled addLine LineStop lines
-lines-pooled lines = list-pooled addLine line-takes LineStop line-exactly line-stop-as lines
+lines-pooled lines = list-pooled addLine line-takes LineStop line-number line-stop-as lines
 
 -- Good pools that hold the same numbers, and two lists whose accepted lines held the same.
 pub same-pool : (p q : Pool) → Good p → Good q → ((size x : ℕ) → InPool p size x ↔ InPool q size x) → SamePool addLine p q
-same-pool p q good-p good-q same = same-pools addLine line-takes LineStop line-exactly line-stop-as p q good-p good-q same
+same-pool p q good-p good-q same = same-pools addLine line-takes LineStop line-number line-stop-as p q good-p good-q same
 
 pub same-lists : (lines others : List (List ℕ)) → ((size x : ℕ) → HeldBy addLine lines size x ↔ HeldBy addLine others size x)
     → SamePool addLine (poolAfter addLine lines) (poolAfter addLine others)
-same-lists lines others same = lists-same addLine line-takes LineStop line-exactly line-stop-as lines others same
+same-lists lines others same = lists-same addLine line-takes LineStop line-number line-stop-as lines others same
 
 -- The first line: nothing is pooled, and its run is one of 256.
 only-run : (size first last : ℕ) → HoldsWith (InPool emptyPool) (aRun size first last) (aRun size first last ∷ [])
@@ -53,6 +53,6 @@ first-line bytes = (is-line, accepted-one)
     accepted-one : (group : ℕ) × (size : ℕ) × (first : ℕ) × (last : ℕ) × (day : ℕ) × IsLine bytes group size first last day
         → addLine emptyPool bytes .number ≡ 0
     accepted-one (group, size, first, last, day, is) =
-        line-exactly emptyPool bytes empty-good 0 .1
+        line-number emptyPool bytes empty-good 0 .1
         (a-line group size first last day 0 is
         (added (λ x i h. nothing size x h) (aRun size first last ∷ []) (only-run size first last) (omega arith)))

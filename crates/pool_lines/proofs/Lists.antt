@@ -11,7 +11,7 @@ use lib.ListN.{length}
 use lib.Dec.{eqb}
 use borrow.Author.Tests.{eqb-true, eqb-false}
 use Rattle.issue_line.specs.Read.{readLine}
-use Rattle.runs.specs.Runs.{ringsOf}
+use Rattle.runs.specs.Runs.{ringsIn, ringsOf}
 use Rattle.runs.specs.Meaning.{In}
 use Rattle.runs.proofs.Joining.{held-asked}
 use Rattle.runs.proofs.Fewest.{holds-some, fewest, same-runs}
@@ -19,7 +19,7 @@ use Rattle.pool.specs.declared.Pool.{Pool}
 use Rattle.pool.specs.declared.Added.{Added}
 use Rattle.pool.specs.Pool.{runsOf, emptyPool, addRun}
 use Rattle.pool.specs.Good.{Good, InPool, HoldsWith}
-use Rattle.pool.proofs.Adding.{empty-runs, empty-good, add-good, add-holds, add-rings}
+use Rattle.pool.proofs.Adding.{empty-runs, empty-good, add-exactly}
 use Rattle.pool_lines.specs.Lines.{runOf}
 use Rattle.pool_lines.specs.History.{Adding, Stops, after, accepted, Held, in-first, in-later, ringsOfLines, poolAfter, HeldBy, ListPooled, SamePool}
 use Rattle.pool_lines.proofs.Steps.{line-valid}
@@ -43,22 +43,22 @@ module _ (add : Adding) (takes : Takes add) where
       number : addRun p (runOf (readLine bytes)) .number ≡ 0
       number = ap (λ (a : Added). a .number) (sym (takes .added p bytes ok .1)) ∙ ok
 
-      step-holds : HoldsWith (InPool p) (runOf (readLine bytes)) (runsOf (add p bytes .pool))
+      pub step-holds : HoldsWith (InPool p) (runOf (readLine bytes)) (runsOf (add p bytes .pool))
       step-holds =
           subst (λ (a : Added). HoldsWith (InPool p) (runOf (readLine bytes)) (runsOf (a .pool))) (sym (takes .added p bytes ok .1))
-          (add-holds p (runOf (readLine bytes)) good valid number)
+          (add-exactly p (runOf (readLine bytes)) good valid .holds number)
 
-      step-rings : ringsOf (runsOf (add p bytes .pool)) ≡ ringsOf (runsOf p) + (readLine bytes .last - readLine bytes .first + 1)
+      pub step-rings : ringsOf (runsOf (add p bytes .pool)) ≡ ringsOf (runsOf p) + ringsIn (runOf (readLine bytes))
       step-rings =
-          omega (arith, valid, ap (λ (a : Added). ringsOf (runsOf (a .pool))) (takes .added p bytes ok .1), add-rings p (runOf (readLine bytes)) good valid number)
+          ap (λ (a : Added). ringsOf (runsOf (a .pool))) (takes .added p bytes ok .1) ∙ add-exactly p (runOf (readLine bytes)) good valid .rings number
 
-    step-good : Good (add p bytes .pool)
+    pub step-good : Good (add p bytes .pool)
     step-good = go (eqb (add p bytes .number) 0) refl
       where
         go : (t : Bool) → eqb (add p bytes .number) 0 ≡ t → Good (add p bytes .pool)
         go true e =
             let ok = eqb-true (add p bytes .number) 0 e in
-            subst (λ (a : Added). Good (a .pool)) (sym (takes .added p bytes ok .1)) (add-good p (runOf (readLine bytes)) good (valid ok))
+            subst (λ (a : Added). Good (a .pool)) (sym (takes .added p bytes ok .1)) (add-exactly p (runOf (readLine bytes)) good (valid ok) .good)
         go false e = subst Good (sym (takes .refused p bytes (eqb-false (add p bytes .number) 0 e))) good
 
   -- A list of byte strings, added to a good pool.
@@ -78,7 +78,7 @@ module _ (add : Adding) (takes : Takes add) where
 
       go : (t : Bool) → eqb (add p bytes .number) 0 ≡ t → ringsOf (runsOf (after add q rest)) ≡ ringsOf (runsOf q) + ringsOfLines (accepted add q rest)
           → ringsOf (runsOf (after add q rest)) ≡ ringsOf (runsOf p) + ringsOfLines (cond t (readLine bytes ∷ accepted add q rest) (accepted add q rest))
-      go true e ih = omega (arith, ih, step-rings p bytes good (eqb-true (add p bytes .number) 0 e))
+      go true e ih = omega (arith, ih, step-rings p bytes good (eqb-true (add p bytes .number) 0 e), valid p bytes good (eqb-true (add p bytes .number) 0 e))
       go false e ih = omega (arith, ih, ap (λ (r : Pool). ringsOf (runsOf r)) (takes .refused p bytes (eqb-false (add p bytes .number) 0 e)))
 
   after-holds : (p : Pool) (lines : List (List ℕ)) → Good p → (size x : ℕ)
