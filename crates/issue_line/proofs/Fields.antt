@@ -1,7 +1,7 @@
 -- The size and the day of a line are found exactly where they are spelled. Assumes nothing.
 use Prim.Native.Nat.{ℕ, zero, suc, _+_, _*_, _/_, _%_, _^_, _<_, _≤_}
 use mathlib.Core.Path.{_≡_, refl, sym, ap, ap₂, _∙_, subst}
-use mathlib.Core.Bool.{Bool, true, false, cond, _&&_, false≢true}
+use mathlib.Core.Bool.{Bool, true, false, cond, _&&_, false≢true, and-eq-true-iff}
 use mathlib.Core.Logic.{_⊎_, inl, inr}
 use mathlib.Core.List.{List, [], _∷_, _++_, append-assoc}
 use native.Mathlib.Omega.{arith}
@@ -18,35 +18,25 @@ use Rattle.decimal.proofs.Steps.{from-place}
 use Rattle.issue_line.specs.Layout.{comma, lineFeed, letterA, letterH, digits}
 use Rattle.issue_line.specs.Read.{noSize, readSize, readDigits, readDay}
 use Rattle.issue_line.specs.declared.Size.{Size}
-use Rattle.issue_line.proofs.Steps.{size-read}
-
--- both parts of a conjunction
-pub both : (a b : Bool) → a && b ≡ true → (a ≡ true) × (b ≡ true)
-both true b e = (refl, e)
-both false b e = absurd (false≢true e)
+use Rattle.issue_line.proofs.Steps.{foundAt, sizeAt, size-read}
 
 -- a size: a letter from A to H and a comma, and then the rest
 abbrev pub SizeStands : List ℕ → ℕ → Size → Type 0
 SizeStands s at z =
     (letterA ≤ z .letter) × (z .letter ≤ letterH) × (z .next ≡ at + 2) × (drop at s ≡ z .letter ∷ comma ∷ drop (z .next) s)
 
-found-size : (t : Bool) (z : Size) → (cond t z noSize) .found ≡ true → t ≡ true
-found-size true z e = refl
-found-size false z e = absurd (false≢true e)
-
-abbrev sizeAt : ℕ → ℕ → Size
-sizeAt letter i = record { found = true; letter = letter; next = i }
-
-abbrev dayAt : ℕ → ℕ → Number
-dayAt n i = record { found = true; value = n; next = i }
+-- where something was found, the test held without which nothing is
+pub found-of : {A : Type 0} (found : A → Bool) (none : A) → found none ≡ false → (t : Bool) (x : A) → found (cond t x none) ≡ true → t ≡ true
+found-of found none e true x h = refl
+found-of found none e false x h = absurd (false≢true (sym e ∙ h))
 
 tests-of : (s : List ℕ) (at : ℕ) → readSize s at .found ≡ true
     → (leb letterA (getD s at 0) ≡ true) × (leb (getD s at 0) letterH ≡ true) × (eqb (getD s (at + 1) 0) comma ≡ true)
 unfolding readSize
 tests-of s at e =
-    let all = found-size (leb letterA (getD s at 0) && (leb (getD s at 0) letterH && eqb (getD s (at + 1) 0) comma)) (sizeAt (getD s at 0) (at + 2)) e in
-    let a = both (leb letterA (getD s at 0)) (leb (getD s at 0) letterH && eqb (getD s (at + 1) 0) comma) all in
-    let b = both (leb (getD s at 0) letterH) (eqb (getD s (at + 1) 0) comma) (a .1) in
+    let all = found-of (λ (z : Size). z .found) noSize refl (leb letterA (getD s at 0) && (leb (getD s at 0) letterH && eqb (getD s (at + 1) 0) comma)) (sizeAt (getD s at 0) (at + 2)) e in
+    let a = and-eq-true-iff (leb letterA (getD s at 0)) (leb (getD s at 0) letterH && eqb (getD s (at + 1) 0) comma) .0 all in
+    let b = and-eq-true-iff (leb (getD s at 0) letterH) (eqb (getD s (at + 1) 0) comma) .0 (a .1) in
     (a .0, b .0, b .1)
 
 two-places : (s : List ℕ) (at : ℕ) → getD s (at + 1) 0 ≡ comma → drop at s ≡ getD s at 0 ∷ comma ∷ drop (at + 2) s
@@ -95,10 +85,6 @@ abbrev DigitsStand : (width left v i : ℕ) → List ℕ → Number → Type 0
 DigitsStand width left v i s r =
     (rest : List ℕ) × (digits width v ++ s ≡ digits 8 (r .value) ++ (lineFeed ∷ rest)) × (r .next ≡ i + left + 1) × (r .value < 100000000)
 
-found-feed : (t : Bool) (x : Number) → (cond t x noNumber) .found ≡ true → t ≡ true
-found-feed true x e = refl
-found-feed false x e = absurd (false≢true e)
-
 found-digit : (t : Bool) (x : Number) → (cond t noNumber x) .found ≡ true → t ≡ false
 found-digit true x e = absurd (false≢true e)
 found-digit false x e = refl
@@ -108,7 +94,7 @@ digits-sound : (left width v i : ℕ) (s : List ℕ) → width + left ≡ 8 → 
 unfolding readDigits
 digits-sound zero width v i [] w h e = absurd (false≢true e)
 digits-sound zero width v i (b ∷ s) w h e =
-    let t : eqb b lineFeed ≡ true = found-feed (eqb b lineFeed) (record { found = true; value = v; next = i + 1 }) e in
+    let t : eqb b lineFeed ≡ true = found-of (λ (x : Number). x .found) noNumber refl (eqb b lineFeed) (record { found = true; value = v; next = i + 1 }) e in
     let ends : readDigits zero v i (b ∷ s) ≡ record { found = true; value = v; next = i + 1 } = simp t in
     let eight : width ≡ 8 = omega arith in
     subst (DigitsStand width zero v i (b ∷ s)) (sym ends) (
@@ -184,7 +170,7 @@ digits-taken (suc width) left n i t h =
     ∙ digit-taken left (n / 10) (i + width) (n % 10) t (omega arith)
     ∙ ap₂ (λ (x k : ℕ). readDigits left x k t) b c
 
-feed-taken : (v i : ℕ) (t : List ℕ) → readDigits 0 v i (lineFeed ∷ t) ≡ dayAt v (i + 1)
+feed-taken : (v i : ℕ) (t : List ℕ) → readDigits 0 v i (lineFeed ∷ t) ≡ foundAt v (i + 1)
 unfolding readDigits
 feed-taken v i t = refl
 
@@ -197,4 +183,4 @@ day-complete s at n rest fits h =
     ap (readDigits 8 0 at) h
     ∙ digits-taken 8 0 n at (lineFeed ∷ rest) (omega arith)
     ∙ feed-taken n (at + 8) rest
-    ∙ ap (λ (i : ℕ). dayAt n i) place
+    ∙ ap (λ (i : ℕ). foundAt n i) place

@@ -1,7 +1,7 @@
 -- A line is found exactly where the bytes are one that follows the layout, and then with its fields. Assumes nothing.
 use Prim.Native.Nat.{ℕ, _+_, _<_, _≤_}
 use mathlib.Core.Path.{_≡_, refl, sym, ap, _∙_, subst}
-use mathlib.Core.Bool.{Bool, true, false, cond, _&&_, true≢false, false≢true}
+use mathlib.Core.Bool.{Bool, true, false, cond, _&&_, true≢false, and-eq-true-iff}
 use mathlib.Core.Logic.{_↔_}
 use mathlib.Core.List.{List, [], _∷_, _++_}
 use native.Mathlib.Omega.{arith}
@@ -17,8 +17,8 @@ use Rattle.issue_line.specs.Layout.{comma, lineFeed, maxGroup, maxRing, 
 use Rattle.issue_line.specs.Read.{readSize, readDay, noLine, aLine, isLine, lineOf, readLine, ReadsExactly}
 use Rattle.issue_line.specs.declared.Size.{Size}
 use Rattle.issue_line.specs.declared.Line.{Line}
-use Rattle.issue_line.proofs.Steps.{line-read}
-use Rattle.issue_line.proofs.Fields.{both, SizeStands, size-sound, size-complete, digits-length, DayStands, day-sound, day-complete}
+use Rattle.issue_line.proofs.Steps.{foundAt, sizeAt, line-read}
+use Rattle.issue_line.proofs.Fields.{found-of, SizeStands, size-sound, size-complete, digits-length, DayStands, day-sound, day-complete}
 
 -- a comma is no digit
 comma-ends : 9 < digitOf comma
@@ -40,13 +40,13 @@ accepted : (n : ℕ) (g : Number) (z : Size) (f l d : Number) → lineOf n g z f
 unfolding lineOf isLine
 accepted n g z f l d e =
     let last-two = leb (f .value) (l .value) && eqb (d .next) n in
-    let a = both (g .found) (z .found && (f .found && (l .found && (d .found && (leb 1 (f .value) && last-two))))) (found (isLine n g z f l d) (aLine (g .value) (z .letter) (f .value) (l .value) (d .value)) e) in
-    let b = both (z .found) (f .found && (l .found && (d .found && (leb 1 (f .value) && last-two)))) (a .1) in
-    let c = both (f .found) (l .found && (d .found && (leb 1 (f .value) && last-two))) (b .1) in
-    let h = both (l .found) (d .found && (leb 1 (f .value) && last-two)) (c .1) in
-    let i = both (d .found) (leb 1 (f .value) && last-two) (h .1) in
-    let j = both (leb 1 (f .value)) last-two (i .1) in
-    let k = both (leb (f .value) (l .value)) (eqb (d .next) n) (j .1) in
+    let a = and-eq-true-iff (g .found) (z .found && (f .found && (l .found && (d .found && (leb 1 (f .value) && last-two))))) .0 (found-of (λ (x : Line). x .found) noLine refl (isLine n g z f l d) (aLine (g .value) (z .letter) (f .value) (l .value) (d .value)) e) in
+    let b = and-eq-true-iff (z .found) (f .found && (l .found && (d .found && (leb 1 (f .value) && last-two)))) .0 (a .1) in
+    let c = and-eq-true-iff (f .found) (l .found && (d .found && (leb 1 (f .value) && last-two))) .0 (b .1) in
+    let h = and-eq-true-iff (l .found) (d .found && (leb 1 (f .value) && last-two)) .0 (c .1) in
+    let i = and-eq-true-iff (d .found) (leb 1 (f .value) && last-two) .0 (h .1) in
+    let j = and-eq-true-iff (leb 1 (f .value)) last-two .0 (i .1) in
+    let k = and-eq-true-iff (leb (f .value) (l .value)) (eqb (d .next) n) .0 (j .1) in
     record {
       group = a .0;
       size = b .0;
@@ -57,10 +57,6 @@ accepted n g z f l d e =
       order = leb-true (f .value) (l .value) (k .0);
       ends = eqb-true (d .next) n (k .1);
     }
-  where
-    found : (t : Bool) (x : Line) → (cond t x noLine) .found ≡ true → t ≡ true
-    found true x q = refl
-    found false x q = absurd (false≢true q)
 
 -- the bytes s are the line x
 abbrev pub Stands : List ℕ → Line → Type 0
@@ -106,12 +102,6 @@ line-sound s e =
     (joined s g z f l d a (read-sound maxGroup comma s 0 (a .group) .0) (size-sound s (g .next) (a .size)) (read-sound maxRing comma s (z .next) (a .first) .0)
     (read-sound maxRing comma s (f .next) (a .last) .0) (day-sound s (l .next) (a .day)))
 
-abbrev numberAt : ℕ → ℕ → Number
-numberAt n i = record { found = true; value = n; next = i }
-
-abbrev sizeAt : ℕ → ℕ → Size
-sizeAt letter i = record { found = true; letter = letter; next = i }
-
 ends : (s : List ℕ) (at day : ℕ) → drop at s ≡ digits 8 day ++ (lineFeed ∷ []) → at + 9 ≡ length s
 ends s at day h =
     omega (arith, sym (length-drop at s) ∙ ap length h ∙ length-append (digits 8 day) (lineFeed ∷ []), digits-length 8 day)
@@ -134,7 +124,7 @@ line-complete s group size first last day h =
     let d = day-complete s p₄ day [] (h .day-fits) at-day in
     let whole : p₄ + 9 ≡ length s = ends s p₄ day at-day in
     simp (g, z .0, f, l, d)
-    (line-read (length s) (numberAt group p₁) (sizeAt size p₂) (numberAt first p₃) (numberAt last p₄) (numberAt day (p₄ + 9)) refl refl refl refl refl (h .first-some) (h .in-order) whole)
+    (line-read (length s) (foundAt group p₁) (sizeAt size p₂) (foundAt first p₃) (foundAt last p₄) (foundAt day (p₄ + 9)) refl refl refl refl refl (h .first-some) (h .in-order) whole)
 
 -- So none is found exactly where the bytes are no line.
 pub line-refused : (s : List ℕ) → (readLine s .found ≡ false) ↔ ((group size first last day : ℕ) → IsLine s group size first last day → ⊥)

@@ -17,8 +17,12 @@ use Rattle.issue_line.specs.Read.{noSize, readSize, readDigits, readDay,
 use Rattle.issue_line.specs.declared.Size.{Size}
 use Rattle.issue_line.specs.declared.Line.{Line}
 
-abbrev foundAt : ℕ → ℕ → Number
+-- a number that was found, and a size, with the place after them
+abbrev pub foundAt : ℕ → ℕ → Number
 foundAt v i = record { found = true; value = v; next = i }
+
+abbrev pub sizeAt : ℕ → ℕ → Size
+sizeAt letter i = record { found = true; letter = letter; next = i }
 
 -- a size
 module _ (s : List ℕ) (at : ℕ) where

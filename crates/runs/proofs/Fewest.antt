@@ -10,7 +10,7 @@ use lib.ListN.{length}
 use Rattle.runs.specs.declared.Run.{Run}
 use Rattle.runs.specs.Runs.{aRun, meets}
 use Rattle.runs.specs.Meaning.{Valid, In, Holds, here, there, SameNumbers, Apart, Away, away-none, away-more, GoodRuns, good-none, good-more, Among, first-one, later-one, SameRuns}
-use Rattle.runs.proofs.Pair.{lt-or-le, meets-true, meets-false}
+use Rattle.runs.proofs.Pair.{meets-true, meets-false}
 
 -- what is had of a run of a list
 pub among-holds : {q : Run} {l : List Run} {size x : ℕ} → Among q l → In size x q → Holds size x l
@@ -73,19 +73,16 @@ module _ (g : List Run) (good : GoodRuns g) (q : Run) (is : Among q g) where
 
   module _ (k : Run) (inside : (size x : ℕ) → In size x k → Holds size x g) (x : ℕ) (iq : In (q .size) x q) (ik : In (q .size) x k) where
     pub not-above : k .last ≤ q .last
-    not-above = go (lt-or-le (q .last) (k .last))
+    not-above = omega (arith, out)
       where
-        go : (q .last < k .last) ⊎ (k .last ≤ q .last) → k .last ≤ q .last
-        go (inl h) = absurd (not-beside (q .last + 1) (inside (q .size) (q .last + 1) (ik .0, omega (arith, ik .1, iq .2), omega arith)) (inl refl))
-        go (inr h) = h
+        out : q .last < k .last → ⊥
+        out h = not-beside (q .last + 1) (inside (q .size) (q .last + 1) (ik .0, omega (arith, ik .1, iq .2), omega arith)) (inl refl)
 
     pub not-below : q .first ≤ k .first
-    not-below = go (lt-or-le (k .first) (q .first))
+    not-below = omega (arith, out)
       where
-        go : (k .first < q .first) ⊎ (q .first ≤ k .first) → q .first ≤ k .first
-        go (inl h) =
-            absurd (not-beside (q .first - 1) (inside (q .size) (q .first - 1) (ik .0, omega arith, omega (arith, ik .2, iq .1))) (inr (omega arith)))
-        go (inr h) = h
+        out : k .first < q .first → ⊥
+        out h = not-beside (q .first - 1) (inside (q .size) (q .first - 1) (ik .0, omega arith, omega (arith, ik .2, iq .1))) (inr (omega arith))
 
 same-run : (q k : Run) → k .size ≡ q .size → k .first ≡ q .first → k .last ≡ q .last → k ≡ q
 same-run q k s f l = ap₂ (λ (a b : ℕ). aRun a b (k .last)) s f ∙ ap (aRun (q .size) (q .first)) l

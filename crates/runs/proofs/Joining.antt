@@ -1,14 +1,15 @@
 -- A list of runs with one run more: it holds just the numbers of the list and of the run, as many rings, and keeps its runs apart. Assumes nothing.
-use Prim.Native.Nat.{ℕ, _+_, _<_, _≤_}
+use Prim.Native.Nat.{ℕ, _+_, _-_, _<_, _≤_}
 use mathlib.Core.Path.{_≡_, refl}
 use mathlib.Core.Bool.{Bool, true, false, cond, false≢true}
 use mathlib.Core.Logic.{_↔_, _⊎_, inl, inr}
 use mathlib.Core.List.{List, [], _∷_}
+use native.Mathlib.Nat.{eq-zero-or-pos}
 use native.Mathlib.Omega.{arith}
 use Rattle.runs.specs.declared.Run.{Run}
 use Rattle.runs.specs.Runs.{aRun, meets, touches, join, anyMeets, withRun, ringsIn, ringsOf}
 use Rattle.runs.specs.Meaning.{Valid, In, Holds, here, there, Apart, Away, away-none, away-more, GoodRuns, good-none, good-more}
-use Rattle.runs.proofs.Pair.{lt-or-le, or-cases, or-false, Distinct, meets-true, meets-false, join-valid, join-rings, join-left, join-right, join-only, join-apart, join-distinct, not-touching}
+use Rattle.runs.proofs.Pair.{or-cases, or-neither, Distinct, meets-true, meets-false, join-valid, join-rings, join-left, join-right, join-only, join-apart, join-distinct, not-touching}
 
 -- no run of a list meets r
 pub data Clear (r : Run) : List Run → Type 0 where
@@ -18,7 +19,7 @@ pub data Clear (r : Run) : List Run → Type 0 where
 pub clear-of : (r : Run) (l : List Run) → anyMeets r l ≡ false → Clear r l
 unfolding anyMeets
 clear-of r [] e = clear-none
-clear-of r (q ∷ l) e = let s = or-false (meets q r) (anyMeets r l) e in clear-more (meets-false q r (s .0)) (clear-of r l (s .1))
+clear-of r (q ∷ l) e = let s = or-neither (meets q r) (anyMeets r l) e in clear-more (meets-false q r (s .0)) (clear-of r l (s .1))
 
 clear-join : (q r : Run) (l : List Run) → Valid q → Valid r → touches q r ≡ true → GoodRuns l → Away q l → Clear r l → Clear (join q r) l
 clear-join q r [] vq vr e g a c = clear-none
@@ -116,12 +117,12 @@ meets-some r (q ∷ l) vr (good-more vq aq g) e = go (or-cases (meets q r) (anyM
         → (x : ℕ) × In (r .size) x r × Holds (r .size) x (q ∷ l)
     go (inl m) ih =
         let s = meets-true q r m in
-        pick s (lt-or-le (q .first) (r .first))
+        pick s (eq-zero-or-pos (r .first - q .first))
       where
-        pick : (q .size ≡ r .size) × (q .first ≤ r .last) × (r .first ≤ q .last) → (q .first < r .first) ⊎ (r .first ≤ q .first)
+        pick : (q .size ≡ r .size) × (q .first ≤ r .last) × (r .first ≤ q .last) → (r .first - q .first ≡ 0) ⊎ (0 < r .first - q .first)
             → (x : ℕ) × In (r .size) x r × Holds (r .size) x (q ∷ l)
-        pick s (inl h) = (r .first, (refl, omega arith, vr), here {q = q} (s .0, omega arith, s .2))
-        pick s (inr h) = (q .first, (refl, h, s .1), here {q = q} (s .0, omega arith, vq))
+        pick s (inl h) = (q .first, (refl, omega arith, s .1), here {q = q} (s .0, omega arith, vq))
+        pick s (inr h) = (r .first, (refl, omega arith, vr), here {q = q} (s .0, omega arith, s .2))
     go (inr m) ih = let k = ih m in (k .0, k .1, there (k .2))
 
 pub clear-disjoint : (r : Run) (l : List Run) → Clear r l → (x : ℕ) → In (r .size) x r → Holds (r .size) x l → ⊥

@@ -1,42 +1,32 @@
 -- Two runs: what meeting and touching say, and what two runs that touch are as one. Assumes nothing.
-use Prim.Native.Nat.{ℕ, _+_, _<_, _≤_}
+use Prim.Native.Nat.{ℕ, _+_, _-_, _<_, _≤_}
 use mathlib.Core.Path.{_≡_, refl, sym, _∙_}
-use mathlib.Core.Bool.{Bool, true, false, _&&_, _||_, true≢false, false≢true}
+use mathlib.Core.Bool.{Bool, true, false, _&&_, _||_, true≢false, and-eq-true-iff}
 use mathlib.Core.Logic.{_⊎_, inl, inr}
+use native.Mathlib.Nat.{eq-zero-or-pos}
 use native.Mathlib.Omega.{arith}
-use lib.Dec.{ltb, leb, eqb}
-use borrow.Author.Tests.{lt-ltb, le-ltb, eq-eqb, ne-eqb, ltb-true, ltb-false, leb-true, leb-false, eqb-true, eqb-false}
+use lib.Dec.{leb, eqb}
+use borrow.Author.Tests.{lt-ltb, le-ltb, eq-eqb, ne-eqb, leb-true, leb-false, eqb-true, eqb-false}
 use Rattle.runs.specs.declared.Run.{Run}
 use Rattle.runs.specs.Runs.{meets, touches, join, ringsIn}
 use Rattle.runs.specs.Meaning.{Valid, In, Apart}
-
-pub lt-or-le : (a b : ℕ) → (a < b) ⊎ (b ≤ a)
-lt-or-le a b = go (ltb a b) refl
-  where
-    go : (t : Bool) → ltb a b ≡ t → (a < b) ⊎ (b ≤ a)
-    go true e = inl (ltb-true a b e)
-    go false e = inr (ltb-false a b e)
 
 -- two runs of one size that do not meet
 abbrev pub Distinct : Run → Run → Type 0
 Distinct q r = q .size ≡ r .size → (q .last < r .first) ⊎ (r .last < q .first)
 
-and-cases : (a b : Bool) → a && b ≡ true → (a ≡ true) × (b ≡ true)
-and-cases true b e = (refl, e)
-and-cases false b e = absurd (false≢true e)
-
 pub or-cases : (a b : Bool) → a || b ≡ true → (a ≡ true) ⊎ (b ≡ true)
 or-cases true b e = inl refl
 or-cases false b e = inr e
 
-pub or-false : (a b : Bool) → a || b ≡ false → (a ≡ false) × (b ≡ false)
-or-false true b e = absurd (true≢false e)
-or-false false b e = (refl, e)
+pub or-neither : (a b : Bool) → a || b ≡ false → (a ≡ false) × (b ≡ false)
+or-neither true b e = absurd (true≢false e)
+or-neither false b e = (refl, e)
 
 touches-ends : (q r : Run) → touches q r ≡ true → (q .size ≡ r .size) × ((q .last + 1 ≡ r .first) ⊎ (r .last + 1 ≡ q .first))
 unfolding touches
 touches-ends q r e =
-    let s = and-cases (eqb (q .size) (r .size)) (eqb (q .last + 1) (r .first) || eqb (r .last + 1) (q .first)) e in
+    let s = and-eq-true-iff (eqb (q .size) (r .size)) (eqb (q .last + 1) (r .first) || eqb (r .last + 1) (q .first)) .0 e in
     (eqb-true (q .size) (r .size) (s .0), go (or-cases (eqb (q .last + 1) (r .first)) (eqb (r .last + 1) (q .first)) (s .1)))
   where
     go : (eqb (q .last + 1) (r .first) ≡ true) ⊎ (eqb (r .last + 1) (q .first) ≡ true) → (q .last + 1 ≡ r .first) ⊎ (r .last + 1 ≡ q .first)
@@ -46,7 +36,7 @@ touches-ends q r e =
 touches-false : (q r : Run) → touches q r ≡ false → q .size ≡ r .size → (q .last + 1 ≡ r .first → ⊥) × (r .last + 1 ≡ q .first → ⊥)
 unfolding touches
 touches-false q r e same =
-    let s = or-false (eqb (q .last + 1) (r .first)) (eqb (r .last + 1) (q .first)) (sym (simp (eq-eqb (q .size) (r .size) same)) ∙ e) in
+    let s = or-neither (eqb (q .last + 1) (r .first)) (eqb (r .last + 1) (q .first)) (sym (simp (eq-eqb (q .size) (r .size) same)) ∙ e) in
     (eqb-false (q .last + 1) (r .first) (s .0), eqb-false (r .last + 1) (q .first) (s .1))
 
 -- two runs of one size of which the first does not end just before the second
@@ -58,8 +48,8 @@ module _ (q r : Run) where
   pub meets-true : meets q r ≡ true → (q .size ≡ r .size) × (q .first ≤ r .last) × (r .first ≤ q .last)
   unfolding meets
   meets-true e =
-      let s = and-cases (eqb (q .size) (r .size)) (leb (q .first) (r .last) && leb (r .first) (q .last)) e in
-      let t = and-cases (leb (q .first) (r .last)) (leb (r .first) (q .last)) (s .1) in
+      let s = and-eq-true-iff (eqb (q .size) (r .size)) (leb (q .first) (r .last) && leb (r .first) (q .last)) .0 e in
+      let t = and-eq-true-iff (leb (q .first) (r .last)) (leb (r .first) (q .last)) .0 (s .1) in
       (eqb-true (q .size) (r .size) (s .0), leb-true (q .first) (r .last) (t .0), leb-true (r .first) (q .last) (t .1))
 
   pub meets-false : meets q r ≡ false → Distinct q r
@@ -146,16 +136,16 @@ module _ (q r : Run) where
     join-only size x i = go (touches-true vq vr touching .1)
       where
         go : Below ⊎ Above → In size x q ⊎ In size x r
-        go (inl b) = pick (lt-or-le x (r .first))
+        go (inl b) = pick (eq-zero-or-pos (r .first - x))
           where
-            pick : (x < r .first) ⊎ (r .first ≤ x) → In size x q ⊎ In size x r
-            pick (inl h) = inl (touches-true vq vr touching .0 ∙ sym (b .size) ∙ i .0, omega arith, omega arith)
-            pick (inr h) = inr (sym (b .size) ∙ i .0, h, omega arith)
-        go (inr a) = pick (lt-or-le x (q .first))
+            pick : (r .first - x ≡ 0) ⊎ (0 < r .first - x) → In size x q ⊎ In size x r
+            pick (inl h) = inr (sym (b .size) ∙ i .0, omega arith, omega arith)
+            pick (inr h) = inl (touches-true vq vr touching .0 ∙ sym (b .size) ∙ i .0, omega arith, omega arith)
+        go (inr a) = pick (eq-zero-or-pos (q .first - x))
           where
-            pick : (x < q .first) ⊎ (q .first ≤ x) → In size x q ⊎ In size x r
-            pick (inl h) = inr (sym (a .size) ∙ i .0, omega arith, omega arith)
-            pick (inr h) = inl (touches-true vq vr touching .0 ∙ sym (a .size) ∙ i .0, h, omega arith)
+            pick : (q .first - x ≡ 0) ⊎ (0 < q .first - x) → In size x q ⊎ In size x r
+            pick (inl h) = inl (touches-true vq vr touching .0 ∙ sym (a .size) ∙ i .0, omega arith, omega arith)
+            pick (inr h) = inr (sym (a .size) ∙ i .0, omega arith, omega arith)
 
     -- a run that is apart from both, or from the first and distinct from the second, is so from both joined
     pub join-apart : (k : Run) → Valid k → Apart k q → Apart k r → Apart k (join q r)
