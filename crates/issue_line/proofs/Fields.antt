@@ -15,7 +15,7 @@ use Rattle.decimal.specs.Decimal.{digitChar, digitOf, noNumber}
 use Rattle.decimal.specs.declared.Number.{Number}
 use Rattle.decimal.proofs.Laws.{lt-or-le, digit-back, digit-forth}
 use Rattle.decimal.proofs.Steps.{from-place}
-use Rattle.issue_line.specs.Layout.{comma, lineFeed, letterA, letterH, digits}
+use Rattle.issue_line.specs.Layout.{comma, lineFeed, letterA, letterH, lastDigits}
 use Rattle.issue_line.specs.Read.{noSize, readSize, readDigits, readDay}
 use Rattle.issue_line.specs.declared.Size.{Size}
 use Rattle.issue_line.proofs.Steps.{foundAt, sizeAt, size-read}
@@ -69,21 +69,21 @@ size-complete s at size rest from to h =
     (size-read s at lo hi second ∙ ap (λ (x : ℕ). sizeAt x (at + 2)) first, sym (drop-drop 2 at s) ∙ ap (drop 2) h)
 
 -- the digits of a number, of a width
-pub digits-length : (width n : ℕ) → length (digits width n) ≡ width
-unfolding digits
+pub digits-length : (width n : ℕ) → length (lastDigits width n) ≡ width
+unfolding lastDigits
 digits-length zero n = refl
 digits-length (suc width) n = simp length-append (omega (arith, digits-length width (n / 10)))
 
-digits-snoc : (width v d : ℕ) → d < 10 → digits (suc width) (v * 10 + d) ≡ digits width v ++ (digitChar d ∷ [])
-unfolding digits
+digits-snoc : (width v d : ℕ) → d < 10 → lastDigits (suc width) (v * 10 + d) ≡ lastDigits width v ++ (digitChar d ∷ [])
+unfolding lastDigits
 digits-snoc width v d h =
-    ap (λ (q : ℕ). digits width q ++ (digitChar ((v * 10 + d) % 10) ∷ [])) (digits-div v h)
-    ∙ ap (λ (r : ℕ). digits width v ++ (digitChar r ∷ [])) (digits-mod v h)
+    ap (λ (q : ℕ). lastDigits width q ++ (digitChar ((v * 10 + d) % 10) ∷ [])) (digits-div v h)
+    ∙ ap (λ (r : ℕ). lastDigits width v ++ (digitChar r ∷ [])) (digits-mod v h)
 
 -- What was found after some digits, whose number is v: all eight stand there, and a line feed.
 abbrev DigitsStand : (width left v i : ℕ) → List ℕ → Number → Type 0
 DigitsStand width left v i s r =
-    (rest : List ℕ) × (digits width v ++ s ≡ digits 8 (r .value) ++ (lineFeed ∷ rest)) × (r .next ≡ i + left + 1) × (r .value < 100000000)
+    (rest : List ℕ) × (lastDigits width v ++ s ≡ lastDigits 8 (r .value) ++ (lineFeed ∷ rest)) × (r .next ≡ i + left + 1) × (r .value < 100000000)
 
 found-digit : (t : Bool) (x : Number) → (cond t noNumber x) .found ≡ true → t ≡ false
 found-digit true x e = absurd (false≢true e)
@@ -99,7 +99,7 @@ digits-sound zero width v i (b ∷ s) w h e =
     let eight : width ≡ 8 = omega arith in
     subst (DigitsStand width zero v i (b ∷ s)) (sym ends) (
       s,
-      ap₂ (λ (k x : ℕ). digits k v ++ (x ∷ s)) eight (eqb-true b lineFeed t),
+      ap₂ (λ (k x : ℕ). lastDigits k v ++ (x ∷ s)) eight (eqb-true b lineFeed t),
       omega arith,
       subst (λ (k : ℕ). v < 10 ^ k) eight h,
     )
@@ -109,29 +109,29 @@ digits-sound (suc left) width v i (b ∷ s) w h e =
     let low : digitOf b ≤ 9 = ltb-false 9 (digitOf b) t in
     let one-more : readDigits (suc left) v i (b ∷ s) ≡ readDigits left (v * 10 + digitOf b) (i + 1) s = simp t in
     let k = digits-sound left (suc width) (v * 10 + digitOf b) (i + 1) s (omega arith) (omega (arith, pow-suc 10 width)) (ap (λ (r : Number). r .found) (sym one-more) ∙ e) in
-    let spelled : digits (suc width) (v * 10 + digitOf b) ≡ digits width v ++ (b ∷ []) =
-    digits-snoc width v (digitOf b) (omega arith) ∙ ap (λ (x : ℕ). digits width v ++ (x ∷ [])) (digit-forth b low) in
+    let spelled : lastDigits (suc width) (v * 10 + digitOf b) ≡ lastDigits width v ++ (b ∷ []) =
+    digits-snoc width v (digitOf b) (omega arith) ∙ ap (λ (x : ℕ). lastDigits width v ++ (x ∷ [])) (digit-forth b low) in
     subst (DigitsStand width (suc left) v i (b ∷ s)) (sym one-more) (
       k .0,
-      sym (append-assoc (digits width v) (b ∷ []) s) ∙ ap (λ (l : List ℕ). l ++ s) (sym spelled) ∙ k .1,
+      sym (append-assoc (lastDigits width v) (b ∷ []) s) ∙ ap (λ (l : List ℕ). l ++ s) (sym spelled) ∙ k .1,
       omega (arith, k .2),
       k .3,
     )
 
 -- A day that was found stands there: eight digits and a line feed, and then the rest.
 abbrev pub DayStands : List ℕ → ℕ → Number → Type 0
-DayStands s at d = (d .value ≤ 99999999) × (d .next ≡ at + 9) × (drop at s ≡ digits 8 (d .value) ++ (lineFeed ∷ drop (d .next) s))
+DayStands s at d = (d .value ≤ 99999999) × (d .next ≡ at + 9) × (drop at s ≡ lastDigits 8 (d .value) ++ (lineFeed ∷ drop (d .next) s))
 
-behind-day : (s : List ℕ) (at n : ℕ) (rest : List ℕ) → drop at s ≡ digits 8 n ++ (lineFeed ∷ rest) → drop (at + 9) s ≡ rest
+behind-day : (s : List ℕ) (at n : ℕ) (rest : List ℕ) → drop at s ≡ lastDigits 8 n ++ (lineFeed ∷ rest) → drop (at + 9) s ≡ rest
 behind-day s at n rest h =
-    let nine : _≡_ {A = ℕ} 9 (length (digits 8 n) + 1) = omega (arith, digits-length 8 n) in
+    let nine : _≡_ {A = ℕ} 9 (length (lastDigits 8 n) + 1) = omega (arith, digits-length 8 n) in
     sym (drop-drop 9 at s)
     ∙ ap (drop 9) h
-    ∙ ap (λ (k : ℕ). drop k (digits 8 n ++ (lineFeed ∷ rest))) nine
-    ∙ drop-append-add (digits 8 n) (lineFeed ∷ rest) 1
+    ∙ ap (λ (k : ℕ). drop k (lastDigits 8 n ++ (lineFeed ∷ rest))) nine
+    ∙ drop-append-add (lastDigits 8 n) (lineFeed ∷ rest) 1
 
-no-digits : (l : List ℕ) → digits 0 0 ++ l ≡ l
-unfolding digits
+no-digits : (l : List ℕ) → lastDigits 0 0 ++ l ≡ l
+unfolding lastDigits
 no-digits l = refl
 
 pub day-sound : (s : List ℕ) (at : ℕ) → readDay s at .found ≡ true → DayStands s at (readDay s at)
@@ -139,10 +139,10 @@ unfolding readDay
 day-sound s at e =
     let r : Number = readDigits 8 0 at (drop at s) in
     let k = digits-sound 8 0 0 at (drop at s) (omega arith) (omega arith) e in
-    let whole : drop at s ≡ digits 8 (r .value) ++ (lineFeed ∷ k .0) = sym (no-digits (drop at s)) ∙ k .1 in
+    let whole : drop at s ≡ lastDigits 8 (r .value) ++ (lineFeed ∷ k .0) = sym (no-digits (drop at s)) ∙ k .1 in
     let place : r .next ≡ at + 9 = omega (arith, k .2) in
     let rest : drop (r .next) s ≡ k .0 = ap (λ (i : ℕ). drop i s) place ∙ behind-day s at (r .value) (k .0) whole in
-    (omega (arith, k .3), place, whole ∙ ap (λ (l : List ℕ). digits 8 (r .value) ++ (lineFeed ∷ l)) (sym rest))
+    (omega (arith, k .3), place, whole ∙ ap (λ (l : List ℕ). lastDigits 8 (r .value) ++ (lineFeed ∷ l)) (sym rest))
 
 -- one digit is taken, and all digits of a number
 digit-taken : (left v i d : ℕ) (t : List ℕ) → d < 10 → readDigits (suc left) v i (digitChar d ∷ t) ≡ readDigits left (v * 10 + d) (i + 1) t
@@ -153,8 +153,8 @@ digit-taken left v i d t h =
     simp (le-ltb 9 (digitOf (digitChar d)) low) (ap (λ (x : ℕ). readDigits left (v * 10 + x) (i + 1) t) back)
 
 digits-taken : (width left n i : ℕ) (t : List ℕ) → n < 10 ^ width
-    → readDigits (width + left) 0 i (digits width n ++ t) ≡ readDigits left n (i + width) t
-unfolding digits
+    → readDigits (width + left) 0 i (lastDigits width n ++ t) ≡ readDigits left n (i + width) t
+unfolding lastDigits
 digits-taken zero left n i t h =
     let a : 0 + left ≡ left = omega arith in
     let b : 0 ≡ n = omega arith in
@@ -165,7 +165,7 @@ digits-taken (suc width) left n i t h =
     let b : n / 10 * 10 + n % 10 ≡ n = omega arith in
     let c : i + width + 1 ≡ i + suc width = omega arith in
     let few : n / 10 < 10 ^ width = omega (arith, pow-suc 10 width) in
-    ap₂ (λ (k : ℕ) (l : List ℕ). readDigits k 0 i l) a (append-assoc (digits width (n / 10)) (digitChar (n % 10) ∷ []) t)
+    ap₂ (λ (k : ℕ) (l : List ℕ). readDigits k 0 i l) a (append-assoc (lastDigits width (n / 10)) (digitChar (n % 10) ∷ []) t)
     ∙ digits-taken width (suc left) (n / 10) i (digitChar (n % 10) ∷ t) few
     ∙ digit-taken left (n / 10) (i + width) (n % 10) t (omega arith)
     ∙ ap₂ (λ (x k : ℕ). readDigits left x k t) b c
@@ -175,7 +175,7 @@ unfolding readDigits
 feed-taken v i t = refl
 
 -- A day that stands there is found.
-pub day-complete : (s : List ℕ) (at n : ℕ) (rest : List ℕ) → n ≤ 99999999 → drop at s ≡ digits 8 n ++ (lineFeed ∷ rest)
+pub day-complete : (s : List ℕ) (at n : ℕ) (rest : List ℕ) → n ≤ 99999999 → drop at s ≡ lastDigits 8 n ++ (lineFeed ∷ rest)
     → readDay s at ≡ record { found = true; value = n; next = at + 9 }
 unfolding readDay
 day-complete s at n rest fits h =

@@ -13,7 +13,7 @@ use Rattle.decimal.specs.Decimal.{decimal, digitOf, readDecimal, Spelled}
 use Rattle.decimal.specs.declared.Number.{Number}
 use Rattle.decimal.proofs.Laws.{after-number}
 use Rattle.decimal.proofs.Reading.{read-sound, read-complete}
-use Rattle.issue_line.specs.Layout.{comma, lineFeed, maxGroup, maxRing, digits, line, IsLine}
+use Rattle.issue_line.specs.Layout.{comma, lineFeed, maxGroup, maxRing, lastDigits, line, IsLine}
 use Rattle.issue_line.specs.Read.{readSize, readDay, noLine, aLine, isLine, lineOf, readLine, ReadsExactly}
 use Rattle.issue_line.specs.declared.Size.{Size}
 use Rattle.issue_line.specs.declared.Line.{Line}
@@ -26,7 +26,7 @@ unfolding digitOf
 comma-ends = lit< tt
 
 -- what the tests of a line say together
-record Accepted (n : ℕ) (g : Number) (z : Size) (f l d : Number) : Type 0 where
+record TestsHeld (n : ℕ) (g : Number) (z : Size) (f l d : Number) : Type 0 where
   pub group : g .found ≡ true
   pub size : z .found ≡ true
   pub first : f .found ≡ true
@@ -36,9 +36,9 @@ record Accepted (n : ℕ) (g : Number) (z : Size) (f l d : Number) : Type 0 wher
   pub order : f .value ≤ l .value
   pub ends : d .next ≡ n
 
-accepted : (n : ℕ) (g : Number) (z : Size) (f l d : Number) → lineOf n g z f l d .found ≡ true → Accepted n g z f l d
+tests-held : (n : ℕ) (g : Number) (z : Size) (f l d : Number) → lineOf n g z f l d .found ≡ true → TestsHeld n g z f l d
 unfolding lineOf isLine
-accepted n g z f l d e =
+tests-held n g z f l d e =
     let last-two = leb (f .value) (l .value) && eqb (d .next) n in
     let a = and-eq-true-iff (g .found) (z .found && (f .found && (l .found && (d .found && (leb 1 (f .value) && last-two))))) .0 (found-of (λ (x : Line). x .found) noLine refl (isLine n g z f l d) (aLine (g .value) (z .letter) (f .value) (l .value) (d .value)) e) in
     let b = and-eq-true-iff (z .found) (f .found && (l .found && (d .found && (leb 1 (f .value) && last-two)))) .0 (a .1) in
@@ -62,14 +62,14 @@ accepted n g z f l d e =
 abbrev pub Stands : List ℕ → Line → Type 0
 Stands s x = IsLine s (x .group) (x .size) (x .first) (x .last) (x .day)
 
-joined : (s : List ℕ) (g : Number) (z : Size) (f l d : Number) → Accepted (length s) g z f l d
+fields-stand : (s : List ℕ) (g : Number) (z : Size) (f l d : Number) → TestsHeld (length s) g z f l d
     → Spelled maxGroup comma (drop 0 s) (g .value) (drop (g .next) s) → SizeStands s (g .next) z
     → Spelled maxRing comma (drop (z .next) s) (f .value) (drop (f .next) s) → Spelled maxRing comma (drop (f .next) s) (l .value) (drop (l .next) s)
     → DayStands s (l .next) d → Stands s (aLine (g .value) (z .letter) (f .value) (l .value) (d .value))
 unfolding line
-joined s g z f l d a hg hz hf hl hd =
+fields-stand s g z f l d a hg hz hf hl hd =
     let over : drop (d .next) s ≡ [] = ap (λ (i : ℕ). drop i s) (a .ends) ∙ drop-length s in
-    let tail-day : drop (l .next) s ≡ digits 8 (d .value) ++ (lineFeed ∷ []) = hd .2 ∙ ap (λ (t : List ℕ). digits 8 (d .value) ++ (lineFeed ∷ t)) over in
+    let tail-day : drop (l .next) s ≡ lastDigits 8 (d .value) ++ (lineFeed ∷ []) = hd .2 ∙ ap (λ (t : List ℕ). lastDigits 8 (d .value) ++ (lineFeed ∷ t)) over in
     record {
       group-fits = hg .0;
       size-from = hz .0;
@@ -88,23 +88,23 @@ joined s g z f l d a hg hz hf hl hd =
 
 -- A line that was found is what the bytes are.
 pub line-sound : (s : List ℕ) → readLine s .found ≡ true → Stands s (readLine s)
-unfolding readLine line
+unfolding readLine
 line-sound s e =
     let g = readDecimal maxGroup comma s 0 in
     let z = readSize s (g .next) in
     let f = readDecimal maxRing comma s (z .next) in
     let l = readDecimal maxRing comma s (f .next) in
     let d = readDay s (l .next) in
-    let a = accepted (length s) g z f l d e in
+    let a = tests-held (length s) g z f l d e in
     let all : readLine s ≡ aLine (g .value) (z .letter) (f .value) (l .value) (d .value) =
     line-read (length s) g z f l d (a .group) (a .size) (a .first) (a .last) (a .day) (a .some) (a .order) (a .ends) in
     subst (Stands s) (sym all)
-    (joined s g z f l d a (read-sound maxGroup comma s 0 (a .group) .0) (size-sound s (g .next) (a .size)) (read-sound maxRing comma s (z .next) (a .first) .0)
+    (fields-stand s g z f l d a (read-sound maxGroup comma s 0 (a .group) .0) (size-sound s (g .next) (a .size)) (read-sound maxRing comma s (z .next) (a .first) .0)
     (read-sound maxRing comma s (f .next) (a .last) .0) (day-sound s (l .next) (a .day)))
 
-ends : (s : List ℕ) (at day : ℕ) → drop at s ≡ digits 8 day ++ (lineFeed ∷ []) → at + 9 ≡ length s
+ends : (s : List ℕ) (at day : ℕ) → drop at s ≡ lastDigits 8 day ++ (lineFeed ∷ []) → at + 9 ≡ length s
 ends s at day h =
-    omega (arith, sym (length-drop at s) ∙ ap length h ∙ length-append (digits 8 day) (lineFeed ∷ []), digits-length 8 day)
+    omega (arith, sym (length-drop at s) ∙ ap length h ∙ length-append (lastDigits 8 day) (lineFeed ∷ []), digits-length 8 day)
 
 -- Bytes that are a line are found, with its fields.
 pub line-complete : (s : List ℕ) (group size first last day : ℕ) → IsLine s group size first last day → readLine s ≡ aLine group size first last day

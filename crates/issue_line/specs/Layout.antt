@@ -25,14 +25,14 @@ abbrev pub maxRing : ℕ
 maxRing = 99999999
 
 -- the last digits of n, as many as the width says, leading zeros included
-unfoldable pub digits : (width n : ℕ) → List ℕ
-digits zero n = []
-digits (suc width) n = digits width (n / 10) ++ (digitChar (n % 10) ∷ [])
+unfoldable pub lastDigits : (width n : ℕ) → List ℕ
+lastDigits zero n = []
+lastDigits (suc width) n = lastDigits width (n / 10) ++ (digitChar (n % 10) ∷ [])
 
 -- a line's bytes: `group,size,first,last,day` and a line feed; the day has eight digits
 unfoldable pub line : (group size first last day : ℕ) → List ℕ
 line group size first last day =
-    decimal group ++ (comma ∷ size ∷ comma ∷ (decimal first ++ (comma ∷ (decimal last ++ (comma ∷ (digits 8 day ++ (lineFeed ∷ [])))))))
+    decimal group ++ (comma ∷ size ∷ comma ∷ (decimal first ++ (comma ∷ (decimal last ++ (comma ∷ (lastDigits 8 day ++ (lineFeed ∷ [])))))))
 
 -- the bytes s are a line with these fields, each within its range
 pub record IsLine (s : List ℕ) (group size first last day : ℕ) : Type 0 where

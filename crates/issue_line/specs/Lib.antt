@@ -1,3 +1,3 @@
--- What the contracts of the crate `issue` cite.
+-- What the contracts of the crate `issue_line` cite.
 pub mod Layout
 pub mod Read

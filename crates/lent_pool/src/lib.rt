@@ -1,5 +1,5 @@
 // A pool of unused rings that is lent (document 02, request 6): it stays in the caller's memory, to be altered or to be read. Each function is the
-// one by value on the whole record, and specs/Lent.antt says what it leaves there.
+// one by value, on the whole record.
 use pool::Pool;
 ghost use mathlib.Core.Path.{_≡_};
 ghost use Rattle.runs.specs.Runs.{aRun, anyMeets, ringsOf};

@@ -25,7 +25,7 @@ poolOf l = record { used = length l; runs = l ++ replicate (maxRuns - length l) 
 unfoldable pub emptyPool : Pool
 emptyPool = poolOf []
 
--- a pool with one run more that meets none of it, or number 15 and the pool as it was where that are too many
+-- a pool with one run more that meets none of it, or number 15 and the pool as it was where that makes too many runs
 unfoldable pub joinPool : Pool → Run → Added
 joinPool p r =
     let l = withRun r (runsOf p) in

@@ -96,8 +96,8 @@ fn join_pool(p: Pool, run: Run) -> Added
     }
 }
 
-// Adds a run to a pool. Refusals: 14 (a number of it is pooled in its size), then 15 (more runs than a pool has would be needed, after joining);
-// then the pool is as it was.
+// Adds a run that has a number to a pool, any pool. Refusals: 14 (a number of it is pooled in its size), then 15 (more runs than a pool has would be
+// needed, after joining); then the pool is as it was.
 pub fn add(p: Pool, r: Run) -> Added
     requires { ⌜ r .first ≤ r .last ⌝ }
     ensures { λ a. ⌜ a ≡ addRun p r ⌝ }

@@ -11,25 +11,25 @@ use Rattle.runs.specs.Meaning.{In, Holds, here, there}
 use Rattle.runs.proofs.Fewest.{holds-some}
 use Rattle.pool.specs.declared.Pool.{Pool}
 use Rattle.pool.specs.Pool.{emptyPool}
-use Rattle.pool.specs.Good.{Good, InPool, HoldsWith, added}
+use Rattle.pool.specs.Good.{InPool, HoldsWith, added}
 use Rattle.pool.proofs.Adding.{empty-good}
 use Rattle.pool_lines.specs.Lines.{addLine, LineStop, a-line}
-use Rattle.pool_lines.specs.History.{poolAfter, HeldBy, ListPooled, SamePool, FirstLine}
+use Rattle.pool_lines.specs.History.{after, poolAfter, HeldBy, ListPooled, Alike, SamePool, FirstLine}
 use Rattle.pool_lines.proofs.Steps.{accepted-found}
 use Rattle.pool_lines.proofs.Adding.{line-takes, line-number, line-stop-as}
-use Rattle.pool_lines.proofs.Lists.{nothing, list-pooled, same-pool as same-pools, same-lists as lists-same}
+use Rattle.pool_lines.proofs.Lists.{nothing, list-pooled, pools-same, lists-same}
 
 -- The theorem over every list.
 pub lines-pooled : (lines : List (List ℕ)) → ListPooled addLine LineStop lines
 lines-pooled lines = list-pooled addLine line-takes LineStop line-number line-stop-as lines
 
--- Good pools that hold the same numbers, and two lists whose accepted lines held the same.
-pub same-pool : (p q : Pool) → Good p → Good q → ((size x : ℕ) → InPool p size x ↔ InPool q size x) → SamePool addLine p q
-same-pool p q good-p good-q same = same-pools addLine line-takes LineStop line-number line-stop-as p q good-p good-q same
+-- Good pools that hold the same numbers, and two lists whose accepted lines held the same, whatever more is added to both.
+pub same-pool : (p q : Pool) → Alike p q → (more : List (List ℕ)) → SamePool addLine (after addLine p more) (after addLine q more)
+same-pool p q alike more = pools-same addLine line-takes LineStop line-number line-stop-as p q alike more
 
 pub same-lists : (lines others : List (List ℕ)) → ((size x : ℕ) → HeldBy addLine lines size x ↔ HeldBy addLine others size x)
-    → SamePool addLine (poolAfter addLine lines) (poolAfter addLine others)
-same-lists lines others same = lists-same addLine line-takes LineStop line-number line-stop-as lines others same
+    → (more : List (List ℕ)) → SamePool addLine (after addLine (poolAfter addLine lines) more) (after addLine (poolAfter addLine others) more)
+same-lists lines others same more = lists-same addLine line-takes LineStop line-number line-stop-as lines others same more
 
 -- The first line: nothing is pooled, and its run is one of 256.
 only-run : (size first last : ℕ) → HoldsWith (InPool emptyPool) (aRun size first last) (aRun size first last ∷ [])

@@ -21,7 +21,7 @@ use Rattle.pool.specs.Pool.{runsOf, emptyPool, addRun}
 use Rattle.pool.specs.Good.{Good, InPool, HoldsWith}
 use Rattle.pool.proofs.Adding.{empty-runs, empty-good, add-exactly}
 use Rattle.pool_lines.specs.Lines.{runOf}
-use Rattle.pool_lines.specs.History.{Adding, Stops, after, accepted, Held, in-first, in-later, ringsOfLines, poolAfter, HeldBy, ListPooled, SamePool}
+use Rattle.pool_lines.specs.History.{Adding, Stops, after, accepted, Held, in-first, in-later, ringsOfLines, poolAfter, taken, HeldBy, ListPooled, Alike, SamePool}
 use Rattle.pool_lines.proofs.Steps.{line-valid}
 
 -- an accepted byte string is a line, and its run was added; a refused one left the pool as it was
@@ -143,41 +143,87 @@ module _
             (λ stop. here-exactly .1 (respects (InPool (poolAfter add lines)) (HeldBy add lines) held-after bytes n stop)),
           )
 
+      rings-after : ringsOf (runsOf (poolAfter add lines)) ≡ ringsOfLines (taken add lines)
+      unfolding ringsOf
+      rings-after = omega (arith, after-rings add takes emptyPool lines empty-good, ap ringsOf empty-runs)
+
       -- The theorem over every list.
       pub list-pooled : ListPooled add Stop lines
-      unfolding ringsOf
       list-pooled =
           record {
             good = good-after;
             holds = held-after;
             asked = λ size x.
                 ((λ e. held-after size x .0 (held-asked size x (runsOf (poolAfter add lines)) .0 e)), (λ k. held-asked size x (runsOf (poolAfter add lines)) .1 (held-after size x .1 k)));
-            rings = omega (arith, after-rings add takes emptyPool lines empty-good, ap ringsOf empty-runs);
+            rings = rings-after;
             next = next-after;
             refused = λ bytes no. takes .refused (poolAfter add lines) bytes no;
           }
 
     -- Two good pools that hold the same numbers.
-    module _ (p q : Pool) (good-p : Good p) (good-q : Good q) (same : (size x : ℕ) → InPool p size x ↔ InPool q size x) where
-      pub same-pool : SamePool add p q
-      same-pool =
-          record {
-            runs = same-runs (runsOf p) (runsOf q) (good-p .apart) (good-q .apart) same;
-            count =
-                omega (
-                  arith,
-                  fewest (runsOf p) (runsOf q) (good-p .apart) same,
-                  fewest (runsOf q) (runsOf p) (good-q .apart) (λ size x. (same size x .1, same size x .0)),
-                );
-            numbers = λ bytes.
-                exactly p bytes good-p (add q bytes .number) .1
-                (respects (InPool p) (InPool q) same bytes (add q bytes .number) (exactly q bytes good-q (add q bytes .number) .0 refl));
-          }
+    module _ (p q : Pool) (alike : Alike p q) where
+      as-many : length (runsOf p) ≡ length (runsOf q)
+      as-many =
+          omega (
+            arith,
+            fewest (runsOf p) (runsOf q) (alike .left .apart) (alike .same),
+            fewest (runsOf q) (runsOf p) (alike .right .apart) (λ size x. (alike .same size x .1, alike .same size x .0)),
+          )
 
-    -- So with two lists whose accepted lines held the same numbers.
-    pub same-lists : (lines others : List (List ℕ)) → ((size x : ℕ) → HeldBy add lines size x ↔ HeldBy add others size x) → SamePool add (poolAfter add lines) (poolAfter add others)
-    same-lists lines others same =
-        same-pool (poolAfter add lines) (poolAfter add others) (good-after lines) (good-after others) (λ size x. (
-          (λ h. held-after others size x .1 (same size x .0 (held-after lines size x .0 h))),
-          (λ h. held-after lines size x .1 (same size x .1 (held-after others size x .0 h))),
-        ))
+      one-number : (bytes : List ℕ) → add p bytes .number ≡ add q bytes .number
+      one-number bytes =
+          exactly p bytes (alike .left) (add q bytes .number) .1
+          (respects (InPool p) (InPool q) (alike .same) bytes (add q bytes .number) (exactly q bytes (alike .right) (add q bytes .number) .0 refl))
+
+      same-now : SamePool add p q
+      same-now = record { runs = same-runs (runsOf p) (runsOf q) (alike .left .apart) (alike .right .apart) (alike .same); count = as-many; numbers = one-number }
+
+      -- one more byte string, which both take or both refuse
+      module _ (bytes : List ℕ) where
+        both-added : add p bytes .number ≡ 0 → (size x : ℕ) → InPool (add p bytes .pool) size x ↔ InPool (add q bytes .pool) size x
+        both-added ok size x =
+            let here-p = step-holds add takes p bytes (alike .left) ok size x in
+            let here-q = step-holds add takes q bytes (alike .right) (sym (one-number bytes) ∙ ok) size x in
+            ((λ h. here-q .1 (to (here-p .0 h))), (λ h. here-p .1 (from (here-q .0 h))))
+          where
+            to : InPool p size x ⊎ In size x (runOf (readLine bytes)) → InPool q size x ⊎ In size x (runOf (readLine bytes))
+            to (inl h) = inl (alike .same size x .0 h)
+            to (inr i) = inr i
+
+            from : InPool q size x ⊎ In size x (runOf (readLine bytes)) → InPool p size x ⊎ In size x (runOf (readLine bytes))
+            from (inl h) = inl (alike .same size x .1 h)
+            from (inr i) = inr i
+
+        still-same : (size x : ℕ) → InPool (add p bytes .pool) size x ↔ InPool (add q bytes .pool) size x
+        still-same = go (eqb (add p bytes .number) 0) refl
+          where
+            go : (t : Bool) → eqb (add p bytes .number) 0 ≡ t → (size x : ℕ) → InPool (add p bytes .pool) size x ↔ InPool (add q bytes .pool) size x
+            go true e = both-added (eqb-true (add p bytes .number) 0 e)
+            go false e =
+                let not-p = eqb-false (add p bytes .number) 0 e in
+                subst (λ (a : Pool). (size x : ℕ) → InPool a size x ↔ InPool (add q bytes .pool) size x) (sym (takes .refused p bytes not-p))
+                (subst (λ (a : Pool). (size x : ℕ) → InPool p size x ↔ InPool a size x) (sym (takes .refused q bytes (λ z. not-p (one-number bytes ∙ z)))) (alike .same))
+
+        still-alike : Alike (add p bytes .pool) (add q bytes .pool)
+        still-alike =
+            record { left = step-good add takes p bytes (alike .left); right = step-good add takes q bytes (alike .right); same = still-same }
+
+    -- So it stays, whatever byte strings both are given.
+    pub pools-same : (p q : Pool) → Alike p q → (more : List (List ℕ)) → SamePool add (after add p more) (after add q more)
+    unfolding after
+    pools-same p q alike [] = same-now p q alike
+    pools-same p q alike (bytes ∷ more) = pools-same (add p bytes .pool) (add q bytes .pool) (still-alike p q alike bytes) more
+
+    -- And so with two lists whose accepted lines held the same numbers.
+    pub lists-same : (lines others : List (List ℕ)) → ((size x : ℕ) → HeldBy add lines size x ↔ HeldBy add others size x)
+        → (more : List (List ℕ)) → SamePool add (after add (poolAfter add lines) more) (after add (poolAfter add others) more)
+    lists-same lines others same =
+        pools-same (poolAfter add lines) (poolAfter add others)
+        (record {
+          left = good-after lines;
+          right = good-after others;
+          same = λ size x. (
+            (λ h. held-after others size x .1 (same size x .0 (held-after lines size x .0 h))),
+            (λ h. held-after lines size x .1 (same size x .1 (held-after others size x .0 h))),
+          );
+        })

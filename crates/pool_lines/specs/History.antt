@@ -12,7 +12,7 @@ use Rattle.issue_line.specs.declared.Line.{Line}
 use Rattle.issue_line.specs.Layout.{IsLine}
 use Rattle.issue_line.specs.Read.{readLine}
 use Rattle.runs.specs.Runs.{aRun, anyMeets, ringsOf}
-use Rattle.runs.specs.Meaning.{SameRuns}
+use Rattle.runs.specs.Meaning.{SameRunSet}
 use Rattle.pool.specs.declared.Pool.{Pool}
 use Rattle.pool.specs.declared.Added.{Added}
 use Rattle.pool.specs.Pool.{runsOf, emptyPool}
@@ -72,10 +72,16 @@ pub record ListPooled (add : Adding) (Stop : Stops) (lines : List (List ℕ)) : 
   pub next : (bytes : List ℕ) (n : ℕ) → (add (poolAfter add lines) bytes .number ≡ n) ↔ Stop (HeldBy add lines) bytes n
   pub refused : (bytes : List ℕ) → (add (poolAfter add lines) bytes .number ≡ 0 → ⊥) → add (poolAfter add lines) bytes .pool ≡ poolAfter add lines
 
--- What is claimed of two good pools that hold the same numbers, as two lists leave where their accepted lines held the same: they have the same
--- runs, and as many, and give each byte string the same number.
+-- two good pools that hold the same numbers, as two lists leave where their accepted lines held the same
+pub record Alike (p q : Pool) : Type 0 where
+  pub left : Good p
+  pub right : Good q
+  pub same : (size x : ℕ) → InPool p size x ↔ InPool q size x
+
+-- What is claimed of two such pools, at once and after any byte strings that both are given: they have the same runs, and as many, and give the next
+-- byte string the same number.
 pub record SamePool (add : Adding) (p q : Pool) : Type 0 where
-  pub runs : SameRuns (runsOf p) (runsOf q)
+  pub runs : SameRunSet (runsOf p) (runsOf q)
   pub count : length (runsOf p) ≡ length (runsOf q)
   pub numbers : (bytes : List ℕ) → add p bytes .number ≡ add q bytes .number
 

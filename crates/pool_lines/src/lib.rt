@@ -1,5 +1,5 @@
 // Issue lines added to a pool of unused rings (document 02, request 6): reading a line is the crate `issue_line`, adding a run the crate `pool`,
-// and here they are put together. specs/Lines.antt says what one line and a list of lines lead to, and proofs/History.antt what the pool then holds.
+// and here they are put together. specs/Lines.antt says what one line leads to and specs/History.antt what every list of lines does; proofs/ has it.
 use issue_line::read_line;
 use pool::Added;
 use pool::Pool;

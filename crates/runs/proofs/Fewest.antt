@@ -9,7 +9,7 @@ use native.Mathlib.Omega.{arith}
 use lib.ListN.{length}
 use Rattle.runs.specs.declared.Run.{Run}
 use Rattle.runs.specs.Runs.{aRun, meets}
-use Rattle.runs.specs.Meaning.{Valid, In, Holds, here, there, SameNumbers, Apart, Away, away-none, away-more, GoodRuns, good-none, good-more, Among, first-one, later-one, SameRuns}
+use Rattle.runs.specs.Meaning.{Valid, In, Holds, here, there, SameNumbers, Apart, Away, away-none, away-more, GoodRuns, good-none, good-more, Among, first-one, later-one, SameRunSet}
 use Rattle.runs.proofs.Pair.{meets-true, meets-false}
 
 -- what is had of a run of a list
@@ -108,7 +108,7 @@ run-there g m good-g good-m same q is = go (holder (same (q .size) (q .first) .0
         let down = not-below m good-m k (found .1) q q-in (q .first) here-k back in
         subst (λ (r : Run). Among r m) (same-run q k (i .0) (omega (arith, low, down)) (omega (arith, top, high))) (found .1)
 
-pub same-runs : (g m : List Run) → GoodRuns g → GoodRuns m → SameNumbers g m → SameRuns g m
+pub same-runs : (g m : List Run) → GoodRuns g → GoodRuns m → SameNumbers g m → SameRunSet g m
 same-runs g m good-g good-m same q =
     (run-there g m good-g good-m same q, run-there m g good-m good-g (λ size x. (same size x .1, same size x .0)) q)
 

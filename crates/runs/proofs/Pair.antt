@@ -11,7 +11,7 @@ use Rattle.runs.specs.declared.Run.{Run}
 use Rattle.runs.specs.Runs.{meets, touches, join, ringsIn}
 use Rattle.runs.specs.Meaning.{Valid, In, Apart}
 
--- two runs of one size that do not meet
+-- two runs do not meet: they differ in size, or one ends before the other begins
 abbrev pub Distinct : Run → Run → Type 0
 Distinct q r = q .size ≡ r .size → (q .last < r .first) ⊎ (r .last < q .first)
 

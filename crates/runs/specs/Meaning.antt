@@ -43,5 +43,5 @@ pub data Among (q : Run) : List Run → Type 0 where
   later-one : {k : Run} {l : List Run} → Among q l → Among q (k ∷ l)
 
 -- two lists have the same runs, whatever their order
-abbrev pub SameRuns : List Run → List Run → Type 0
-SameRuns l m = (q : Run) → Among q l ↔ Among q m
+abbrev pub SameRunSet : List Run → List Run → Type 0
+SameRunSet l m = (q : Run) → Among q l ↔ Among q m
