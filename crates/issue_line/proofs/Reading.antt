@@ -40,7 +40,8 @@ tests-held : (n : ℕ) (g : Number) (z : Size) (f l d : Number) → lineOf n g z
 unfolding lineOf isLine
 tests-held n g z f l d e =
     let last-two = leb (f .value) (l .value) && eqb (d .next) n in
-    let a = and-eq-true-iff (g .found) (z .found && (f .found && (l .found && (d .found && (leb 1 (f .value) && last-two))))) .0 (found-of (λ (x : Line). x .found) noLine refl (isLine n g z f l d) (aLine (g .value) (z .letter) (f .value) (l .value) (d .value)) e) in
+    let held = found-of (λ (x : Line). x .found) noLine refl (isLine n g z f l d) (aLine (g .value) (z .letter) (f .value) (l .value) (d .value)) e in
+    let a = and-eq-true-iff (g .found) (z .found && (f .found && (l .found && (d .found && (leb 1 (f .value) && last-two))))) .0 held in
     let b = and-eq-true-iff (z .found) (f .found && (l .found && (d .found && (leb 1 (f .value) && last-two)))) .0 (a .1) in
     let c = and-eq-true-iff (f .found) (l .found && (d .found && (leb 1 (f .value) && last-two))) .0 (b .1) in
     let h = and-eq-true-iff (l .found) (d .found && (leb 1 (f .value) && last-two)) .0 (c .1) in

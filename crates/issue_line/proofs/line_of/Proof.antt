@@ -32,9 +32,16 @@ returns-8 c = c .no-line8 .ensures ∙ sym (more-follows _ _ _ _ _ _ (c .before 
 
 returns-9 : tie.Need-returns-9
 returns-9 c =
+    let c₇ = c .before .before in
+    let c₆ = c₇ .before .before .before in
+    let c₅ = c₆ .before .before in
+    let c₄ = c₅ .before .before in
+    let c₃ = c₄ .before .before in
+    let c₂ = c₃ .before .before in
+    let c₁ = c₂ .before .before in
     sym
-    (line-read _ _ _ _ _ _ (not-false _ (c .before .before .before .before .before .before .before .before .before .before .before .before .before .before .before .if1 .left)) (not-false _ (c .before .before .before .before .before .before .before .before .before .before .before .before .before .if2 .left)) (not-false _ (c .before .before .before .before .before .before .before .before .before .before .before .if3 .left)) (not-false _ (c .before .before .before .before .before .before .before .before .before .if4 .left))
-    (not-false _ (c .before .before .before .before .before .before .before .if5 .left)) (c .before .before .before .before .before .if6 .left) (c .before .before .if7 .left) (c .if8 .left))
+    (line-read _ _ _ _ _ _ (not-false _ (c₁ .if1 .left)) (not-false _ (c₂ .if2 .left)) (not-false _ (c₃ .if3 .left)) (not-false _ (c₄ .if4 .left))
+    (not-false _ (c₅ .if5 .left)) (c₆ .if6 .left) (c₇ .if7 .left) (c .if8 .left))
 
 pub line-of-spec : {M : Type 1} → statement M
 line-of-spec =

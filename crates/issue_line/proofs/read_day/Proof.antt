@@ -28,7 +28,13 @@ returns-2 : tie.Need-returns-2 Inv-loop μ-loop
 returns-2 c = c .none2 .ensures ∙ sym (day-out _ _ _ _ (c .before .if2 .taken)) ∙ c .before .before .before .loop .inv .2
 
 returns-3 : tie.Need-returns-3 Inv-loop μ-loop
-returns-3 c = c .none3 .ensures ∙ sym (day-none _ _ _ _ (c .before .before .before .before .before .loop-test .taken) (c .before .before .before .before .if2 .left) _ (c .before .before .digit-of .ensures) (c .before .if3 .taken)) ∙ c .before .before .before .before .before .before .loop .inv .2
+returns-3 c =
+    let read = c .before .before in
+    let inside = read .before .before in
+    let test = inside .before in
+    c .none3 .ensures
+    ∙ sym (day-none _ _ _ _ (test .loop-test .taken) (inside .if2 .left) _ (read .digit-of .ensures) (c .before .if3 .taken))
+    ∙ test .before .loop .inv .2
 
 mul-value : tie.Need-mul-value Inv-loop μ-loop
 mul-value c = omega (arith, pow-small (c .before .before .before .before .before .loop .k) (omega arith))
@@ -37,17 +43,23 @@ add-value : tie.Need-add-value Inv-loop μ-loop
 add-value c = omega (arith, pow-small (c .before .before .before .before .before .loop .k) (omega arith))
 
 loop-again : tie.Need-loop-again Inv-loop μ-loop
-loop-again c = (
-  omega arith,
-  omega (arith, pow-next (c .before .before .before .before .before .loop .k)),
-  sym (day-more _ _ _ _ (c .before .before .before .before .loop-test .taken) (c .before .before .before .if2 .left) _ (c .before .digit-of .ensures) (c .if3 .left)) ∙ c .before .before .before .before .before .loop .inv .2,
-)
+loop-again c =
+    let inside = c .before .before .before in
+    let test = inside .before in (
+      omega arith,
+      omega (arith, pow-next (test .before .loop .k)),
+      sym (day-more _ _ _ _ (test .loop-test .taken) (inside .if2 .left) _ (c .before .digit-of .ensures) (c .if3 .left)) ∙ test .before .loop .inv .2,
+    )
 
 returns-4 : tie.Need-returns-4 Inv-loop μ-loop
-returns-4 c = c .none4 .ensures ∙ sym (day-out (now (c .before .before .before .before .before .before .args .s)) _ _ (c .before .before .before .loop .k) (omega arith)) ∙ c .before .before .before .loop .inv .2
+returns-4 c =
+    let over = c .before .before .before in
+    c .none4 .ensures ∙ sym (day-out (now (over .before .before .before .args .s)) _ _ (over .loop .k) (omega arith)) ∙ over .loop .inv .2
 
 returns-5 : tie.Need-returns-5 Inv-loop μ-loop
-returns-5 c = c .none5 .ensures ∙ sym (day-ends _ _ _ _ (omega arith) (c .before .before .before .if4 .left) (c .before .if5 .taken)) ∙ c .before .before .before .before .before .loop .inv .2
+returns-5 c =
+    let room = c .before .before .before in
+    c .none5 .ensures ∙ sym (day-ends _ _ _ _ (omega arith) (room .if4 .left) (c .before .if5 .taken)) ∙ room .before .before .loop .inv .2
 
 cast-t17 : tie.Need-cast-t17 Inv-loop μ-loop
 cast-t17 c = omega (arith, pow-small (c .before .before .before .before .loop .k) (omega arith))

@@ -27,28 +27,38 @@ loop-holds c = (
 )
 
 loop-again : tie.Need-loop-again Inv-loop μ-loop
-loop-again c = (
-  omega arith,
-  omega arith,
-  omega arith,
-  omega arith,
-  kept-joined (c .before .before .before .before .before .before .before .before .args .t1) _ _ _ _ (c .before .before .before .before .before .loop .i) (c .before .before .before .before .before .loop .inv .4) _ (omega arith) (sym (c .before .before .touch .ensures) ∙ c .before .if1 .taken) (c .joined .ensures),
-)
+loop-again c =
+    let turn = c .before .before .before .before .before in
+    let pool = turn .before .before .before .args .t1 in
+    let touched = sym (c .before .before .touch .ensures) ∙ c .before .if1 .taken in (
+      omega arith,
+      omega arith,
+      omega arith,
+      omega arith,
+      kept-joined pool _ _ _ _ (turn .loop .i) (turn .loop .inv .4) _ (omega arith) touched (c .joined .ensures),
+    )
 
 loop-again-2 : tie.Need-loop-again-2 Inv-loop μ-loop
-loop-again-2 c = (
-  omega arith,
-  omega arith,
-  omega arith,
-  omega arith,
-  kept-one (c .before .before .before .before .before .before .before .args .t1) _ _ _ (c .before .before .before .before .loop .k) (c .before .before .before .before .loop .i) (c .before .before .before .before .loop .inv .4) (omega arith) (omega arith) (sym (c .before .touch .ensures) ∙ c .if1 .left),
-)
+loop-again-2 c =
+    let turn = c .before .before .before .before in
+    let pool = turn .before .before .before .args .t1 in
+    let apart = sym (c .before .touch .ensures) ∙ c .if1 .left in (
+      omega arith,
+      omega arith,
+      omega arith,
+      omega arith,
+      kept-one pool _ _ _ (turn .loop .k) (turn .loop .i) (turn .loop .inv .4) (omega arith) (omega arith) apart,
+    )
 
 returns : tie.Need-returns Inv-loop μ-loop
-returns c = sym (kept-full (c .before .before .before .before .before .args .t1) _ _ _ _ (c .before .before .loop .i) (c .before .before .loop .inv .4) (omega arith) (c .if2 .taken))
+returns c =
+    let over = c .before .before in
+    sym (kept-full (over .before .before .before .args .t1) _ _ _ _ (over .loop .i) (over .loop .inv .4) (omega arith) (c .if2 .taken))
 
 returns-2 : tie.Need-returns-2 Inv-loop μ-loop
-returns-2 c = sym (kept-done (c .before .before .before .before .before .args .t1) _ _ _ (c .before .before .loop .k) (c .before .before .loop .i) (c .before .before .loop .inv .4) (omega arith) (omega arith))
+returns-2 c =
+    let over = c .before .before in
+    sym (kept-done (over .before .before .before .args .t1) _ _ _ (over .loop .k) (over .loop .i) (over .loop .inv .4) (omega arith) (omega arith))
 
 pub join-pool-spec : {M : Type 1} → statement M
 join-pool-spec =

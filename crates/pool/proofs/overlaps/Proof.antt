@@ -22,16 +22,18 @@ loop-holds c = (omega arith, c .run-count .ensures .1, c .run-count .ensures .0,
 
 returns : tie.Need-returns Inv-loop μ-loop
 returns c =
-    sym (meets-here (c .before .before .before .before .before .before .args .t1) (c .before .before .before .before .loop .i) (omega arith) _ (sym (c .before .meet .ensures) ∙ c .if1 .taken))
-    ∙ c .before .before .before .before .loop .inv .3
+    let turn = c .before .before .before .before in
+    sym (meets-here (turn .before .before .args .t1) (turn .loop .i) (omega arith) _ (sym (c .before .meet .ensures) ∙ c .if1 .taken)) ∙ turn .loop .inv .3
 
 loop-again : tie.Need-loop-again Inv-loop μ-loop
-loop-again c = (
-  omega arith,
-  omega arith,
-  omega arith,
-  sym (meets-later (c .before .before .before .before .before .before .args .t1) (c .before .before .before .before .loop .i) (omega arith) _ (sym (c .before .meet .ensures) ∙ c .if1 .left)) ∙ c .before .before .before .before .loop .inv .3,
-)
+loop-again c =
+    let turn = c .before .before .before .before in
+    let pool = turn .before .before .args .t1 in (
+      omega arith,
+      omega arith,
+      omega arith,
+      sym (meets-later pool (turn .loop .i) (omega arith) _ (sym (c .before .meet .ensures) ∙ c .if1 .left)) ∙ turn .loop .inv .3,
+    )
 
 returns-2 : tie.Need-returns-2 Inv-loop μ-loop
 returns-2 c = sym (meets-none (c .before .before .before .args .t1) (c .before .loop .i) _ (omega arith)) ∙ c .before .loop .inv .3
