@@ -15,7 +15,7 @@ use denote.Triple.Entry.{Args, Res}
 use Rattle.runs.specs.Runs.{aRun, anyMeets, ringsOf}
 use Rattle.pool.specs.Pool.{runsOf}
 use Rattle.pool_lines.specs.Lines.{addLine}
-use Rattle.lent_pool.specs.Lent.{addedResult}
+use Rattle.lent_pool.specs.Lent.{addedResult, Adds}
 use Rattle.lent_pool.proofs.add_line as add
 use Rattle.lent_pool.proofs.holds as holds
 use Rattle.lent_pool.proofs.rings as rings
@@ -28,6 +28,11 @@ module _ {M : Type 1} (𝓤 : URA M) (H : Heap 𝓤) (A : Atoms 𝓤) (mem : Mem
   pub add-ensures : (κs : Lfts 2) (a : Args add.signature κs) (r : Res add.signature κs) (z : AtExit add.ended κs)
       → add.clauses 𝓤 H A mem run κs a .ensures tt r z ≡ connectives 𝓤 .⌜_⌝ (addedResult r (now (z .0)) ≡ addLine (now (a .0)) (now (a .1 .0)))
   add-ensures κs a r z = refl
+
+  -- and that is the promise of which lists of calls are made
+  pub add-promises : (κs : Lfts 2) (a : Args add.signature κs) (r : Res add.signature κs) (z : AtExit add.ended κs)
+      → add.clauses 𝓤 H A mem run κs a .ensures tt r z ≡ connectives 𝓤 .⌜_⌝ (Adds (now (a .0)) (now (a .1 .0)) r (now (z .0)))
+  add-promises κs a r z = refl
 
   pub holds-asks : (κs : Lfts 1) (a : Args holds.signature κs) → holds.clauses 𝓤 H A mem run κs a .requires tt ≡ connectives 𝓤 .⊤ₛ
   holds-asks κs a = refl
