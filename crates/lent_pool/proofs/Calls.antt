@@ -1,7 +1,7 @@
 -- Calls on a lent pool, of which nothing is known but their promises: they leave the pool of the list and give its numbers, and every list has such
 -- calls. Assumes nothing.
 use Prim.Native.Nat.{ℕ}
-use mathlib.Core.Path.{_≡_, refl, ap, ap₂, _∙_}
+use mathlib.Core.Path.{refl, ap, ap₂, _∙_}
 use mathlib.Core.List.{List, [], _∷_}
 use Rattle.pool.specs.declared.Pool.{Pool}
 use Rattle.pool.specs.declared.Added.{Added}
