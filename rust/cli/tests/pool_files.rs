@@ -286,6 +286,26 @@ fn lines_may_come_from_a_command_on_the_same_pool() {
     assert_eq!((run.status, &run.printed[..], run.said.as_str()), (0, &b"added 1 of 1 lines, 100 rings\n"[..], ""));
 }
 
+/// The lines of an envelope go from the office into the pool, as the manual has it.
+#[test]
+fn lines_may_come_from_an_envelope() {
+    let folder = Folder::pair(7);
+    folder.write("returned.txt", b"7,C,12001,12100,20250304\n7,C,12101,12150,20250304\n4,E,500,599,20250305\n");
+    folder.done("group --state group seal --message returned.txt --out returned.env");
+    folder.done("pool --state pool.state create");
+    let manual = include_str!("../../../docs/COMMANDS.md");
+    let line = manual.lines().find(|line| line.contains(" --out - | pevghazo pool add ")).unwrap();
+    let script = line.trim().replace("pevghazo ", "\"$0\" ").replace("office.state", "office");
+    for (printed, status) in [("added 3 of 3 lines, 250 rings\n", 0), ("added 0 of 0 lines, 0 rings\n", 0)] {
+        let mut command = Command::new("sh");
+        command.args(["-c", &script, PROGRAM]).current_dir(&folder.0);
+        let run = Run::of(command);
+        assert_eq!((String::from_utf8(run.printed).unwrap().as_str(), run.status), (printed, status), "{}", run.said);
+    }
+    let again = folder.done("office --state office reread --group 7 --out -");
+    assert!(again.as_bytes() == folder.read("returned.txt").unwrap());
+}
+
 /// 50,000 rings, a line for each.
 fn many_lines() -> String {
     (1..=50_000).map(|number| format!("7,C,{number},{number},20250304\n")).collect()
