@@ -116,11 +116,11 @@ impl Folder {
         Run::from(child.wait_with_output().unwrap())
     }
 
-    /// Runs the program at a terminal, with everything that it shows there as what it prints.
+    /// Runs the program at a terminal, by a shell, with everything that is shown there as what it prints.
     pub fn run_at_terminal(&self, line: &str) -> Run {
         let script = "import os, pty, sys; sys.exit(os.waitstatus_to_exitcode(pty.spawn(sys.argv[1:])))";
         let mut command = Command::new("python3");
-        command.args(["-c", script, PROGRAM]).args(line.split_whitespace());
+        command.args(["-c", script, "sh", "-c", &format!("exec \"$0\" {line}"), PROGRAM]);
         Run::of(self.prepared(command))
     }
 
