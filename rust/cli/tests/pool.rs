@@ -259,7 +259,21 @@ fn a_ring_is_found_in_its_run() {
     assert!(folder.read("pool") == before);
 }
 
-const APART: &str = "The number follows as a word of its own, as in `pevghazo pool find C 12001`.";
+/// Where size and number are typed as one word, it is said that they are two.
+#[test]
+fn a_size_and_a_number_are_two_words() {
+    let folder = empty();
+    for word in ["C12001", "C 12001", "C-12001", "12001", "CC"] {
+        let mut command = folder.command("pool --state pool find");
+        command.arg(word);
+        let said = format!(
+            "pevghazo: SIZE is \"{word}\". A size is one letter, A to H. The number follows as a word of its own, as in \
+             `pevghazo pool find C 12001`.\n"
+        );
+        let run = Run::of(command);
+        assert_eq!((run.status, run.said), (2, said));
+    }
+}
 
 #[test]
 fn wrong_command_lines() {
@@ -276,8 +290,6 @@ fn wrong_command_lines() {
         ("find C 5x", "NUMBER is \"5x\". The number of a ring is 1 to 99999999, in digits."),
         ("find C", "The word NUMBER is missing: see --help."),
         ("find", "The word SIZE is missing: see --help."),
-        ("find C12001", &format!("SIZE is \"C12001\". A size is one letter, A to H. {APART}")),
-        ("find 12001", &format!("SIZE is \"12001\". A size is one letter, A to H. {APART}")),
         ("find C 5 6", "The word \"6\" is one too many: see `pevghazo pool find --help`."),
         ("show C", "The word \"C\" is one too many: see `pevghazo pool show --help`."),
         (
@@ -293,10 +305,6 @@ fn wrong_command_lines() {
     ] {
         assert_eq!(folder.fails(2, &format!("pool --state pool {line}")), format!("pevghazo: {said}\n"), "{line}");
     }
-    let mut quoted = folder.command("pool --state pool find");
-    quoted.arg("C 12001");
-    let said = format!("pevghazo: SIZE is \"C 12001\". A size is one letter, A to H. {APART}\n");
-    assert_eq!(Run::of(quoted).said, said);
     assert!(folder.fails(2, "pool").contains("Which command?"));
     assert!(folder.fails(2, "help pool find C").contains("There is no command \"C\" here"));
     assert!(folder.done("pool find --help").contains("\n  pevghazo pool find SIZE NUMBER --state FILE "));

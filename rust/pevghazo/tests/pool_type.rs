@@ -110,9 +110,33 @@ fn runs_that_a_list_leaves_are_taken() {
     }
 }
 
+/// So many runs, with one number between each two of them.
+fn many(count: u32) -> Vec<Run> {
+    (0..count).map(|place| run(1 + 2 * place, 1 + 2 * place)).collect()
+}
+
+/// A bad run, or a bad pair, is found in each place among 256, whether they are sorted or not.
+#[test]
+fn bad_runs_are_found_in_each_place() {
+    for place in 0..256 {
+        let mut runs = many(256);
+        runs[place].last = runs[place].first - 1;
+        assert_eq!(Pool::from_runs(&runs), Err(BadRuns::Numbers(runs[place])), "place {place}");
+        runs.reverse();
+        assert_eq!(Pool::from_runs(&runs), Err(BadRuns::Numbers(runs[255 - place])), "place {place}");
+    }
+    for place in 0..255 {
+        let mut runs = many(256);
+        runs[place].last += 1;
+        assert_eq!(Pool::from_runs(&runs), Err(BadRuns::Meet(runs[place], runs[place + 1])), "place {place}");
+        runs.reverse();
+        let pair = (runs[255 - place], runs[254 - place]);
+        assert_eq!(Pool::from_runs(&runs), Err(BadRuns::Meet(pair.0, pair.1)), "place {place}");
+    }
+}
+
 #[test]
 fn other_runs_are_refused() {
-    let many = |count: u32| (0..count).map(|place| run(1 + 2 * place, 1 + 2 * place)).collect::<Vec<_>>();
     assert_eq!(Pool::from_runs(&many(256)).unwrap().rings(), 256);
     assert_eq!(Pool::from_runs(&many(257)), Err(BadRuns::TooMany(257)));
     for bad in
@@ -122,28 +146,11 @@ fn other_runs_are_refused() {
             assert_eq!(Pool::from_runs(&runs), Err(BadRuns::Numbers(bad)), "{runs:?}");
         }
     }
-    // In each place among 256, also as they are sorted.
-    for place in 0..256 {
-        let mut runs = many(256);
-        runs[place].last = runs[place].first - 1;
-        assert_eq!(Pool::from_runs(&runs), Err(BadRuns::Numbers(runs[place])), "place {place}");
-        runs.reverse();
-        assert_eq!(Pool::from_runs(&runs), Err(BadRuns::Numbers(runs[255 - place])), "place {place}");
-    }
     for (one, other) in [(run(1, 5), run(6, 9)), (run(1, 5), run(5, 9)), (run(1, 9), run(3, 4)), (run(1, 5), run(1, 5))]
     {
         for runs in [vec![one, other], vec![other, one], vec![run(90, 99), other, run(20, 30), one]] {
             assert_eq!(Pool::from_runs(&runs), Err(BadRuns::Meet(one, other)), "{runs:?}");
         }
-    }
-    // Each two neighbours among 256.
-    for place in 0..255 {
-        let mut runs = many(256);
-        runs[place].last += 1;
-        assert_eq!(Pool::from_runs(&runs), Err(BadRuns::Meet(runs[place], runs[place + 1])), "place {place}");
-        runs.reverse();
-        let pair = (runs[255 - place], runs[254 - place]);
-        assert_eq!(Pool::from_runs(&runs), Err(BadRuns::Meet(pair.0, pair.1)), "place {place}");
     }
     let beside = Run { size: Size::D, ..run(6, 9) };
     assert!(Pool::from_runs(&[run(1, 5), beside, run(7, 9)]).is_ok());
