@@ -128,7 +128,7 @@ pub fn parse(tokens: impl IntoIterator<Item = OsString>) -> Result<Request, Fail
         ["help", ref topic @ ..] if !topic.is_empty() && given.is_empty() => return help_on(topic),
         _ => {}
     }
-    let (area, command, operands) = command_of(&words).map_err(|word| unknown_word(word, &given))?;
+    let (area, command, operands) = command_of(&words).map_err(|unfit| unfit.failure(&given))?;
     match command {
         _ if has("help") => Ok(Request::Print(command.map_or_else(|| help::list(area), help::command))),
         None if has("version") => Ok(Request::Print(help::version())),
@@ -142,7 +142,7 @@ pub fn parse(tokens: impl IntoIterator<Item = OsString>) -> Result<Request, Fail
 
 /// The help text on a command, or on all that are about one thing.
 fn help_on(topic: &[&str]) -> Result<Request, Failure> {
-    let (area, command, operands) = command_of(topic).map_err(|word| unknown_word(word, &[]))?;
+    let (area, command, operands) = command_of(topic).map_err(|unfit| unknown_word(unfit.word, &[]))?;
     if let Some(word) = operands.first() {
         return Err(unknown_word(word, &[]));
     }
@@ -152,25 +152,57 @@ fn help_on(topic: &[&str]) -> Result<Request, Failure> {
 /// What some words are about, or nothing; their command; and the words after it.
 type Found<'w, 'a> = (&'a str, Option<&'static Command>, &'w [&'a str]);
 
+/// The first word that fits nowhere, and the command that it follows, if it follows one.
+struct Unfit<'a> {
+    word: &'a str,
+    command: Option<&'static Command>,
+}
+
+impl Unfit<'_> {
+    fn failure(&self, given: &[(&Opt, OsString)]) -> Failure {
+        match self.command {
+            Some(command) => further_word(self.word, command, given),
+            None => unknown_word(self.word, given),
+        }
+    }
+}
+
 /// What is found in some words; or the first word that fits nowhere.
-fn command_of<'w, 'a>(words: &'w [&'a str]) -> Result<Found<'w, 'a>, &'a str> {
+fn command_of<'w, 'a>(words: &'w [&'a str]) -> Result<Found<'w, 'a>, Unfit<'a>> {
     let (area, rest) = match words {
         [area, rest @ ..] if AREAS.contains(area) => (*area, rest),
         words => ("", words),
     };
     let [name, operands @ ..] = rest else { return Ok((area, None, &[])) };
-    let command = table::find(area, name).ok_or(*name)?;
-    operands.get(command.operands().count()).map_or(Ok((area, Some(command), operands)), |word| Err(word))
+    let command = table::find(area, name).ok_or(Unfit { word: name, command: None })?;
+    match operands.get(command.operands().count()) {
+        Some(word) => Err(Unfit { word, command: Some(command) }),
+        None => Ok((area, Some(command), operands)),
+    }
 }
 
-/// A word that fits nowhere. It may be a part of a text, where one was given.
+/// A word that is no command.
 fn unknown_word(word: &str, given: &[(&Opt, OsString)]) -> Failure {
+    Failure::Usage(format!("There is no command {word:?} here: `pevghazo --help` lists them.{}", quotes(given)))
+}
+
+/// A word that a command does not take. It may be an input whose option was forgotten.
+fn further_word(word: &str, command: &Command, given: &[(&Opt, OsString)]) -> Failure {
+    let takes_input = command.options.iter().any(|option| option.name == "in");
+    let has_input = given.iter().any(|(option, _)| option.name == "in");
+    let input = if takes_input && !has_input { " An input is named with --in." } else { "" };
+    Failure::Usage(format!(
+        "The word {word:?} is one too many: see `{} --help`.{input}{}",
+        command.title(),
+        quotes(given)
+    ))
+}
+
+/// A word that fits nowhere may be a part of a text, where one was given.
+fn quotes(given: &[(&Opt, OsString)]) -> String {
     let text = given.iter().find(|(option, _)| matches!(option.value, Value::Text(_)));
     let quotes = text.map(|(option, _)| format!(" Spaces in the value of --{} need quotes around it.", option.name));
-    Failure::Usage(format!(
-        "There is no command {word:?} here: `pevghazo --help` lists them.{}",
-        quotes.unwrap_or_default()
-    ))
+    quotes.unwrap_or_default()
 }
 
 /// Splits a command line into its words and its options.
@@ -224,7 +256,8 @@ fn long(option: &[u8], tokens: &mut impl Iterator<Item = OsString>) -> Result<(&
     Ok((known, value))
 }
 
-/// Checks that all options are the command's own, that none is missing, nor a word, and that each value is what its option takes.
+/// Checks that all options are the command's own, that none is missing, and that each value is what its option takes. The words after
+/// the command are its own to check, in their order.
 fn check(command: &'static Command, given: Given, operands: &[&str]) -> Result<Arguments, Failure> {
     let mut own = Given::new();
     for (option, value) in given {
@@ -236,9 +269,6 @@ fn check(command: &'static Command, given: Given, operands: &[&str]) -> Result<A
     }
     let operands = command.operands().zip(operands.iter().map(|word| word.to_string())).collect();
     let arguments = Arguments { given: own, operands };
-    for name in command.operands() {
-        arguments.operand(name)?;
-    }
     for option in command.options {
         if option.required {
             arguments.required(option.name)?;
@@ -346,13 +376,16 @@ mod tests {
     #[test]
     fn spaces_of_a_text_need_quotes() {
         let said = parsed("group check-code --state f --packet 7 --code 0123 4567 89ab cdef").unwrap_err().to_string();
-        assert!(said.starts_with("There is no command \"4567\" here"), "{said}");
+        assert!(
+            said.starts_with("The word \"4567\" is one too many: see `pevghazo group check-code --help`."),
+            "{said}"
+        );
         assert!(said.ends_with(" Spaces in the value of --code need quotes around it."), "{said}");
         // Not where no text was given.
         for line in ["office show more --state f", "office seal more --state f --group 4", "help group check-code more"]
         {
             let said = parsed(line).unwrap_err().to_string();
-            assert!(said.starts_with("There is no command \"more\" here") && !said.contains("quotes"), "{said}");
+            assert!(said.contains(" \"more\" ") && !said.contains("quotes"), "{said}");
         }
     }
 
@@ -363,12 +396,23 @@ mod tests {
             ("nothing", "nothing"),
             ("show office --state f", "show"),
             ("office nothing more", "nothing"),
-            ("office show more --state f", "more"),
-            ("demo more", "more"),
             ("help nothing show", "nothing"),
+            ("help office show more", "more"),
         ] {
             let said = parsed(line).unwrap_err().to_string();
             assert!(said.starts_with(&format!("There is no command \"{word}\" here")), "{line}: {said}");
+        }
+        for (line, said) in [
+            ("office show more --state f", "The word \"more\" is one too many: see `pevghazo office show --help`."),
+            ("demo more still", "The word \"more\" is one too many: see `pevghazo demo --help`."),
+            ("pool find C 1 2 --state f", "The word \"2\" is one too many: see `pevghazo pool find --help`."),
+            ("pool add more --in f", "The word \"more\" is one too many: see `pevghazo pool add --help`."),
+            (
+                "pool add f",
+                "The word \"f\" is one too many: see `pevghazo pool add --help`. An input is named with --in.",
+            ),
+        ] {
+            assert_eq!(parsed(line).unwrap_err().to_string(), said, "{line}");
         }
         for group in ["-1", "x", "4294967296"] {
             let said = parsed(&format!("office resend --state f --out o --group {group}")).unwrap_err().to_string();

@@ -6,6 +6,7 @@ use std::{fmt, io};
 use pevghazo::{Group, Letter, Number, Refusal, Size};
 use pevghazo_store::{self as store, shown};
 
+use crate::refused::Reason;
 use crate::state::Bad;
 
 /// Why a command failed. The display is one or more plain sentences.
@@ -92,8 +93,8 @@ pub enum Failure {
     },
     /// Issue lines were refused.
     Lines {
-        /// The first refusal.
-        refusal: Refusal,
+        /// Why the first one was.
+        reason: Reason,
         /// The number of its line.
         line: u64,
         /// How many lines were refused.
@@ -101,8 +102,10 @@ pub enum Failure {
         /// How many were added to the pool.
         added: u64,
     },
-    /// Lines were added to a pool, but this could not be printed.
+    /// Lines were added to a pool, but this could not be printed, or it was not committed as it should.
     Added(Box<Failure>),
+    /// The pool could not be committed.
+    NotAdded(store::Error),
     /// The proved library refused the call, which was one of this letter's mode.
     Refused(Refusal, Letter),
     /// The library refused the call, as the group's allowance of the day does not cover it.
@@ -153,6 +156,7 @@ impl Failure {
             | Failure::Content { .. }
             | Failure::Lost(_)
             | Failure::Started(_)
+            | Failure::NotAdded(_)
             | Failure::NotCounted(..)
             | Failure::NotNoted(_) => 3,
             Failure::File { .. }
@@ -164,9 +168,8 @@ impl Failure {
             Failure::OtherGroup { .. } | Failure::OtherLetter(_) => 6,
             Failure::UsedKey | Failure::UsedNonce | Failure::UsedCounter { .. } => 7,
             Failure::Mismatch { .. } | Failure::OtherTag | Failure::NotPooled { .. } => 9,
-            Failure::Refused(refusal, _) | Failure::Spent { refusal, .. } | Failure::Lines { refusal, .. } => {
-                10 + refusal.number.number()
-            }
+            Failure::Refused(refusal, _) | Failure::Spent { refusal, .. } => 10 + refusal.number.number(),
+            Failure::Lines { reason, .. } => 10 + reason.number.number(),
             Failure::Kept { source, .. } | Failure::Added(source) => source.status(),
         }
     }
@@ -193,6 +196,40 @@ impl fmt::Display for Failure {
             Failure::Content { path, bad } => write!(f, "The state file {} cannot be used: {bad}.", shown(path)),
             Failure::Lost(path) => write!(f, "The state file {} was here before, and is lost. {LOST}", shown(path)),
             Failure::Started(error) => write!(f, "{error} `--replace` starts the next session in it."),
+            Failure::OtherGroup { asked, own } => {
+                write!(f, "This is for group {asked}, and the state file is that of group {own}.")
+            }
+            Failure::OtherLetter(letter) => f.write_str(if *letter == Letter::S { OF_SANSE } else { OF_SANE }),
+            Failure::UsedKey => f.write_str(USED_KEY),
+            Failure::UsedNonce => {
+                write!(f, "This nonce was used under this key in this state file before. {SHARED} Take another one.")
+            }
+            Failure::UsedCounter { counter, last } => used_counter(f, *counter, *last),
+            Failure::OtherTag => f.write_str(OTHER_TAG),
+            Failure::Mismatch { group, packet, index } => mismatch(f, *group, *packet, *index),
+            Failure::NotPooled { size, number } => write!(f, "The ring {size} {number} is not in the pool."),
+            Failure::Lines { reason, line, refused, added } => lines(f, reason, *line, *refused, *added),
+            Failure::Refused(refusal, letter) => refused(f, refusal, *letter),
+            Failure::Spent { refusal, group, allowance } => spent(f, refusal, group, *allowance),
+            Failure::Demo(what) => write!(f, "The demo did not go as it should: {what}."),
+            Failure::File { .. }
+            | Failure::NotSynced { .. }
+            | Failure::OpenKey(_)
+            | Failure::OutputExists(_)
+            | Failure::LargeInput(_) => self.fmt_file(f),
+            Failure::Added(_)
+            | Failure::NotAdded(_)
+            | Failure::NotCounted(..)
+            | Failure::Kept { .. }
+            | Failure::NotNoted(_) => self.fmt_afterwards(f),
+        }
+    }
+}
+
+impl Failure {
+    /// The sentences of inputs, outputs and keys.
+    fn fmt_file(&self, f: &mut fmt::Formatter<'_>) -> fmt::Result {
+        match self {
             Failure::File { what, path, source } => write!(f, "Could not {what} {}: {source}.", shown(path)),
             Failure::NotSynced { path, source } => write!(
                 f,
@@ -206,24 +243,17 @@ impl fmt::Display for Failure {
                 write!(f, "There is a file {} already: remove it or choose another output.", shown(path))
             }
             Failure::LargeInput(path) => write!(f, "{} is too large to hold an envelope.", shown(path)),
-            Failure::OtherGroup { asked, own } => {
-                write!(f, "This is for group {asked}, and the state file is that of group {own}.")
-            }
-            Failure::OtherLetter(letter) => f.write_str(if *letter == Letter::S { OF_SANSE } else { OF_SANE }),
-            Failure::UsedKey => f.write_str(USED_KEY),
-            Failure::UsedNonce => {
-                write!(f, "This nonce was used under this key in this state file before. {SHARED} Take another one.")
-            }
-            Failure::UsedCounter { counter, last } => used_counter(f, *counter, *last),
-            Failure::OtherTag => f.write_str(OTHER_TAG),
-            Failure::Mismatch { group, packet, index } => mismatch(f, *group, *packet, *index),
-            Failure::NotPooled { size, number } => write!(f, "The ring {size} {number} is not in the pool."),
-            Failure::Lines { refusal, line, refused, added } => lines(f, refusal, *line, *refused, *added),
+            _ => Ok(()),
+        }
+    }
+
+    /// The sentences of what went wrong once the call was made.
+    fn fmt_afterwards(&self, f: &mut fmt::Formatter<'_>) -> fmt::Result {
+        match self {
             Failure::Added(source) => {
                 write!(f, "{source} The lines were added all the same: `pool show` shows the pool.")
             }
-            Failure::Refused(refusal, letter) => refused(f, refusal, *letter),
-            Failure::Spent { refusal, group, allowance } => spent(f, refusal, group, *allowance),
+            Failure::NotAdded(error) => write!(f, "{error} Nothing was added."),
             Failure::NotCounted(refusal, error) => {
                 refused(f, refusal, Letter::S)?;
                 let not_added = if error.is_committed() { "" } else { "Its count could not be added to the group's: " };
@@ -236,7 +266,7 @@ impl fmt::Display for Failure {
             Failure::NotNoted(error) => {
                 write!(f, "Everything was handed out, but this could not be noted: {error}")
             }
-            Failure::Demo(what) => write!(f, "The demo did not go as it should: {what}."),
+            _ => Ok(()),
         }
     }
 }
@@ -318,9 +348,8 @@ fn spent(f: &mut fmt::Formatter<'_>, refusal: &Refusal, group: &Group, allowance
 }
 
 /// The sentences of issue lines that were refused.
-fn lines(f: &mut fmt::Formatter<'_>, refusal: &Refusal, line: u64, refused: u64, added: u64) -> fmt::Result {
-    let Refusal { number, .. } = refusal;
-    write!(f, "Refused, number {}, at line {line}: {}", number.number(), number.sentence())?;
+fn lines(f: &mut fmt::Formatter<'_>, reason: &Reason, line: u64, refused: u64, added: u64) -> fmt::Result {
+    write!(f, "Refused, number {}, at line {line}: {reason}", reason.number.number())?;
     write!(f, " Lines refused: {refused}. Lines added: {added}.")
 }
 

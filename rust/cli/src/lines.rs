@@ -48,7 +48,8 @@ impl Lines {
 }
 
 impl<R: Read> Lines<R> {
-    fn of(path: &Path, reader: R, length: Option<u64>) -> Lines<R> {
+    /// The lines that a reader gives.
+    pub fn of(path: &Path, reader: R, length: Option<u64>) -> Lines<R> {
         let (path, reader) = (path.to_path_buf(), BufReader::with_capacity(1 << 16, reader));
         Lines { path, reader, piece: Vec::with_capacity(PIECE), length, read: 0 }
     }

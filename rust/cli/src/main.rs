@@ -15,6 +15,7 @@
 //! | [`end`] | the ends of sessions, and their sealing, opening and codes by the proved library |
 //! | [`labels`] | the codes of packets as lines, as a table and as a page to print |
 //! | [`lines`], [`progress`] | the lines of a long input, and how far it was read, for a terminal |
+//! | [`refused`] | the refused lines of an input, remembered and listed |
 //! | [`state`] | what a state file holds, and its bytes |
 //! | [`keys`] | the keys that were used in a state file, and their fingerprints |
 //! | [`starts`] | the nonces that were used in the state file of a session in SANE, under each key |
@@ -37,6 +38,7 @@ mod labels;
 mod lines;
 mod output;
 mod progress;
+mod refused;
 mod starts;
 mod state;
 mod state_file;

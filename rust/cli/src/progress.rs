@@ -27,12 +27,13 @@ impl Progress {
             self.is_shown = true;
         }
     }
+}
 
-    /// Takes it away, before something else is shown and at the end.
-    pub fn clear(&mut self) {
+impl Drop for Progress {
+    /// Takes it away, before something else is shown.
+    fn drop(&mut self) {
         if self.is_shown {
             say(CLEAR);
-            self.is_shown = false;
         }
     }
 }

@@ -45,6 +45,11 @@ impl<S: State> Used<S> {
         if self.store.bytes() == Some(&bytes[..]) { Ok(()) } else { self.store.commit_and_wipe(&bytes) }
     }
 
+    /// Whether the file is an older copy, which `--restore` has taken.
+    pub fn is_older(&self) -> bool {
+        self.store.own_generation() < self.store.generation()
+    }
+
     /// The number of the commit that the file is of.
     pub fn generation(&self) -> u64 {
         self.store.own_generation()

@@ -259,8 +259,8 @@ be hyphens, or spaces, if the whole is in quotes. A code of the session before i
 
 const POOLED: &str = "\
 An issue line is `group,size,first,last,day` and a line feed, as 7,C,12001,12100,20250304. All lines are tried in their order, and
-those that are accepted are committed together at the end; with `--all-or-none` only if no line is refused. Prints each refused
-line's place with number and reason, then what was added. The status is that of the first refusal, 10 and its number: 23 this is
+those that are accepted are committed together at the end; with `--all-or-none` only if no line is refused. Then prints each refused
+line's place with number and reason, and what was added. The status is that of the first refusal, 10 and its number: 23 this is
 not a line, 24 a number of it is in the pool already, 25 the pool would need more than 256 runs.";
 const SHOWN: &str = "\
 Prints the runs and rings of each size, and then the runs. A table with commas has the sizes, or with `--runs` the runs.";

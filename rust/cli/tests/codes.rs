@@ -8,11 +8,9 @@ use std::fs;
 use std::io::Read;
 use std::os::unix::ffi::OsStrExt;
 use std::os::unix::fs::{MetadataExt, PermissionsExt};
-use std::process::{Child, Command, Stdio};
-use std::thread::sleep;
-use std::time::Duration;
+use std::process::{Command, Stdio};
 
-use common::{Folder, Run, code, grouped};
+use common::{Folder, Run, code, grouped, until_blocked};
 use pevghazo_reference::{envelope, session::Session};
 
 const OFFICE: &str = "office --state office codes --group 5";
@@ -373,18 +371,6 @@ fn a_slow_reader_of_codes_keeps_nobody_waiting() {
     output.read_to_end(&mut rest).unwrap();
     assert!(rest.len() > 1 << 17 && rest.ends_with(b"</html>\n"));
     assert!(child.wait().unwrap().success());
-}
-
-/// Waits until a program cannot go on.
-fn until_blocked(child: &Child) {
-    let state = || {
-        let stat = fs::read_to_string(format!("/proc/{}/stat", child.id())).unwrap();
-        stat[stat.rfind(')').unwrap()..].chars().nth(2)
-    };
-    while state() != Some('S') {
-        assert_ne!(state(), Some('Z'), "it has gone on");
-        sleep(Duration::from_millis(1));
-    }
 }
 
 /// So it is where nobody takes the verdict: the pipe is full of zeros.

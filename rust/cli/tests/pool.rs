@@ -2,9 +2,9 @@
 
 mod common;
 
-use std::process::Command;
+use std::process::{Command, Stdio};
 
-use common::{Folder, PROGRAM, Run, VARIABLE};
+use common::{Folder, PROGRAM, Run, VARIABLE, until_blocked};
 use pevghazo_reference::pool::Pool as Reference;
 use pevghazo_reference::random::Random;
 
@@ -12,6 +12,8 @@ const BAD_LINE: &str =
     "This is not an issue line: it must be group,size,first,last,day, as 7,C,12001,12100,20250304, and a line feed.";
 const POOLED: &str = "A number of this line is in the pool already, in its size.";
 const POOL_FULL: &str = "The pool is full: with this line it would need more than 256 runs.";
+const RETURN: &str = " It ends with carriage return and line feed: take the carriage return away.";
+const ALL_THE_SAME: &str = " The lines were added all the same: `pool show` shows the pool.\n";
 
 const ADD: &str = "pool --state pool add --in lines";
 
@@ -34,6 +36,11 @@ fn pool_of(lines: &str) -> Folder {
 fn listed(line: usize, number: i32) -> String {
     let sentence = [BAD_LINE, POOLED, POOL_FULL][number as usize - 13];
     format!("line {line}: number {number}: {sentence}\n")
+}
+
+/// The same of one that ends with carriage return and line feed.
+fn listed_with_return(line: usize) -> String {
+    listed(line, 13).replace(BAD_LINE, &format!("{BAD_LINE}{RETURN}"))
 }
 
 /// The sentence of a command whose first refusal is this one.
@@ -134,9 +141,20 @@ fn accepted_lines_are_added_and_refused_ones_listed() {
     assert_eq!(runs(&folder), "C,12001,12100,100\nE,5,6,2\n");
     // The status is that of the first refusal.
     folder.write("lines", b"9,E,7,7,20250101\r\n9,E,5,6,20250101\n9,E,8,8,20250101\n");
-    let list = listed(1, 13) + &listed(2, 14);
-    refused(&folder.run(ADD), 13, &(list + "added 1 of 3 lines, 1 rings\n"), &said(1, 13, 2, 1));
+    let list = listed_with_return(1) + &listed(2, 14);
+    let said = said(1, 13, 2, 1).replace(BAD_LINE, &format!("{BAD_LINE}{RETURN}"));
+    refused(&folder.run(ADD), 13, &(list + "added 1 of 3 lines, 1 rings\n"), &said);
     assert_eq!(runs(&folder), "C,12001,12100,100\nE,5,6,2\nE,8,8,1\n");
+}
+
+/// A carriage return before the line feed is told, also of the longest line, and nowhere else.
+#[test]
+fn carriage_returns_are_told() {
+    let folder = empty();
+    let longest = "31,H,99999999,99999999,20250304";
+    folder.write("lines", format!("\r\n{longest}\r\n\r{longest}\n{longest}\r").as_bytes());
+    let list = listed_with_return(1) + &listed_with_return(2) + &listed(3, 13) + &listed(4, 13);
+    assert_eq!(String::from_utf8(folder.run(ADD).printed).unwrap(), list + "added 0 of 4 lines, 0 rings\n");
 }
 
 #[test]
@@ -178,7 +196,6 @@ fn what_is_a_line_of_an_input() {
         ("\n".to_string(), &[1][..]),
         ("\n\n".to_string(), &[1, 2]),
         (good.to_string(), &[1]),
-        (format!("{good}\r\n"), &[1]),
         (format!("{good} \n{good}x\n x"), &[1, 2, 3]),
         (format!("\u{feff}{good}\n"), &[1]),
         (format!("{}\n", "9".repeat(100_000)), &[1]),
@@ -242,6 +259,22 @@ fn a_ring_is_found_in_its_run() {
     assert!(folder.read("pool") == before);
 }
 
+/// Where size and number are typed as one word, it is said that they are two.
+#[test]
+fn a_size_and_a_number_are_two_words() {
+    let folder = empty();
+    for word in ["C12001", "C 12001", "C-12001", "12001", "CC"] {
+        let mut command = folder.command("pool --state pool find");
+        command.arg(word);
+        let said = format!(
+            "pevghazo: SIZE is \"{word}\". A size is one letter, A to H. The number follows as a word of its own, as in \
+             `pevghazo pool find C 12001`.\n"
+        );
+        let run = Run::of(command);
+        assert_eq!((run.status, run.said), (2, said));
+    }
+}
+
 #[test]
 fn wrong_command_lines() {
     let folder = pool_of("7,C,12001,12100,20250304\n");
@@ -257,9 +290,12 @@ fn wrong_command_lines() {
         ("find C 5x", "NUMBER is \"5x\". The number of a ring is 1 to 99999999, in digits."),
         ("find C", "The word NUMBER is missing: see --help."),
         ("find", "The word SIZE is missing: see --help."),
-        ("find C 5 6", "There is no command \"6\" here: `pevghazo --help` lists them."),
-        ("show C", "There is no command \"C\" here: `pevghazo --help` lists them."),
-        ("add lines", "There is no command \"lines\" here: `pevghazo --help` lists them."),
+        ("find C 5 6", "The word \"6\" is one too many: see `pevghazo pool find --help`."),
+        ("show C", "The word \"C\" is one too many: see `pevghazo pool show --help`."),
+        (
+            "add lines",
+            "The word \"lines\" is one too many: see `pevghazo pool add --help`. An input is named with --in.",
+        ),
         ("add", "The option --in is missing."),
         ("add --in lines --all-or-none=yes", "The option --all-or-none takes no value."),
         ("show --csv --json", "With --json neither --csv nor --runs may be given: it has everything."),
@@ -285,24 +321,70 @@ fn inputs_that_cannot_be_read() {
         let run = Run::of(folder.command_after(shell, "pool --state pool add --in -"));
         assert_eq!((run.status, run.said), (4, format!("pevghazo: Could not {stream}: it is closed.\n")));
     }
+    // A closed output is noticed before anything is added.
+    folder.write("lines", b"7,C,1,1,20250304\n");
+    let run = Run::of(folder.command_after("exec >&-", ADD));
+    assert_eq!((run.status, run.said.as_str()), (4, "pevghazo: Could not write to standard output: it is closed.\n"));
     assert!(folder.read("pool") == before);
 }
 
-/// Where the list of refused lines cannot be printed, nothing is added; where that cannot be said afterwards, it is told.
+/// A line stands across the place up to which the input is read at first, of 16 MiB, and others behind it.
+#[test]
+fn an_input_of_more_than_16_mib() {
+    let folder = empty();
+    for (before, size) in [(10, 'A'), (17, 'B'), (1, 'C'), (0, 'D')] {
+        let mut input = vec![b'x'; (1 << 24) - before - 1];
+        input.extend(format!("\n7,{size},1,5,20250304\n7,{size},7,9,20250304\nnothing").bytes());
+        folder.write("lines", &input);
+        let list = listed(1, 13) + &listed(4, 13);
+        refused(&folder.run(ADD), 13, &(list + "added 2 of 4 lines, 8 rings\n"), &said(1, 13, 2, 2));
+    }
+    assert_eq!(folder.done("pool --state pool show --csv").matches(",2,8\n").count(), 4);
+}
+
+/// Where the list of refused lines or the last line cannot be printed, what was accepted is added all the same, and that is told.
 #[test]
 fn a_standard_output_that_is_full() {
-    let folder = empty();
-    let before = folder.read("pool");
-    folder.write("lines", b"7,C,1,1,20250304\nnothing\n");
-    let run = Run::of(folder.command_after("exec >/dev/full", ADD));
-    assert_eq!(run.status, 4, "{}", run.said);
-    assert!(run.said.starts_with("pevghazo: Could not write to standard output: ") && !run.said.contains("added"));
-    assert!(folder.read("pool") == before);
-    folder.write("lines", b"7,C,1,1,20250304\n");
-    let run = Run::of(folder.command_after("exec >/dev/full", ADD));
-    assert_eq!(run.status, 4, "{}", run.said);
-    assert!(run.said.ends_with(" The lines were added all the same: `pool show` shows the pool.\n"), "{}", run.said);
-    assert_eq!(runs(&folder), "C,1,1,1\n");
+    // The list is longer than what is printed at once; or short; or there is none.
+    for nothing in [100, 1, 0] {
+        let folder = empty();
+        let before = folder.read("pool");
+        folder.write("lines", format!("7,C,1,1,20250304\n{}", "nothing\n".repeat(nothing)).as_bytes());
+        if nothing > 0 {
+            let run = Run::of(folder.command_after("exec >/dev/full", &format!("{ADD} --all-or-none")));
+            assert_eq!(run.status, 4, "{}", run.said);
+            assert!(run.said.starts_with("pevghazo: Could not write to standard output: "), "{}", run.said);
+            assert!(!run.said.contains("added") && folder.read("pool") == before, "{}", run.said);
+        }
+        let run = Run::of(folder.command_after("exec >/dev/full", ADD));
+        assert_eq!(run.status, 4, "{}", run.said);
+        assert!(run.said.starts_with("pevghazo: Could not write to standard output: "), "{}", run.said);
+        assert!(run.said.ends_with(ALL_THE_SAME), "{}", run.said);
+        assert_eq!(runs(&folder), "C,1,1,1\n");
+    }
+}
+
+/// Where nobody takes the output, nobody is kept waiting: the pipe is full of zeros. What was added is in the pool already.
+#[test]
+fn an_output_that_nobody_takes_keeps_nobody_waiting() {
+    let folder = pool_of("7,C,12001,12100,20250304\n");
+    let (reader, writer) = std::io::pipe().unwrap();
+    let zeros = Command::new("cat").arg("/dev/zero").stdout(writer.try_clone().unwrap()).stderr(Stdio::null()).spawn();
+    let mut zeros = zeros.unwrap();
+    until_blocked(&zeros);
+    folder.write("lines", format!("{}7,D,1,5,20250304\n", "nothing\n".repeat(100)).as_bytes());
+    let mut children = Vec::new();
+    for line in [ADD, "pool --state pool show", "pool --state pool find C 12001"] {
+        children.push(folder.command(line).stdout(writer.try_clone().unwrap()).spawn().unwrap());
+        until_blocked(children.last().unwrap());
+        let shown = folder.done("pool --state pool show --runs --csv --wait 0");
+        assert!(shown.ends_with("\nD,1,5,5\n"), "{line}: {shown}");
+    }
+    drop(reader);
+    zeros.wait().unwrap();
+    let ends: Vec<Run> = children.into_iter().map(|child| Run::from(child.wait_with_output().unwrap())).collect();
+    assert!(ends.iter().all(|run| run.status == 4 && run.said.contains("standard output: Broken pipe")), "{ends:?}");
+    assert_eq!(ends.iter().map(|run| run.said.ends_with(ALL_THE_SAME)).collect::<Vec<_>>(), [true, false, false]);
 }
 
 /// An input of random lines, of which some are damaged: one byte of them is another, which may be a line feed, or missing.
@@ -332,12 +414,28 @@ fn expected(reference: &mut Reference, input: &[u8]) -> (String, i32) {
             Ok(()) => added += 1,
             Err(number) => {
                 status = if status == 0 { 10 + number } else { status };
-                list += &listed(place + 1, number);
+                let has_return = piece.ends_with(b"\r\n");
+                list += &if has_return { listed_with_return(place + 1) } else { listed(place + 1, number) };
             }
         }
     }
     let rings = reference.rings() - rings;
     (format!("{list}added {added} of {} lines, {rings} rings\n", pieces.len()), status)
+}
+
+/// The figures of each size are those of the independent implementation, in both forms for programs.
+fn sizes_are_those_of(folder: &Folder, reference: &Reference) {
+    let (mut csv, mut json) = (String::from("size,runs,rings\n"), Vec::new());
+    for size in 'A'..='H' {
+        let runs: Vec<_> = reference.runs().filter(|run| run.0 == size).collect();
+        let rings: u32 = runs.iter().map(|(_, first, last)| last - first + 1).sum();
+        csv += &format!("{size},{},{rings}\n", runs.len());
+        json.push(format!(r#"{{"size":"{size}","runs":{},"rings":{rings}}}"#, runs.len()));
+    }
+    assert_eq!(folder.done("pool --state pool show --csv"), csv);
+    let shown = folder.done("pool --state pool show --json");
+    let together = format!(r#""runs":{},"rings":{},"#, reference.runs().count(), reference.rings());
+    assert!(shown.contains(&format!("{together}\"sizes\":[{}],\"list\"", json.join(","))), "{shown}");
 }
 
 /// Random inputs, some in several commands, beside the independent implementation.
@@ -358,6 +456,7 @@ fn any_inputs_beside_the_reference() {
         }
         let row = |(size, first, last): (char, u32, u32)| format!("{size},{first},{last},{}\n", last - first + 1);
         assert_eq!(runs(&folder), reference.runs().map(row).collect::<String>());
+        sizes_are_those_of(&folder, &reference);
     }
     assert!(statuses.iter().all(|(_, times)| *times > 0), "{statuses:?}");
 }

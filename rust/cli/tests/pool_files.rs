@@ -2,9 +2,11 @@
 
 mod common;
 
+use std::fs::OpenOptions;
+use std::io::Write;
 use std::process::Command;
 
-use common::{Folder, PROGRAM, Run};
+use common::{Folder, PROGRAM, Run, until_blocked};
 use pevghazo_store::{Presence, Store, Wait};
 
 const ADD: &str = "pool --state pool add --in lines";
@@ -170,6 +172,32 @@ fn an_older_copy_is_refused() {
     folder.done("pool --state pool find D 5");
 }
 
+/// An older copy that adding took is the newest afterwards, also where no line was added.
+#[test]
+fn adding_nothing_makes_an_older_copy_the_newest() {
+    for (lines, all, status) in [
+        ("", "", 0),
+        ("", " --all-or-none", 0),
+        ("nothing\n", "", 23),
+        ("7,C,12001,12001,20250304\n", "", 24),
+        ("7,E,1,1,20250304\nnothing\n", " --all-or-none", 23),
+    ] {
+        let folder = pool();
+        let older = folder.read("pool").unwrap();
+        folder.done(ADD);
+        folder.write("pool", &older);
+        folder.write("lines", lines.as_bytes());
+        folder.fails(8, &format!("{ADD}{all}"));
+        assert_eq!(folder.run(&format!("{ADD}{all} --restore")).status, status, "{lines}");
+        assert_eq!(folder.done("pool --state pool show --runs --csv"), "size,first,last,rings\nC,12001,12100,100\n");
+        assert!(folder.done("pool --state pool show --json").starts_with("{\"commit\":4,"));
+        // With the newest one, it alters nothing.
+        let newest = folder.read("pool");
+        assert_eq!(folder.run(&format!("{ADD}{all} --restore")).status, status, "{lines}");
+        assert!(folder.read("pool") == newest);
+    }
+}
+
 #[test]
 fn a_state_file_in_use_is_waited_for() {
     let folder = pool();
@@ -178,10 +206,51 @@ fn a_state_file_in_use_is_waited_for() {
         let said = folder.fails(3, &format!("{line} --wait 0"));
         assert!(said.contains("Another program is using the state file "), "{said}");
     }
-    let waiting = folder.command(ADD).spawn().unwrap();
-    std::thread::sleep(std::time::Duration::from_millis(100));
+    let waiting = folder.command(&format!("{ADD} --wait 60")).spawn().unwrap();
+    until_blocked(&waiting);
     drop(store);
     assert!(waiting.wait_with_output().unwrap().status.success());
+}
+
+/// While the input is waited for, the state file is free: it is a pipe, of which a part has come.
+#[test]
+fn the_state_file_is_free_while_the_input_is_read() {
+    let folder = pool();
+    assert!(Command::new("mkfifo").arg(folder.0.join("pipe")).status().unwrap().success());
+    let child = folder.command("pool --state pool add --in pipe --wait 0").spawn().unwrap();
+    // This waits until the command opens it too.
+    let mut pipe = OpenOptions::new().write(true).open(folder.0.join("pipe")).unwrap();
+    pipe.write_all(b"7,D,6,6,20250304\n7,D").unwrap();
+    until_blocked(&child);
+    folder.done("pool --state pool show --wait 0");
+    assert_eq!(folder.done(&format!("{ADD} --wait 0")), "added 1 of 1 lines, 5 rings\n");
+    pipe.write_all(b",7,9,20250304\n").unwrap();
+    drop(pipe);
+    let run = Run::from(child.wait_with_output().unwrap());
+    assert_eq!((run.status, &run.printed[..], run.said.as_str()), (0, &b"added 2 of 2 lines, 4 rings\n"[..], ""));
+    folder.done("pool --state pool find D 1");
+}
+
+/// Where the commit fails, nothing is listed, and a sentence says whether the lines are in the pool.
+#[test]
+fn a_commit_that_fails() {
+    let first = pool();
+    first.write("lines", b"nothing\n7,D,1,5,20250304\n");
+    let (mut not_added, mut added) = (0, 0);
+    for step in 1.. {
+        let folder = first.copy();
+        let run = folder.run_with(&format!("fail@{step}"), ADD);
+        if run.status == 23 {
+            break;
+        }
+        assert_eq!((run.status, &run.printed[..]), (3, &b""[..]), "step {step}: {}", run.said);
+        let is_added = folder.run("pool --state pool find D 1").status == 0;
+        let says_so = run.said.ends_with(" The lines were added all the same: `pool show` shows the pool.\n");
+        assert_eq!(says_so, is_added, "step {step}: {}", run.said);
+        added += i32::from(is_added);
+        not_added += i32::from(run.said.ends_with(" Nothing was added.\n"));
+    }
+    assert!(added > 0 && not_added > 0, "{added} {not_added}");
 }
 
 /// Two processes add at the same time: all lines are in the pool, and one that both have was accepted once.
@@ -217,6 +286,26 @@ fn lines_may_come_from_a_command_on_the_same_pool() {
     assert_eq!((run.status, &run.printed[..], run.said.as_str()), (0, &b"added 1 of 1 lines, 100 rings\n"[..], ""));
 }
 
+/// The lines of an envelope go from the office into the pool, as the manual has it.
+#[test]
+fn lines_may_come_from_an_envelope() {
+    let folder = Folder::pair(7);
+    folder.write("returned.txt", b"7,C,12001,12100,20250304\n7,C,12101,12150,20250304\n4,E,500,599,20250305\n");
+    folder.done("group --state group seal --message returned.txt --out returned.env");
+    folder.done("pool --state pool.state create");
+    let manual = include_str!("../../../docs/COMMANDS.md");
+    let line = manual.lines().find(|line| line.contains(" --out - | pevghazo pool add ")).unwrap();
+    let script = line.trim().replace("pevghazo ", "\"$0\" ").replace("office.state", "office");
+    for (printed, status) in [("added 3 of 3 lines, 250 rings\n", 0), ("added 0 of 0 lines, 0 rings\n", 0)] {
+        let mut command = Command::new("sh");
+        command.args(["-c", &script, PROGRAM]).current_dir(&folder.0);
+        let run = Run::of(command);
+        assert_eq!((String::from_utf8(run.printed).unwrap().as_str(), run.status), (printed, status), "{}", run.said);
+    }
+    let again = folder.done("office --state office reread --group 7 --out -");
+    assert!(again.as_bytes() == folder.read("returned.txt").unwrap());
+}
+
 /// 50,000 rings, a line for each.
 fn many_lines() -> String {
     (1..=50_000).map(|number| format!("7,C,{number},{number},20250304\n")).collect()
@@ -236,15 +325,26 @@ fn progress_is_shown_at_a_terminal() {
     let folder = Folder::new();
     folder.done("pool --state pool create");
     folder.write("lines", format!("{}nothing\n", many_lines()).as_bytes());
-    let mut command = Command::new("script");
-    command.args(["-qec", &format!("{PROGRAM} {ADD}"), "/dev/null"]).current_dir(&folder.0);
-    let Ok(output) = command.stdin(std::process::Stdio::null()).output() else {
-        eprintln!("not tried: this system has no program that makes a terminal");
-        return;
-    };
-    let told = String::from_utf8(output.stdout).unwrap();
+    let run = folder.run_at_terminal(ADD);
+    let told = String::from_utf8(run.printed).unwrap();
     let shown: Vec<&str> = told.split("\r\u{1b}[K").collect();
     assert_eq!(&shown[..4], ["", "16384 lines, 31 %", "32768 lines, 64 %", "49152 lines, 98 %"], "{told:?}");
     assert!(shown[4].starts_with("line 50001: number 13: ") && shown.len() == 5, "{told:?}");
     assert!(shown[4].contains("\r\nadded 50000 of 50001 lines, 50000 rings\r\n"), "{told:?}");
+    assert_eq!(run.status, 23, "{told:?}");
+}
+
+/// So it is where a long list of refused lines follows.
+#[test]
+fn progress_is_taken_away_before_many_refusals() {
+    let folder = Folder::new();
+    folder.done("pool --state pool create");
+    folder.write("lines", "nothing\n".repeat(17_000).as_bytes());
+    let told = String::from_utf8(folder.run_at_terminal(ADD).printed).unwrap();
+    let shown: Vec<&str> = told.split("\r\u{1b}[K").collect();
+    assert_eq!((shown.len(), &shown[..2]), (3, &["", "16384 lines, 96 %"][..]));
+    let lines: Vec<&str> = shown[2].split("\r\n").collect();
+    let is_listed = |(place, line): (usize, &&str)| line.starts_with(&format!("line {}: number 13: ", place + 1));
+    assert!(lines[..17_000].iter().enumerate().all(is_listed));
+    assert_eq!(lines[17_000], "added 0 of 17000 lines, 0 rings");
 }

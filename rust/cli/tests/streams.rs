@@ -2,9 +2,7 @@
 
 mod common;
 
-use std::process::Command;
-
-use common::{Folder, PROGRAM, Run};
+use common::{Folder, Run};
 
 /// The check of a code that is not the packet's.
 const CHECK: &str = "group --state group check-code --packet 7 --code 0123-4567-89ab-cdef";
@@ -105,13 +103,8 @@ fn results_are_for_scripts_and_progress_is_for_terminals() {
         ),
         ("sane --state sane start --group 5 --key key --counter 1 > tag", "A session in SANE has started for group 5."),
     ] {
-        let mut command = Command::new("script");
-        command.args(["-qec", &format!("{PROGRAM} {line}"), "/dev/null"]).current_dir(&folder.0);
-        let Ok(output) = command.stdin(std::process::Stdio::null()).output() else {
-            eprintln!("not tried: this system has no program that makes a terminal");
-            return;
-        };
-        let told = String::from_utf8(output.stdout).unwrap();
-        assert!(told.starts_with(start), "{told}");
+        let run = folder.run_at_terminal(line);
+        let told = String::from_utf8(run.printed).unwrap();
+        assert!(run.status == 0 && told.starts_with(start), "{told}");
     }
 }

@@ -2,7 +2,7 @@
 
 mod common;
 
-use common::pools::{Memory, Pools, line_of};
+use common::pools::{Memory, Pools, line_of, run_record};
 use pevghazo::raw;
 
 /// The runs of size C, in their order.
@@ -39,6 +39,33 @@ fn a_line_is_pooled() {
         for size in [0, 0x143, 0x4300, 0x0100_0043, 0x4343_4343] {
             assert!(!raw::pool_holds(pools.memory.record(), size, number), "{size:x}");
         }
+    }
+}
+
+/// The powers of ten and the numbers before them, where digits become more, as first and as last, and those beside are not pooled.
+#[test]
+fn numbers_where_digits_become_more() {
+    let edges: Vec<u32> = (0..8).flat_map(|power| [10_u32.pow(power) - 1, 10_u32.pow(power)]).skip(1).collect();
+    let edges: Vec<u32> = edges.into_iter().chain([99_999_999]).collect();
+    for first in &edges {
+        for last in edges.iter().filter(|last| *last >= first) {
+            let mut pools = Pools::new();
+            assert_eq!(pools.add(format!("7,C,{first},{last},20250304\n").as_bytes()), 0, "{first} to {last}");
+            assert_eq!(runs(&pools), [(*first, *last)]);
+            assert_eq!(pools.memory.runs(), [run_record(('C', *first, *last))]);
+            assert_eq!(raw::pool_rings(pools.memory.record()), u64::from(last - first) + 1);
+            for number in &edges {
+                assert_eq!(pools.holds('C', *number), (first..=last).contains(&number), "{number}");
+            }
+            assert!(!pools.holds('C', first - 1) && !pools.holds('C', last + 1), "{first} to {last}");
+        }
+    }
+    // In the other order they are no line; nor is a power too high.
+    for pair in edges.windows(2) {
+        assert_eq!(Pools::new().add(format!("7,C,{},{},20250304\n", pair[1], pair[0]).as_bytes()), 13, "{pair:?}");
+    }
+    for numbers in ["1,100000000", "100000000,100000000", "0,9", "0,0", "10000000,9999999"] {
+        assert_eq!(Pools::new().add(format!("7,C,{numbers},20250304\n").as_bytes()), 13, "{numbers}");
     }
 }
 

@@ -66,6 +66,22 @@ fn a_number_is_found_exactly_where_it_is_held() {
     assert_eq!((pool.find(Size::C, 9), pool.find(Size::C, 10)), (Some(run(5, 9)), None));
 }
 
+/// So it is in a full pool, in each of its runs and between them.
+#[test]
+fn a_number_is_found_in_a_full_pool() {
+    let size = |place: u32| Size::ALL[place as usize % 8];
+    let runs: Vec<Run> =
+        (0..256).map(|place| Run { size: size(place), ..run(10 + 4 * place, 12 + 4 * place) }).collect();
+    let pool = Pool::from_runs(&runs).unwrap();
+    assert_eq!(pool.runs().len(), 256);
+    for run in runs {
+        for number in run.first - 1..=run.last + 1 {
+            let expected = run.has(number).then_some(run);
+            assert_eq!((pool.find(run.size, number), pool.holds(run.size, number)), (expected, expected.is_some()));
+        }
+    }
+}
+
 #[test]
 fn equal_pools_have_the_same_runs() {
     let one = pool_of(&["1,C,5,9,20250304\n", "1,D,1,1,20250304\n"]);
@@ -94,9 +110,33 @@ fn runs_that_a_list_leaves_are_taken() {
     }
 }
 
+/// So many runs, with one number between each two of them.
+fn many(count: u32) -> Vec<Run> {
+    (0..count).map(|place| run(1 + 2 * place, 1 + 2 * place)).collect()
+}
+
+/// A bad run, or a bad pair, is found in each place among 256, whether they are sorted or not.
+#[test]
+fn bad_runs_are_found_in_each_place() {
+    for place in 0..256 {
+        let mut runs = many(256);
+        runs[place].last = runs[place].first - 1;
+        assert_eq!(Pool::from_runs(&runs), Err(BadRuns::Numbers(runs[place])), "place {place}");
+        runs.reverse();
+        assert_eq!(Pool::from_runs(&runs), Err(BadRuns::Numbers(runs[255 - place])), "place {place}");
+    }
+    for place in 0..255 {
+        let mut runs = many(256);
+        runs[place].last += 1;
+        assert_eq!(Pool::from_runs(&runs), Err(BadRuns::Meet(runs[place], runs[place + 1])), "place {place}");
+        runs.reverse();
+        let pair = (runs[255 - place], runs[254 - place]);
+        assert_eq!(Pool::from_runs(&runs), Err(BadRuns::Meet(pair.0, pair.1)), "place {place}");
+    }
+}
+
 #[test]
 fn other_runs_are_refused() {
-    let many = |count: u32| (0..count).map(|place| run(1 + 2 * place, 1 + 2 * place)).collect::<Vec<_>>();
     assert_eq!(Pool::from_runs(&many(256)).unwrap().rings(), 256);
     assert_eq!(Pool::from_runs(&many(257)), Err(BadRuns::TooMany(257)));
     for bad in

@@ -8,8 +8,10 @@ use std::io::Write;
 use std::os::unix::fs::OpenOptionsExt;
 use std::os::unix::process::ExitStatusExt;
 use std::path::{Path, PathBuf};
-use std::process::{Command, Stdio};
+use std::process::{Child, Command, Stdio};
 use std::sync::atomic::{AtomicU32, Ordering};
+use std::thread::sleep;
+use std::time::Duration;
 
 use pevghazo_reference::session::Session;
 pub use pevghazo_store::fault::VARIABLE;
@@ -114,6 +116,14 @@ impl Folder {
         Run::from(child.wait_with_output().unwrap())
     }
 
+    /// Runs the program at a terminal, by a shell, with everything that is shown there as what it prints.
+    pub fn run_at_terminal(&self, line: &str) -> Run {
+        let script = "import os, pty, sys; sys.exit(os.waitstatus_to_exitcode(pty.spawn(sys.argv[1:])))";
+        let mut command = Command::new("python3");
+        command.args(["-c", script, "sh", "-c", &format!("exec \"$0\" {line}"), PROGRAM]);
+        Run::of(self.prepared(command))
+    }
+
     /// Runs the program, which must succeed, and gives what it prints.
     pub fn done(&self, line: &str) -> String {
         let run = self.run(line);
@@ -180,6 +190,18 @@ impl Run {
             printed: output.stdout,
             said: String::from_utf8(output.stderr).unwrap(),
         }
+    }
+}
+
+/// Waits until a program cannot go on.
+pub fn until_blocked(child: &Child) {
+    let state = || {
+        let stat = fs::read_to_string(format!("/proc/{}/stat", child.id())).unwrap();
+        stat[stat.rfind(')').unwrap()..].chars().nth(2)
+    };
+    while state() != Some('S') {
+        assert_ne!(state(), Some('Z'), "it has gone on");
+        sleep(Duration::from_millis(1));
     }
 }
 

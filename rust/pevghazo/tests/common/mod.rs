@@ -44,11 +44,21 @@ pub fn is_whole_run() -> bool {
     setting("PEVGHAZO_SEED").is_none() && setting("PEVGHAZO_CASES").is_none_or(|cases| cases >= 1_000)
 }
 
+/// How often what happens in many cases must have happened: 100 times in 10,000 cases, and in others in proportion.
+pub fn least_times() -> u64 {
+    if setting("PEVGHAZO_SEED").is_some() { 0 } else { number_of_cases() / 100 }
+}
+
+/// How many cases there are.
+fn number_of_cases() -> u64 {
+    setting("PEVGHAZO_CASES").unwrap_or(10_000)
+}
+
 /// Runs the cases of a test.
 pub fn cases(name: &'static str, mut one: impl FnMut(&mut Random)) {
     let seeds = match setting("PEVGHAZO_SEED") {
         Some(seed) => seed..seed + 1,
-        None => 1..setting("PEVGHAZO_CASES").unwrap_or(10_000) + 1,
+        None => 1..number_of_cases() + 1,
     };
     for seed in seeds {
         let _case = Case { name, seed };

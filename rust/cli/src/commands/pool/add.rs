@@ -1,17 +1,19 @@
 //! Adding issue lines.
 //!
-//! All lines are tried on a copy of the pool. The refused ones are listed as they are met, so that a long list takes no memory; then
-//! the copy takes the pool's place and is committed; and only then is it printed what was added.
+//! All lines are tried on a copy of the pool, and the refused ones are remembered. Then the copy takes the pool's place and is
+//! committed, and the state file is free for others; and only then is it printed which lines were refused and what was added. So
+//! whoever takes the output slowly, or not at all, keeps nobody waiting and takes nothing back.
 
-use std::io::Write;
+use std::io::{Read, Write};
 
-use pevghazo::{Pool, Refusal};
+use pevghazo::Pool;
 
 use crate::arguments::Arguments;
 use crate::failure::Failure;
 use crate::lines::Lines;
 use crate::output::{check_standard, print};
 use crate::progress::Progress;
+use crate::refused::{Reason, Refused};
 use crate::state_file::Used;
 
 /// What became of the lines.
@@ -19,10 +21,12 @@ use crate::state_file::Used;
 struct Tally {
     /// How many were read.
     lines: u64,
-    /// How many of them were refused.
-    refused: u64,
-    /// The first refusal, with the number of its line.
-    first: Option<(u64, Refusal)>,
+    /// Those of them that were refused.
+    refused: Refused,
+    /// How many were added.
+    added: u64,
+    /// How many rings these have.
+    rings: u64,
 }
 
 /// Adds the issue lines of an input: those that are accepted together, or none where one is refused and that is wanted.
@@ -30,46 +34,90 @@ pub fn add(arguments: &Arguments, out: &mut dyn Write) -> Result<(), Failure> {
     check_standard()?;
     let mut lines = Lines::open(arguments)?;
     let mut used = Used::<Pool>::open(arguments)?;
-    let mut pool = used.state.clone();
-    let tally = add_lines(&mut pool, &mut lines, out)?;
-    let (mut added, mut rings) = (0, 0);
-    if tally.refused == 0 || !arguments.has("all-or-none") {
-        (added, rings) = (tally.lines - tally.refused, pool.rings() - used.state.rings());
-        used.state = pool;
-        used.commit_if_altered()?;
-    }
+    let tally = add_lines(&mut used.state, &mut lines, arguments.has("all-or-none"))?;
+    commit(&mut used, tally.added)?;
     drop(used);
-    let done = format!("added {added} of {} lines, {rings} rings\n", tally.lines);
-    print(out, &done).map_err(|failure| if added == 0 { failure } else { Failure::Added(Box::new(failure)) })?;
-    let refused = |(line, refusal)| Err(Failure::Lines { refusal, line, refused: tally.refused, added });
-    tally.first.map_or(Ok(()), refused)
+    tally.print(out).map_err(|failure| added_all_the_same(failure, tally.added))?;
+    let Tally { refused, added, .. } = tally;
+    let failure = |(line, reason)| Err(Failure::Lines { reason, line, refused: refused.count, added });
+    refused.first().map_or(Ok(()), failure)
 }
 
-/// Tries all lines on a pool, and lists those that are refused.
-fn add_lines(pool: &mut Pool, lines: &mut Lines, out: &mut dyn Write) -> Result<Tally, Failure> {
-    let (mut tally, mut list, mut progress) = (Tally::default(), String::new(), Progress::new());
-    while let Some(line) = lines.next()? {
-        tally.lines += 1;
-        if let Err(refusal) = pool.add(line) {
-            tally.refused += 1;
-            tally.first.get_or_insert((tally.lines, refusal));
-            list.push_str(&refused(tally.lines, refusal));
-        }
-        if list.len() > AT_ONCE {
-            progress.clear();
-            print(out, &std::mem::take(&mut list))?;
-        }
-        progress.show(tally.lines, lines.read, lines.length);
+/// Tries all lines, and adds those that are accepted; or none where one is refused and all are wanted.
+fn add_lines<R: Read>(pool: &mut Pool, lines: &mut Lines<R>, all: bool) -> Result<Tally, Failure> {
+    let mut tried = pool.clone();
+    let mut tally = try_lines(&mut tried, lines)?;
+    if tally.refused.count == 0 || !all {
+        (tally.added, tally.rings) = (tally.lines - tally.refused.count, tried.rings() - pool.rings());
+        *pool = tried;
     }
-    progress.clear();
-    print(out, &list)?;
     Ok(tally)
 }
 
-/// How long a list of refused lines may be before it is printed.
-const AT_ONCE: usize = 1 << 13;
+/// Tries all lines on a pool.
+fn try_lines<R: Read>(pool: &mut Pool, lines: &mut Lines<R>) -> Result<Tally, Failure> {
+    let (mut tally, mut progress) = (Tally::default(), Progress::new());
+    while let Some(line) = lines.next()? {
+        tally.lines += 1;
+        if let Err(refusal) = pool.add(line) {
+            tally.refused.add(tally.lines, Reason::of(refusal, line));
+        }
+        progress.show(tally.lines, lines.read, lines.length);
+    }
+    Ok(tally)
+}
 
-/// What is listed of a refused line. It may hold any bytes, and is not shown.
-fn refused(line: u64, Refusal { number, .. }: Refusal) -> String {
-    format!("line {line}: number {}: {}\n", number.number(), number.sentence())
+/// Commits the pool if it was altered; and where `--restore` took an older copy, which is the newest after that.
+fn commit(used: &mut Used<Pool>, added: u64) -> Result<(), Failure> {
+    let committed = if used.is_older() { used.commit() } else { used.commit_if_altered() };
+    committed.map_err(|error| match error.is_committed() {
+        true => added_all_the_same(Failure::State(error), added),
+        false => Failure::NotAdded(error),
+    })
+}
+
+/// A failure after the commit.
+fn added_all_the_same(failure: Failure, added: u64) -> Failure {
+    if added == 0 { failure } else { Failure::Added(Box::new(failure)) }
+}
+
+impl Tally {
+    /// Lists the refused lines, and prints what was added.
+    fn print(&self, out: &mut dyn Write) -> Result<(), Failure> {
+        self.refused.list(out)?;
+        print(out, &format!("added {} of {} lines, {} rings\n", self.added, self.lines, self.rings))
+    }
+}
+
+#[cfg(test)]
+mod tests {
+    use std::io;
+    use std::path::Path;
+
+    use super::*;
+
+    /// Fails where a text ends.
+    struct Failing<'a>(&'a [u8]);
+
+    impl Read for Failing<'_> {
+        fn read(&mut self, buffer: &mut [u8]) -> io::Result<usize> {
+            if self.0.is_empty() { Err(io::Error::other("no more")) } else { self.0.read(buffer) }
+        }
+    }
+
+    /// Where the input cannot be read to its end, no line is added: the pool that would be committed is as it was.
+    #[test]
+    fn an_input_that_cannot_be_read_to_its_end() {
+        let mut pool = Pool::new();
+        pool.add(b"7,C,12001,12100,20250304\n").unwrap();
+        let before = pool.clone();
+        for text in ["7,D,1,5,20250304\n", "7,D,1,5,20250304\nnothing\n", "7,D,1,5,20250304\n7,D,6", ""] {
+            for all in [false, true] {
+                let mut lines = Lines::of(Path::new("lines"), Failing(text.as_bytes()), None);
+                let failure = add_lines(&mut pool, &mut lines, all).unwrap_err();
+                assert_eq!((failure.to_string().as_str(), failure.status()), ("Could not read lines: no more.", 4));
+                assert_eq!(pool, before);
+            }
+        }
+    }
 }

@@ -23,7 +23,7 @@ pub fn create(arguments: &Arguments) -> Result<(), Failure> {
 
 /// Says whether a ring is in the pool, and in which run.
 pub fn find(arguments: &Arguments, out: &mut dyn Write) -> Result<(), Failure> {
-    let size = read_size(arguments.operand("SIZE")?)?;
+    let size = read_size(arguments)?;
     let number = read_number(arguments.operand("NUMBER")?)?;
     let pool = Used::<Pool>::open(arguments)?.state;
     if !pool.holds(size, number) {
@@ -34,10 +34,15 @@ pub fn find(arguments: &Arguments, out: &mut dyn Write) -> Result<(), Failure> {
     print(out, &format!("pooled{run}\n"))
 }
 
-/// The size in a word that was typed.
-fn read_size(text: &str) -> Result<Size, Failure> {
-    text.parse().map_err(|bad: BadSize| Failure::Usage(format!("SIZE is {text:?}. {bad}")))
+/// The size in a word that was typed. Where it is none and no further word follows, the number may be in it.
+fn read_size(arguments: &Arguments) -> Result<Size, Failure> {
+    let text = arguments.operand("SIZE")?;
+    let apart = if arguments.operand("NUMBER").is_err() { APART } else { "" };
+    text.parse().map_err(|bad: BadSize| Failure::Usage(format!("SIZE is {text:?}. {bad}{apart}")))
 }
+
+/// How size and number are typed.
+const APART: &str = " The number follows as a word of its own, as in `pevghazo pool find C 12001`.";
 
 /// The number of a ring in a word that was typed.
 fn read_number(text: &str) -> Result<u32, Failure> {
