@@ -3,10 +3,10 @@
 The shapes, beside other parameters:
     fn f(s: &mut S, ..) -> R       { let r = core(*s, ..); *s = r.session; R of r's fields }
     fn f(s: &S, ..) -> R           { core(*s, ..) }
-R is a plain struct, and in these two a number or a bool as well.
     fn f(table: &mut [S], g: usize, ..) -> R
         { if test(table.len(), g) { return refusal(..); } let r = core(table[g], ..); table[g] = r.session; r.answer }
-`core` takes the record by value. `test` and `refusal` are small functions: of numbers, bools and plain structs.
+`core` takes the record by value. R is a plain struct, and in the first two a number or a bool as well. `test` and `refusal` are small functions: of
+numbers, bools and plain structs.
 
 Here are the configuration, `Lent`, and the terms that stand for the function's parameters; `lent_walk.py` has the walk itself, which follows
 the MIR, and `lent_file.py` the proof file around it.
@@ -47,7 +47,7 @@ class Lent:
     path: str                        # crate::name
     core: str                        # the function by value
     record: str                      # the path of S
-    result: str                      # the path of the struct that the core gives
+    result: str                      # the path of the struct that the core gives; where that is the answer, also 'bool', u8 .. usize
     session: Optional[tuple]         # its field that is the new record: (name, number); none where the record is only read
     answer: str                      # the path of R, or 'bool', u8 .. usize
     answer_field: Optional[tuple]    # R is this field of the core's result, (name, number) ..
