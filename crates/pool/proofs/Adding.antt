@@ -62,8 +62,8 @@ one-stop P r (added free l is few) (pooled y j k) = absurd (free y j k)
 one-stop P r (added free l is few) (too-many other all) = let no : ⊥ = omega (arith, all l is) in absurd no
 one-stop P r (added free l is few) (added other m also fewer) = refl
 
--- a number goes by which numbers are pooled alone
-holds-as : (P Q : (size x : ℕ) → Type 0) → ((size x : ℕ) → P size x ↔ Q size x) → (r : Run) (l : List Run) → HoldsWith Q r l → HoldsWith P r l
+-- what a list holds beside what is pooled, and so a number, goes by which numbers are pooled alone
+pub holds-as : (P Q : (size x : ℕ) → Type 0) → ((size x : ℕ) → P size x ↔ Q size x) → (r : Run) (l : List Run) → HoldsWith Q r l → HoldsWith P r l
 holds-as P Q same r l h size x = ((λ k. to (h size x .0 k)), (λ k. h size x .1 (from k)))
   where
     to : Q size x ⊎ In size x r → P size x ⊎ In size x r

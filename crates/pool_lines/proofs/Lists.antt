@@ -19,7 +19,7 @@ use Rattle.pool.specs.declared.Pool.{Pool}
 use Rattle.pool.specs.declared.Added.{Added}
 use Rattle.pool.specs.Pool.{runsOf, emptyPool, addRun}
 use Rattle.pool.specs.Good.{Good, InPool, HoldsWith}
-use Rattle.pool.proofs.Adding.{empty-runs, empty-good, add-exactly}
+use Rattle.pool.proofs.Adding.{empty-runs, empty-good, holds-as, add-exactly}
 use Rattle.pool_lines.specs.Lines.{runOf}
 use Rattle.pool_lines.specs.History.{Adding, Stops, after, accepted, Held, in-first, in-later, ringsOfLines, poolAfter, taken, HeldBy, ListPooled, Alike, SamePool}
 use Rattle.pool_lines.proofs.Steps.{line-valid}
@@ -182,17 +182,11 @@ module _
       module _ (bytes : List ℕ) where
         both-added : add p bytes .number ≡ 0 → (size x : ℕ) → InPool (add p bytes .pool) size x ↔ InPool (add q bytes .pool) size x
         both-added ok size x =
+            let run = runOf (readLine bytes) in
             let here-p = step-holds add takes p bytes (alike .left) ok size x in
-            let here-q = step-holds add takes q bytes (alike .right) (sym (one-number bytes) ∙ ok) size x in
-            ((λ h. here-q .1 (to (here-p .0 h))), (λ h. here-p .1 (from (here-q .0 h))))
-          where
-            to : InPool p size x ⊎ In size x (runOf (readLine bytes)) → InPool q size x ⊎ In size x (runOf (readLine bytes))
-            to (inl h) = inl (alike .same size x .0 h)
-            to (inr i) = inr i
-
-            from : InPool q size x ⊎ In size x (runOf (readLine bytes)) → InPool p size x ⊎ In size x (runOf (readLine bytes))
-            from (inl h) = inl (alike .same size x .1 h)
-            from (inr i) = inr i
+            let of-q = step-holds add takes q bytes (alike .right) (sym (one-number bytes) ∙ ok) in
+            let here-q = holds-as (InPool p) (InPool q) (alike .same) run (runsOf (add q bytes .pool)) of-q size x in
+            ((λ h. here-q .1 (here-p .0 h)), (λ h. here-p .1 (here-q .0 h)))
 
         still-same : (size x : ℕ) → InPool (add p bytes .pool) size x ↔ InPool (add q bytes .pool) size x
         still-same = go (eqb (add p bytes .number) 0) refl

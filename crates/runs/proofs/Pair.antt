@@ -15,6 +15,7 @@ use Rattle.runs.specs.Meaning.{Valid, In, Apart}
 abbrev pub Distinct : Run → Run → Type 0
 Distinct q r = q .size ≡ r .size → (q .last < r .first) ⊎ (r .last < q .first)
 
+-- which part of a disjunction holds, and that neither does
 pub or-cases : (a b : Bool) → a || b ≡ true → (a ≡ true) ⊎ (b ≡ true)
 or-cases true b e = inl refl
 or-cases false b e = inr e
@@ -23,6 +24,7 @@ pub or-neither : (a b : Bool) → a || b ≡ false → (a ≡ false) × (b ≡ f
 or-neither true b e = absurd (true≢false e)
 or-neither false b e = (refl, e)
 
+-- what it is to touch, and for runs of one size not to
 touches-ends : (q r : Run) → touches q r ≡ true → (q .size ≡ r .size) × ((q .last + 1 ≡ r .first) ⊎ (r .last + 1 ≡ q .first))
 unfolding touches
 touches-ends q r e =
@@ -45,6 +47,7 @@ unfolding touches
 touches-above q r e h = simp (eq-eqb (q .size) (r .size) e, ne-eqb (q .last + 1) (r .first) h)
 
 module _ (q r : Run) where
+  -- what it is to meet, and not to
   pub meets-true : meets q r ≡ true → (q .size ≡ r .size) × (q .first ≤ r .last) × (r .first ≤ q .last)
   unfolding meets
   meets-true e =
