@@ -7,9 +7,10 @@ use mathlib.Core.Path.{_≡_}
 use Prim.Native.Nat.{ℕ, _+_}
 use lib.ListN.{length, drop, replicate}
 use Rattle.modes.specs.Call.{CallInput}
+use Rattle.modes.specs.Header.{FollowsLayout}
 use Rattle.modes.specs.Mode.{HistoryRep, Mode}
 use Rattle.modes.specs.Rules.{SessionState, Outcome, growth, metadataString, unwrapSteps}
-use Rattle.modes.specs.Exactly.{NoneBefore11, Exactly5to9, Check11}
+use Rattle.modes.specs.Exactly.{NoneBefore11, Exactly1to9, Check11}
 
 module _ (m : Mode) {S : Type 0} (d : HistoryRep S) (s : SessionState S) (i : CallInput) where
   -- the session is not open
@@ -20,9 +21,9 @@ module _ (m : Mode) {S : Type 0} (d : HistoryRep S) (s : SessionState S) (i : Ca
   abbrev pub indexAfter : ℕ
   indexAfter = d .index (s .history) + growth (length (metadataString i)) (length (i .text))
 
-  -- the call meets none of the checks 5 to 9
+  -- the call meets none of the checks 1 and 5 to 9
   abbrev pub Unchecked : Type 0
-  Unchecked = NoneBefore11 NotOpen (m .parameters .tagLength) indexAfter i
+  Unchecked = NoneBefore11 (m .parameters .letter) NotOpen (m .parameters .tagLength) indexAfter i
 
   -- the tag that the steps of unwrap find over what the session holds
   abbrev pub tagFound : List ℕ
@@ -38,16 +39,18 @@ module _ (m : Mode) {S : Type 0} (d : HistoryRep S) (s : SessionState S) (i : Ca
 
   -- what is claimed of the outcome o of a wrap
   pub record AnyWrap (o : Outcome S) : Type 0 where
-    pub numbers : Exactly5to9 NotOpen (m .parameters .tagLength) indexAfter i (o .number)
+    pub numbers : Exactly1to9 (m .parameters .letter) NotOpen (m .parameters .tagLength) indexAfter i (o .number)
     pub accepted : (o .number ≡ 0) ↔ Unchecked
     pub count : o .number ≡ 0 → o .count ≡ countDue
     pub refused : o .number ≢ 0 → o ≡ unaltered (o .number)
-    -- a session that is not open: 5
-    pub not-open : NotOpen → o ≡ unaltered 5
+    -- a header that does not fit, open or not: 1
+    pub bad-header : (FollowsLayout (m .parameters .letter) i → ⊥) → o ≡ unaltered 1
+    -- a session that is not open, with a header that fits or none: 5
+    pub not-open : NotOpen → FollowsLayout (m .parameters .letter) i → o ≡ unaltered 5
 
   -- and of an unwrap
   pub record AnyUnwrap (o : Outcome S) : Type 0 where
-    pub numbers : Exactly5to9 NotOpen (m .parameters .tagLength) indexAfter i (o .number)
+    pub numbers : Exactly1to9 (m .parameters .letter) NotOpen (m .parameters .tagLength) indexAfter i (o .number)
     pub eleven : (o .number ≡ 11) ↔ (Unchecked × Check11 tagFound i)
     pub accepted : (o .number ≡ 0) ↔ (Unchecked × (i .tag ≡ tagFound))
     pub count : o .number ≡ 0 → o .count ≡ countDue
@@ -62,6 +65,7 @@ module _ (m : Mode) {S : Type 0} (d : HistoryRep S) (s : SessionState S) (i : Ca
           out = replicate (length (i .text)) 0 ++ drop (length (i .text)) (i .out);
           tag = i .tag;
         }
-    pub not-open : NotOpen → o ≡ unaltered 5
+    pub bad-header : (FollowsLayout (m .parameters .letter) i → ⊥) → o ≡ unaltered 1
+    pub not-open : NotOpen → FollowsLayout (m .parameters .letter) i → o ≡ unaltered 5
     -- the tag handed in is read only
     pub tag : o .tag ≡ i .tag

@@ -1,11 +1,22 @@
--- What a call is handed beside the session, and the calls of a list at the two ends (document 01, "The two ends of demand 3"). Assumes
--- nothing.
-use mathlib.Core.List.{List}
+-- What a call is handed beside the session, and the calls of a list at the two ends (document 01, "The two ends of demand 3"; the header:
+-- document 02, request 7). Assumes nothing.
+use mathlib.Core.List.{List, []}
 use Prim.Native.Nat.{ℕ}
 
--- what wrap or unwrap is handed: the metadata A; the text, which is the message M for wrap and the cryptogram for unwrap; the output
+-- the header that a call is handed: none, where it is for no envelope, or the bytes of the header of the envelope that it is for
+pub data CallHeader : Type 0 where
+  bare : CallHeader
+  under : List ℕ → CallHeader
+
+-- its bytes
+abbrev pub headerBytes : CallHeader → List ℕ
+headerBytes bare = []
+headerBytes (under x) = x
+
+-- what wrap or unwrap is handed: the header; the metadata; the text, which is the message M for wrap and the cryptogram for unwrap; the output
 -- buffer; and the tag buffer for wrap, the tag that arrived for unwrap
 pub record CallInput : Type 0 where
+  pub header : CallHeader
   pub metadata : List ℕ
   pub text : List ℕ
   pub out : List ℕ

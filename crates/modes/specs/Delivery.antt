@@ -18,9 +18,9 @@ pub record Sent : Type 0 where
   pub cryptogram : List ℕ
   pub tag : List ℕ
 
--- what is handed to unwrap where this arrives, into an output buffer: its metadata, the cryptogram and the tag
+-- what is handed to unwrap where this arrives, into an output buffer: the header of the wrap or none, its metadata, the cryptogram and the tag
 abbrev pub delivery : Sent → (out : List ℕ) → CallInput
-delivery w out = record { metadata = w .input .metadata; text = w .cryptogram; out = out; tag = w .tag }
+delivery w out = record { header = w .input .header; metadata = w .input .metadata; text = w .cryptogram; out = out; tag = w .tag }
 
 -- what a wrap at an end gave, with these ledgers
 abbrev pub sentBy : PaperMode → Side → CallInput → Ledgers → Sent
@@ -34,8 +34,8 @@ pub data InFlight : Type 0 where
 -- ---- lists in which each message is delivered
 
 -- `Delivers m t cs p`: with t on its way and the ledgers p, in the list cs what each accepted wrap gave is handed to unwrap at the other
--- end, with its metadata and into a buffer that holds it, before the next accepted wrap or the end of the list; and every other arrival, a
--- repeat included, meets a check before number 11 or carries a tag different from the one that the algorithm finds for it there
+-- end, with its header or none, with its metadata and into a buffer that holds it, before the next accepted wrap or the end of the list; and
+-- every other arrival, a repeat included, meets a check before number 11 or carries a tag different from the one that the algorithm finds for it there
 pub data Delivers (m : PaperMode) : InFlight → List Call → Ledgers → Type 0 where
   finished : {p : Ledgers} → Delivers m nothing [] p
   wrap-refused : {t : InFlight} {x : Side} {i : CallInput} {cs : List Call} {p : Ledgers}

@@ -9,7 +9,8 @@ use Prim.Native.Nat.{ℕ, _≤_}
 use lib.ListN.{length}
 use Rattle.deck.specs.declared.DeckState.{DeckState}
 use Rattle.deck.specs.Strings.{Str}
-use Rattle.modes.specs.Call.{CallInput, Side, office, group, Call, wrap, unwrap}
+use Rattle.modes.specs.Call.{bare, CallInput, Side, office, group, Call, wrap, unwrap}
+use Rattle.modes.specs.Header.{FollowsLayout}
 use Rattle.modes.specs.Mode.{Mode, incremental}
 use Rattle.modes.specs.Rules.{SessionState, wrapAt}
 use Rattle.modes.specs.Ledger.{PaperMode, unwrapFinds, ledgerWrap, freshLedger}
@@ -18,6 +19,7 @@ use Rattle.modes.specs.Delivery.{Sent, delivery, sentBy, nothing, Delive
 
 -- what a wrap is handed is within the limits
 pub record InLimits (m : PaperMode) (i : CallInput) : Type 0 where
+  pub header : FollowsLayout (m .letter) i
   pub metadata : length (i .metadata) ≤ 16384
   pub text : length (i .text) ≤ 16384
   pub tag : length (i .tag) ≡ m .tagLength
@@ -32,7 +34,7 @@ pub record FreshAccepts (m : PaperMode) (r : Mode) (key : List ℕ) (opening : L
 
 -- a call that is refused at every ledger: its tag has no bytes
 abbrev pub noTag : CallInput
-noTag = record { metadata = []; text = []; out = []; tag = [] }
+noTag = record { header = bare; metadata = []; text = []; out = []; tag = [] }
 
 module _ (m : PaperMode) (key : List ℕ) (opening : List Str) where
   -- the office wraps i, an arrival without a tag reaches the group, and then what that wrap gave
@@ -100,7 +102,7 @@ module _ (m : PaperMode) (key : List ℕ) (opening : List Str) (i j : CallInput)
   abbrev pub otherTag : CallInput
   otherTag =
       let w : Sent = sentBy m office j (afterThere m key opening i out) in
-      record { metadata = w .input .metadata; text = w .cryptogram; out = out′; tag = t }
+      record { header = w .input .header; metadata = w .input .metadata; text = w .cryptogram; out = out′; tag = t }
 
   -- the first message again
   abbrev pub repeated : CallInput

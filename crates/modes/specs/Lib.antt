@@ -1,5 +1,6 @@
 -- The definitions that the contracts and the theorems cite.
 pub mod Call
+pub mod Header
 pub mod Mode
 pub mod Rules
 pub mod Paper

@@ -9,6 +9,7 @@ use Rattle.deck.specs.declared.DeckState.{DeckState}
 use Rattle.deck.specs.Strings.{Str, b, framed}
 use Rattle.deck.specs.Deck.{run, deck, indexOf}
 use Rattle.deck.specs.Incremental.{append, output}
+use Rattle.envelope.specs.Layout.{letterS, letterN}
 
 -- ---- histories
 
@@ -28,9 +29,11 @@ incremental = record { append = append; keystream = output; index = λ d. d .ind
 
 -- ---- modes
 
--- what modes of the same steps differ in: the frame bits after A, after the text that enters the history, and after a tag that does, each
--- at e; the tag's length in bytes; the output byte from which keystream is taken; the counts, by the lengths of A and M; and how e changes
+-- what modes of the same steps differ in: the letter of their envelopes; the frame bits after A, after the text that enters the history, and
+-- after a tag that does, each at e; the tag's length in bytes; the output byte from which keystream is taken; the counts, by the lengths of A and
+-- M; and how e changes
 pub record Parameters : Type 0 where
+  pub letter : ℕ
   pub frameA : Bool → List Bool
   pub frameM : Bool → List Bool
   pub frameT : Bool → List Bool
@@ -138,6 +141,7 @@ sanseCount a (suc m) = blocksOfA a + b (suc m) + 4 + ceiling48 (suc m)
 abbrev pub sanseParameters : Parameters
 sanseParameters =
     record {
+      letter = letterS;
       frameA = λ e. false ∷ e ∷ [];
       frameM = λ e. false ∷ true ∷ e ∷ [];
       frameT = λ e. true ∷ true ∷ e ∷ [];
@@ -164,6 +168,7 @@ saneCount a (suc m) = blocksOfA a + b (suc m) + 3 + ceiling48 (suc m + 16)
 abbrev pub saneParameters : Parameters
 saneParameters =
     record {
+      letter = letterN;
       frameA = λ e. false ∷ e ∷ [];
       frameM = λ e. true ∷ e ∷ [];
       frameT = λ e. [];

@@ -1,9 +1,9 @@
 -- Demands 1 and 2, one call, for any mode m of the papers: for every key, history and e, the session that this history gives, wrapped or
--- unwrapped, gives what the mode's algorithm as printed gives over the whole history, and the session of the longer history; every other call
--- is refused and alters nothing. First what the words mean, then the two claims. Assumes nothing.
+-- unwrapped, gives what the mode's algorithm as printed gives over the whole history, with the header's bytes and the metadata as A, and the
+-- session of the longer history; every other call is refused and alters nothing. First what the words mean, then the two claims. Assumes nothing.
 use mathlib.Core.Bool.{Bool, true}
 use mathlib.Core.List.{List, _++_}
-use mathlib.Core.Logic.{_≢_}
+use mathlib.Core.Logic.{_≢_, _⊎_}
 use mathlib.Core.Path.{_≡_}
 use Prim.Native.Nat.{ℕ, _≤_}
 use lib.ListN.{length, drop, replicate}
@@ -11,8 +11,9 @@ use Rattle.deck.specs.declared.DeckState.{DeckState}
 use Rattle.deck.specs.Strings.{Str}
 use Rattle.deck.specs.Deck.{keyMask, maskAt, accumulator, indexOf}
 use Rattle.modes.specs.Call.{CallInput}
+use Rattle.modes.specs.Header.{FollowsLayout}
 use Rattle.modes.specs.Paper.{PaperResult}
-use Rattle.modes.specs.Ledger.{PaperMode}
+use Rattle.modes.specs.Ledger.{PaperMode, stringA}
 use Rattle.modes.specs.Rules.{SessionState, Outcome}
 
 -- ---- the words
@@ -30,9 +31,9 @@ sessionOf key h e =
 abbrev pub startsWith : List ℕ → (buffer : List ℕ) → List ℕ
 startsWith x buffer = x ++ drop (length x) buffer
 
--- a call outside the limits: refused by a number from 6 to 9 with count 0, and nothing is altered
+-- a call outside the limits: refused by 1, or by a number from 6 to 9, with count 0, and nothing is altered
 pub record Refused (s : SessionState DeckState) (i : CallInput) (o : Outcome DeckState) : Type 0 where
-  pub number : (6 ≤ o .number) × (o .number ≤ 9)
+  pub number : (o .number ≡ 1) ⊎ ((6 ≤ o .number) × (o .number ≤ 9))
   pub count : o .count ≡ 0
   pub out : o .out ≡ i .out
   pub tag : o .tag ≡ i .tag
@@ -41,6 +42,7 @@ pub record Refused (s : SessionState DeckState) (i : CallInput) (o : Outcome Dec
 module _ (m : PaperMode) where
   -- a call within the limits: what it is handed, and the index after the history that it would leave
   pub record Within (i : CallInput) (after : List Str) : Type 0 where
+    pub header : FollowsLayout (m .letter) i
     pub metadata : length (i .metadata) ≤ 16384
     pub text : length (i .text) ≤ 16384
     pub tag : length (i .tag) ≡ m .tagLength
@@ -49,11 +51,11 @@ module _ (m : PaperMode) where
 
   -- where the algorithm arrives for what a wrap is handed
   abbrev pub wrapArrives : (key : List ℕ) → List Str → Bool → CallInput → PaperResult
-  wrapArrives key h e i = m .wraps key h e (i .metadata) (i .text)
+  wrapArrives key h e i = m .wraps key h e (stringA i) (i .text)
 
   -- and for what an unwrap is handed
   abbrev pub unwrapArrives : (key : List ℕ) → List Str → Bool → CallInput → PaperResult
-  unwrapArrives key h e i = m .unwraps key h e (i .metadata) (i .text) (i .tag)
+  unwrapArrives key h e i = m .unwraps key h e (stringA i) (i .text) (i .tag)
 
   -- ---- the claims, of the outcome o of one call
 
@@ -62,7 +64,7 @@ module _ (m : PaperMode) where
     -- it meets no check
     pub number : o .number ≡ 0
     -- the mode's count
-    pub count : o .count ≡ m .count (length (i .metadata)) (length (i .text))
+    pub count : o .count ≡ m .count (length (stringA i)) (length (i .text))
     -- the cryptogram, or the message, stands at the output buffer's start; the bytes beyond it are kept
     pub out : o .out ≡ startsWith (r .text) (i .out)
     -- the tag: what a wrap gives is the algorithm's; the tag handed to an unwrap is not altered, and equals the algorithm's
@@ -74,7 +76,7 @@ module _ (m : PaperMode) where
   pub record WrongTag (s : SessionState DeckState) (i : CallInput) (o : Outcome DeckState) : Type 0 where
     pub number : o .number ≡ 11
     -- a wrong tag costs the same
-    pub count : o .count ≡ m .count (length (i .metadata)) (length (i .text))
+    pub count : o .count ≡ m .count (length (stringA i)) (length (i .text))
     -- no byte of a message is handed out: as many zeros as it has, and the bytes beyond them are kept
     pub out : o .out ≡ startsWith (replicate (length (i .text)) 0) (i .out)
     pub tag : o .tag ≡ i .tag

@@ -1,5 +1,5 @@
 -- What stops a call, and what each call gives and leaves, refused ones included (document 01, "Counts and limits" and "What stops a call";
--- document 02, request 2): for any mode, any way to hold a history and any session. The contracts cite these. Assumes nothing.
+-- document 02, requests 2 and 7): for any mode, any way to hold a history and any session. The contracts cite these. Assumes nothing.
 use mathlib.Core.Bool.{Bool, true, false, not, _||_, _&&_, cond}
 use mathlib.Core.List.{List, [], _∷_, _++_}
 use Prim.Native.Nat.{ℕ, zero, suc, _+_}
@@ -9,7 +9,8 @@ use Rattle.deck.specs.declared.DeckState.{DeckState}
 use Rattle.deck.specs.Strings.{b, framed}
 use Rattle.state.specs.State.{zeros}
 use Rattle.deck.specs.Deck.{keyMask}
-use Rattle.modes.specs.Call.{CallInput}
+use Rattle.modes.specs.Call.{headerBytes, CallInput}
+use Rattle.modes.specs.Header.{headerFits}
 use Rattle.modes.specs.Mode.{HistoryRep, incremental, Parameters, StepResult, Mode, tagOf}
 
 -- ---- limits
@@ -44,9 +45,9 @@ pub record Outcome (S : Type 0) : Type 0 where
   pub out : List ℕ
   pub tag : List ℕ
 
--- the string of A that enters the history, from what a call is handed
+-- the string of A that enters the history, from what a call is handed: the header's bytes, if there is one, and then the metadata
 unfoldable pub metadataString : CallInput → List ℕ
-metadataString i = i .metadata
+metadataString i = headerBytes (i .header) ++ i .metadata
 
 -- bytes at the start of a buffer, the rest kept
 abbrev pub written : List ℕ → List ℕ → List ℕ
@@ -59,10 +60,10 @@ sameBytes [] (y ∷ t) = false
 sameBytes (x ∷ s) [] = false
 sameBytes (x ∷ s) (y ∷ t) = eqb x y && sameBytes s t
 
--- ---- checks 5 to 9
+-- ---- checks 1 and 5 to 9
 
--- the first that is met, or 0: by whether the session is open, the index after the call, the mode's tag length l, and the lengths of A, of
--- the text, of the tag and of the output buffer
+-- the first of 5 to 9 that is met, or 0: by whether the session is open, the index after the call, the mode's tag length l, and the lengths of
+-- the metadata, of the text, of the tag and of the output buffer
 abbrev pub firstCheck : (isOpen : Bool) (index l a n t o : ℕ) → ℕ
 firstCheck isOpen index l a n t o =
     cond (not isOpen) 5
@@ -83,10 +84,14 @@ module _ {S : Type 0} where
 
 module _ (m : Mode) {S : Type 0} (d : HistoryRep S) where
   -- the first of the checks 5 to 9 that a call meets, or 0
-  unfoldable pub checkNumber : SessionState S → CallInput → ℕ
-  checkNumber s i =
+  unfoldable pub checkFrom5 : SessionState S → CallInput → ℕ
+  checkFrom5 s i =
       firstCheck (s .opened) (d .index (s .history) + growth (length (metadataString i)) (length (i .text))) (m .parameters .tagLength)
       (length (i .metadata)) (length (i .text)) (length (i .tag)) (length (i .out))
+
+  -- the first of the checks 1 and 5 to 9 that a call meets, or 0
+  unfoldable pub checkNumber : SessionState S → CallInput → ℕ
+  checkNumber s i = cond (headerFits (m .parameters .letter) (i .header) (length (i .metadata)) (length (i .text))) (checkFrom5 s i) 1
 
   -- the call's count, a wrong tag's too
   abbrev pub countOf : CallInput → ℕ
@@ -119,6 +124,13 @@ module _ (m : Mode) {S : Type 0} (d : HistoryRep S) where
   -- check 11
   abbrev pub compareTag : SessionState S → CallInput → StepResult S → Outcome S
   compareTag s i r = cond (sameBytes (i .tag) (r .tag)) (accepted s i r (i .tag)) (wrongTag s i)
+
+  -- wrap and unwrap where check 1 is not met, of any session
+  unfoldable pub wrapFrom5 : SessionState S → CallInput → Outcome S
+  wrapFrom5 s i = ifNoCheck (checkFrom5 s i) s i (accepted s i (wrapSteps s i) (wrapSteps s i .tag))
+
+  unfoldable pub unwrapFrom5 : SessionState S → CallInput → Outcome S
+  unwrapFrom5 s i = ifNoCheck (checkFrom5 s i) s i (compareTag s i (unwrapSteps s i))
 
   -- wrap, of any session
   unfoldable pub wrapAt : SessionState S → CallInput → Outcome S
