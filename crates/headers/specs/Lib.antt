@@ -1,0 +1,2 @@
+-- What the contracts of the crate `headers` cite.
+pub mod Fits
