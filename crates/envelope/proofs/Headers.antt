@@ -6,13 +6,14 @@ use mathlib.Core.Bool.{Bool, true, false, cond}
 use mathlib.Core.List.{List, [], _∷_, _++_}
 use native.Mathlib.Omega.{arith}
 use lib.ListN.{length, drop, getD}
+use lib.Seq.{drop-at}
 use lib.Dec.{eqb, lit<}
 use borrow.Author.Tests.{ne-eqb, eqb-true, eqb-false}
 use Rattle.decimal.specs.Decimal.{decimal, digitOf, readDecimal, Spelled}
 use Rattle.decimal.specs.declared.Number.{Number}
 use Rattle.decimal.proofs.Laws.{after-number}
 use Rattle.decimal.proofs.Reading.{read-sound, read-complete}
-use Rattle.envelope.specs.Layout.{comma, maxGroup, maxLength, tagLength, header, Begins}
+use Rattle.envelope.specs.Layout.{comma, maxGroup, maxLength, tagLength, header, InRange, Begins}
 use Rattle.envelope.specs.Read.{noHeader, aHeader, headerM, headerA, headerG, readHeader}
 use Rattle.envelope.specs.declared.Header.{Header}
 use Rattle.envelope.proofs.Layouts.{header-length, header-then}
@@ -140,3 +141,26 @@ header-refused s = (
         → (readHeader s .number ≡ 0) ⊎ (readHeader s ≡ noHeader) → readHeader s .number ≡ 1
     go none (inl e) = absurd (none _ _ _ _ _ (header-sound s e .0))
     go none (inr e) = ap (λ (x : Header). x .number) e
+
+-- A header shows what it is of: where two headers in range, and what follows them, are the same bytes, letter, group and lengths are the same, and so
+-- is what follows.
+pub header-then-injective : {l g a m l′ g′ a′ m′ : ℕ} (s s′ : List ℕ) → InRange l g a m → InRange l′ g′ a′ m′
+    → header l g a m ++ s ≡ header l′ g′ a′ m′ ++ s′ → (l ≡ l′) × (g ≡ g′) × (a ≡ a′) × (m ≡ m′) × (s ≡ s′)
+header-then-injective {l} {g} {a} {m} {l′} {g′} {a′} {m′} s s′ r r′ e =
+    let same : aHeader l g a m (length (header l g a m)) ≡ aHeader l′ g′ a′ m′ (length (header l′ g′ a′ m′)) =
+    sym (header-complete (header l g a m ++ s) l g a m s (record { in-range = r; bytes = refl }))
+    ∙ header-complete (header l g a m ++ s) l′ g′ a′ m′ s′ (record { in-range = r′; bytes = e }) in
+    let place : length (header l g a m) ≡ length (header l′ g′ a′ m′) = ap (λ (h : Header). h .place) same in (
+      ap (λ (h : Header). h .letter) same,
+      ap (λ (h : Header). h .group) same,
+      ap (λ (h : Header). h .alen) same,
+      ap (λ (h : Header). h .mlen) same,
+      sym (drop-at (header l g a m) s _ refl) ∙ ap (drop (length (header l g a m))) e ∙ drop-at (header l′ g′ a′ m′) s′ _ (sym place),
+    )
+
+-- So two headers in range that are the same bytes have one letter, one group and the same lengths.
+pub header-injective : {l g a m l′ g′ a′ m′ : ℕ} → InRange l g a m → InRange l′ g′ a′ m′ → header l g a m ≡ header l′ g′ a′ m′
+    → (l ≡ l′) × (g ≡ g′) × (a ≡ a′) × (m ≡ m′)
+header-injective r r′ e =
+    let all = header-then-injective [] [] r r′ (ap (λ (x : List ℕ). x ++ []) e) in
+    (all .0, all .1, all .2, all .3)

@@ -82,7 +82,10 @@ readEnvelope s = answerOf (readParts s)
 abbrev pub between : ℕ → ℕ → List ℕ → List ℕ
 between i j s = take (j - i) (drop i s)
 
--- the three parts
+-- the header's bytes, and the three parts behind them (document 02, request 7, has the header handed over too)
+unfoldable pub headerPart : List ℕ → List ℕ
+headerPart s = between 0 (readParts s .metadata) s
+
 unfoldable pub metadataPart : List ℕ → List ℕ
 metadataPart s = between (readParts s .metadata) (readParts s .cryptogram) s
 

@@ -4,7 +4,7 @@
 use decimal::read_decimal;
 ghost use mathlib.Core.Path.{_≡_};
 ghost use Rattle.envelope.specs.Layout.{tagLength};
-ghost use Rattle.envelope.specs.Read.{noHeader, readHeader, noParts, readParts, readEnvelope, metadataPart, cryptogramPart, tagPart};
+ghost use Rattle.envelope.specs.Read.{noHeader, readHeader, noParts, readParts, readEnvelope, headerPart, metadataPart, cryptogramPart, tagPart};
 
 // The largest group, and the most bytes that metadata and message have.
 pub const MAX_GROUP: u32 = 31;
@@ -163,6 +163,16 @@ pub fn read_envelope(s: &[u8]) -> Envelope
         group: p.group,
         place: p.place,
     }
+}
+
+// The header's bytes of the envelope at the start of some bytes, as a part of these; empty where it is refused.
+pub fn header_bytes(s: &[u8]) -> &[u8]
+    ensures { λ r. ⌜ now r ≡ headerPart (now (s .entry)) ⌝ }
+{
+    let p = read_parts(s);
+    let start = 0;
+    let end = p.metadata;
+    &s[start..end]
 }
 
 // The metadata of the envelope at the start of some bytes, as a part of these; empty where it is refused.

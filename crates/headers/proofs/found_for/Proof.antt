@@ -1,6 +1,8 @@
 -- `headers::found_for` meets its contract: at each return the tests that led there say what `foundFor` comes to. Assumes nothing.
+use mathlib.Core.Path.{sym}
 use borrow.Author.Tests.{eq-eqb, ne-eqb}
 use Rattle.headers.specs.Fits.{foundFor}
+use Rattle.headers.proofs.Steps.{to-place}
 use Rattle.headers.proofs.found_for.Statement.{statement}
 use Rattle.headers.proofs.found_for.Tie as tie
 
@@ -27,14 +29,9 @@ returns-4 c =
     )
 
 returns-5 : tie.Need-returns-5
-unfolding foundFor
 returns-5 c =
-    simp (
-      eq-eqb _ _ (c .before .before .before .before .before .before .before .if1 .left),
-      eq-eqb _ _ (c .before .before .before .before .before .if2 .left),
-      eq-eqb _ _ (c .before .before .before .if3 .left),
-      eq-eqb _ _ (c .before .if4 .left),
-    )
+    sym (to-place _ _ _ _ _ (c .before .before .before .before .before .before .before .if1 .left) (c .before .before .before .before .before .if2 .left)
+    (c .before .before .before .if3 .left) (c .before .if4 .left))
 
 pub found-for-spec : {M : Type 1} → statement M
 found-for-spec = tie.close (tie.spec returns returns-2 returns-3 returns-4 returns-5)
