@@ -10,7 +10,7 @@ use lib.Dec.{eqb}
 use borrow.Author.Tests.{eqb-true}
 use Rattle.decimal.specs.Decimal.{decimal, decimalWithin}
 use Rattle.decimal.proofs.Laws.{decimal-within}
-use Rattle.envelope.specs.Layout.{letterS, letterN, comma, tagLength, field, header, envelope, InRange}
+use Rattle.envelope.specs.Layout.{letterS, letterN, comma, tagLength, Known, field, header, envelope, InRange}
 
 pub field-length : (n : ℕ) → length (field n) ≡ length (decimal n) + 1
 unfolding field
@@ -46,6 +46,13 @@ tag-of-S = refl
 pub tag-of-N : tagLength letterN ≡ 16
 unfolding tagLength
 tag-of-N = refl
+
+-- so both are letters of an envelope
+pub known-S : Known letterS
+known-S z = omega (arith, tag-of-S)
+
+pub known-N : Known letterN
+known-N z = omega (arith, tag-of-N)
 
 -- a byte is S, or N, or has no tag
 abbrev LetterCases : ℕ → Type 0

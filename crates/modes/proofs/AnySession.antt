@@ -7,37 +7,49 @@ use Prim.Native.Nat.{ℕ, zero, suc, _+_}
 use native.Mathlib.Omega.{arith}
 use lib.ListN.{length, drop, replicate, length-replicate}
 use Rattle.modes.specs.Call.{CallInput}
+use Rattle.modes.specs.Header.{FollowsLayout, headerFits}
 use Rattle.modes.specs.Mode.{HistoryRep, Mode}
-use Rattle.modes.specs.Rules.{SessionState, Outcome, metadataString, sameBytes, firstCheck, ifNoCheck, checkNumber, wrapSteps, unwrapSteps, accepted, wrongTag, compareTag, wrapAt, unwrapAt}
+use Rattle.modes.specs.Rules.{SessionState, Outcome, metadataString, sameBytes, firstCheck, ifNoCheck, checkFrom5, checkNumber, wrapSteps, unwrapSteps, accepted, wrongTag, compareTag, wrapAt, unwrapAt}
 use Rattle.modes.specs.Ledger.{equalTags}
 use Rattle.modes.specs.AnySession.{NotOpen, indexAfter, unaltered, AnyWrap, AnyUnwrap}
 use Rattle.modes.proofs.Entries.{equalTags-is, equalTags-refl, equalTags-true, equalTags-false}
+use Rattle.modes.proofs.Header.{fits-follows, fits-not}
 use Rattle.modes.proofs.Exactly.{First, orElse, first-check, met-none, by-first, by-tag}
 
 module _ (m : Mode) {S : Type 0} (d : HistoryRep S) (s : SessionState S) (i : CallInput) where
-  -- the first check, by whether the session is open
-  abbrev checkIf : Bool → ℕ
-  checkIf q = firstCheck q (indexAfter m d s i) (m .parameters .tagLength) (length (i .metadata)) (length (i .text)) (length (i .tag)) (length (i .out))
+  abbrev letter : ℕ
+  letter = m .parameters .letter
 
-  check-first : First (NotOpen m d s i) (m .parameters .tagLength) (indexAfter m d s i) i (checkNumber m d s i)
-  unfolding checkNumber
-  check-first = first-check (NotOpen m d s i) (m .parameters .tagLength) (indexAfter m d s i) i (s .opened) (λ h. h) opened
+  -- the first check, by whether the header fits and whether the session is open
+  abbrev checkIf : (fits opened : Bool) → ℕ
+  checkIf f q =
+      cond f (firstCheck q (indexAfter m d s i) (m .parameters .tagLength) (length (i .metadata)) (length (i .text)) (length (i .tag)) (length (i .out))) 1
+
+  check-first : First letter (NotOpen m d s i) (m .parameters .tagLength) (indexAfter m d s i) i (checkNumber m d s i)
+  unfolding checkNumber checkFrom5
+  check-first = go (headerFits letter (i .header) (length (i .metadata)) (length (i .text))) refl
     where
       opened : s .opened ≡ true → NotOpen m d s i → ⊥
       opened h g = true≢false (sym h ∙ g)
 
+      go : (f : Bool) → headerFits letter (i .header) (length (i .metadata)) (length (i .text)) ≡ f
+          → First letter (NotOpen m d s i) (m .parameters .tagLength) (indexAfter m d s i) i (checkIf f (s .opened))
+      go true e = first-check letter (NotOpen m d s i) (m .parameters .tagLength) (indexAfter m d s i) i (fits-follows letter i .0 e) (s .opened) (λ h. h) opened
+      go false e = First.is1 (fits-not letter i .0 e)
+
   pub any-wrap : AnyWrap m d s i (wrapAt m d s i)
-  unfolding wrapAt checkNumber
+  unfolding wrapAt checkNumber checkFrom5
   any-wrap =
       let z =
-      by-first (NotOpen m d s i) (m .parameters .tagLength) (indexAfter m d s i) i (checkNumber m d s i) (wrapAt m d s i .number) check-first
+      by-first letter (NotOpen m d s i) (m .parameters .tagLength) (indexAfter m d s i) i (checkNumber m d s i) (wrapAt m d s i .number) check-first
       (number (checkNumber m d s i)) in
       record {
         numbers = z .0;
         accepted = z .1;
         count = count (checkNumber m d s i);
         refused = refused (checkNumber m d s i);
-        not-open = λ h. ap (λ (q : Bool). ifNoCheck (checkIf q) s i done) h;
+        bad-header = λ h. ap (λ (f : Bool). ifNoCheck (checkIf f (s .opened)) s i done) (fits-not letter i .1 h);
+        not-open = λ h f. ap₂ (λ (f q : Bool). ifNoCheck (checkIf f q) s i done) (fits-follows letter i .1 f) h;
       }
     where
       done : Outcome S
@@ -56,10 +68,10 @@ module _ (m : Mode) {S : Type 0} (d : HistoryRep S) (s : SessionState S) (i : Ca
       refused (suc k) h = refl
 
   pub any-unwrap : AnyUnwrap m d s i (unwrapAt m d s i)
-  unfolding unwrapAt checkNumber
+  unfolding unwrapAt checkNumber checkFrom5
   any-unwrap =
       let z =
-      by-tag (NotOpen m d s i) (m .parameters .tagLength) (indexAfter m d s i) i found (checkNumber m d s i) (unwrapAt m d s i .number) same check-first
+      by-tag letter (NotOpen m d s i) (m .parameters .tagLength) (indexAfter m d s i) i found (checkNumber m d s i) (unwrapAt m d s i .number) same check-first
       (λ h. equalTags-true (i .tag) found (sym (equalTags-is (i .tag) found) ∙ h)) differ (number (checkNumber m d s i) same) in
       record {
         numbers = z .0;
@@ -69,9 +81,10 @@ module _ (m : Mode) {S : Type 0} (d : HistoryRep S) (s : SessionState S) (i : Ca
         refused = refused (checkNumber m d s i) same;
         wrong-tag = λ h.
             let w = z .1 .0 h in
-            wrong (met-none (NotOpen m d s i) (m .parameters .tagLength) (indexAfter m d s i) i (checkNumber m d s i) check-first (w .0))
+            wrong (met-none letter (NotOpen m d s i) (m .parameters .tagLength) (indexAfter m d s i) i (checkNumber m d s i) check-first (w .0))
             (equalTags-is (i .tag) found ∙ equalTags-false (i .tag) found (w .1));
-        not-open = λ h. ap (λ (q : Bool). ifNoCheck (checkIf q) s i (compareTag m d s i (unwrapSteps m d s i))) h;
+        bad-header = λ h. ap (λ (f : Bool). ifNoCheck (checkIf f (s .opened)) s i (last same)) (fits-not letter i .1 h);
+        not-open = λ h f. ap₂ (λ (f q : Bool). ifNoCheck (checkIf f q) s i (last same)) (fits-follows letter i .1 f) h;
         tag = tag (checkNumber m d s i) same;
       }
     where

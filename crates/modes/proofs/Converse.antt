@@ -8,7 +8,7 @@ use native.Mathlib.Omega.{arith}
 use lib.ListN.{length, take}
 use lib.Seq.{take-at}
 use Rattle.modes.specs.Call.{CallInput, other, Call, wrap, unwrap}
-use Rattle.modes.specs.Ledger.{PaperMode, sansePaper, Ledger, LedgerAnswer, Entry, wrapFinds, unwrapFinds, checkBefore11, ledgerWrap, ledgerUnwrap}
+use Rattle.modes.specs.Ledger.{PaperMode, sansePaper, Ledger, LedgerAnswer, Entry, stringA, wrapFinds, unwrapFinds, checkBefore11, ledgerWrap, ledgerUnwrap}
 use Rattle.modes.specs.TwoEnds.{Ledgers, ledgerAt, nextLedgers, entries, answers}
 use Rattle.modes.specs.Delivery.{delivery, InFlight, nothing, sent, Delivers, Returned, DeliversExactly}
 use Rattle.modes.proofs.Entries.{PaperLaws, paper-laws, wrap-none, wrap-done}
@@ -34,7 +34,7 @@ module _ {m : PaperMode} (laws : PaperLaws m) where
   stopped l i h = go (checkBefore11 m (unwrapFinds m l i) i) refl
     where
       go : (k : ℕ) → checkBefore11 m (unwrapFinds m l i) i ≡ k → (checkBefore11 m (unwrapFinds m l i) i ≢ 0) ⊎ (i .tag ≢ unwrapFinds m l i .tag)
-      go zero e = inr (λ q. h (unwrap-exactly m l i .accepted .1 (check-none m (unwrapFinds m l i) i e, q)))
+      go zero e = inr (λ q. h (unwrap-exactly m (laws .known) l i .accepted .1 (check-none m (laws .known) (unwrapFinds m l i) i e, q)))
       go (suc k) e = inl (λ q. absurd (omega (arith, e, q)))
 
   delivers-from : (t : InFlight) (cs : List Call) (p : Ledgers) (rs : List LedgerAnswer) → Sized t
@@ -50,7 +50,7 @@ module _ {m : PaperMode} (laws : PaperLaws m) where
       let e : a ≡ ledgerWrap m l i .answer = ap (first a) q in
       let g : ledgerWrap m l i .answer .number ≡ 0 = subst (λ (a : LedgerAnswer). a .number ≡ 0) e h in
       let d = wrap-done m l i (wrap-none m l i g) in
-      let n = laws .wraps-length (l .key) (l .history) (l .toggle) (i .metadata) (i .text) in
+      let n = laws .wraps-length (l .key) (l .history) (l .toggle) (stringA i) (i .text) in
       let c : take (length (i .text)) (a .out) ≡ wrapFinds m l i .text =
       ap (λ (a : LedgerAnswer). take (length (i .text)) (a .out)) e ∙ ap (λ (e : Entry). take (length (i .text)) (e .answer .out)) d
       ∙ take-at (wrapFinds m l i .text) _ (length (i .text)) n in
@@ -64,7 +64,7 @@ module _ {m : PaperMode} (laws : PaperLaws m) where
       let i = delivery w out in
       let e : a ≡ ledgerUnwrap m l i .answer = ap (first a) q in
       let g : ledgerUnwrap m l i .answer .number ≡ 0 = subst (λ (a : LedgerAnswer). a .number ≡ 0) e h in
-      let f : length (w .cryptogram) ≤ length out = unwrap-exactly m l i .accepted .0 g .0 .out in
+      let f : length (w .cryptogram) ≤ length out = unwrap-exactly m (laws .known) l i .accepted .0 g .0 .out in
       Delivers.delivered (subst (λ (n : ℕ). n ≤ length out) z f)
       (delivers-from nothing cs′ (nextLedgers m (unwrap (other (w .from)) i) p) rs′ 0 (ap later q) r)
   delivers-from t cs p rs z q (Returned.arrival-refused {x = x} {i = i} {cs = cs′} {a = a} {rs = rs′} h r) =

@@ -6,7 +6,7 @@ use Prim.Native.Nat.{ℕ, _≤_}
 use lib.ListN.{length, take, drop}
 use lib.Seq.{take-at}
 use Rattle.modes.specs.Call.{CallInput, Side, office, group, other, Call, wrap}
-use Rattle.modes.specs.Ledger.{PaperMode, Ledger, Entry, wrapFinds, checkBefore11, accepts, ledgerWrap, ledgerUnwrap}
+use Rattle.modes.specs.Ledger.{PaperMode, Ledger, Entry, stringA, wrapFinds, checkBefore11, accepts, ledgerWrap, ledgerUnwrap}
 use Rattle.modes.specs.TwoEnds.{Ledgers, ledgerAt, setLedger, nextLedgers, entries, answers, finishLedgers}
 use Rattle.modes.specs.Delivery.{Sent, delivery, sentBy, InFlight, nothing, sent, Delivers, Returned}
 use Rattle.modes.proofs.Entries.{PaperLaws, restoredPaper, wrap-none, wrap-done, wrap-stays, unwrap-stopped, unwrap-done}
@@ -92,7 +92,7 @@ module _ {m : PaperMode} (laws : PaperLaws m) where
       Returned.wrap-accepted h
       (subst₂ (λ (c u : List ℕ). Returned (sent (record { from = x; input = i; cryptogram = c; tag = u })) cs (answers m cs (nextLedgers m (wrap x i) p)))
       (sym (ap (λ (e : Entry). take (length (i .text)) (e .answer .out)) e
-      ∙ take-at (wrapFinds m l i .text) _ (length (i .text)) (laws .wraps-length (l .key) (l .history) (l .toggle) (i .metadata) (i .text))))
+      ∙ take-at (wrapFinds m l i .text) _ (length (i .text)) (laws .wraps-length (l .key) (l .history) (l .toggle) (stringA i) (i .text))))
       (sym (ap (λ (e : Entry). e .answer .tag) e))
       (returned-from r (after-wrap x i p h k)))
   returned-from (Delivers.delivered {w = w} {out = out} {p = p} f r) k =

@@ -5,6 +5,7 @@ use Prim.Native.Nat.{ℕ, _≤_}
 use lib.ListN.{length}
 use Rattle.deck.specs.declared.DeckState.{DeckState}
 use Rattle.deck.specs.Strings.{Str}
+use Rattle.envelope.specs.Layout.{Known}
 use Rattle.modes.specs.Call.{Side, office, group, Call, wrap, unwrap, sideOf}
 use Rattle.modes.specs.Mode.{HistoryRep, Mode, incremental, sanse}
 use Rattle.modes.specs.Rules.{Outcome, Opening, startAt}
@@ -28,21 +29,21 @@ answers-are [] = refl
 answers-are (e ∷ es) = ap (λ (l : List LedgerAnswer). e .answer ∷ l) (answers-are es)
 
 -- each call gets its number exactly by the checks, as the ledger at its end judges it
-by-checks : (m : PaperMode) (cs : List Call) (p : Ledgers) → ByChecks m cs p (map outcomeOf (entries m cs p))
+by-checks : (m : PaperMode) → Known (m .letter) → (cs : List Call) (p : Ledgers) → ByChecks m cs p (map outcomeOf (entries m cs p))
 unfolding entries
-by-checks m [] p = ByChecks.none
-by-checks m (wrap x i ∷ cs) p = ByChecks.wraps (wrap-exactly m (ledgerAt x p) i) (by-checks m cs (nextLedgers m (wrap x i) p))
-by-checks m (unwrap x i ∷ cs) p = ByChecks.unwraps (unwrap-exactly m (ledgerAt x p) i) (by-checks m cs (nextLedgers m (unwrap x i) p))
+by-checks m k [] p = ByChecks.none
+by-checks m k (wrap x i ∷ cs) p = ByChecks.wraps (wrap-exactly m k (ledgerAt x p) i) (by-checks m k cs (nextLedgers m (wrap x i) p))
+by-checks m k (unwrap x i ∷ cs) p = ByChecks.unwraps (unwrap-exactly m k (ledgerAt x p) i) (by-checks m k cs (nextLedgers m (unwrap x i) p))
 
 -- and they leave no number open: each is the ledger's
-pub checks-decide : {m : PaperMode} {cs : List Call} {p : Ledgers} {os : List (Outcome DeckState)} → ByChecks m cs p os
+pub checks-decide : {m : PaperMode} {cs : List Call} {p : Ledgers} {os : List (Outcome DeckState)} → Known (m .letter) → ByChecks m cs p os
     → map (λ (o : Outcome DeckState). o .number) os ≡ map (λ (e : Entry). e .answer .number) (entries m cs p)
 unfolding entries
-checks-decide ByChecks.none = refl
-checks-decide {m} (ByChecks.wraps {x = x} {i = i} {p = p} {o = o} w r) =
-    ap₂ {C = List ℕ} (λ (n : ℕ) (ns : List ℕ). n ∷ ns) (wrap-decided m (ledgerAt x p) i (o .number) w) (checks-decide r)
-checks-decide {m} (ByChecks.unwraps {x = x} {i = i} {p = p} {o = o} w r) =
-    ap₂ {C = List ℕ} (λ (n : ℕ) (ns : List ℕ). n ∷ ns) (unwrap-decided m (ledgerAt x p) i (o .number) w) (checks-decide r)
+checks-decide k ByChecks.none = refl
+checks-decide {m} k (ByChecks.wraps {x = x} {i = i} {p = p} {o = o} w r) =
+    ap₂ {C = List ℕ} (λ (n : ℕ) (ns : List ℕ). n ∷ ns) (wrap-decided m k (ledgerAt x p) i (o .number) w) (checks-decide k r)
+checks-decide {m} k (ByChecks.unwraps {x = x} {i = i} {p = p} {o = o} w r) =
+    ap₂ {C = List ℕ} (λ (n : ℕ) (ns : List ℕ). n ∷ ns) (unwrap-decided m k (ledgerAt x p) i (o .number) w) (checks-decide k r)
 
 at-ends : (x : Side) (p : Ledgers) → at x (endsOf p) ≡ sessionGiven (ledgerAt x p)
 at-ends office p = refl
@@ -54,7 +55,7 @@ pub by-ledgers : {r : Mode} {m : PaperMode} → Follows r m
     → Runs r incremental cs (endsOf (freshLedgers key opening)) os q → ByLedgers m key opening cs os q
 by-ledgers {r} {m} f key opening cs os q run =
     record {
-      checks = subst (ByChecks m cs fresh) (sym (z .0)) (by-checks m cs fresh);
+      checks = subst (ByChecks m cs fresh) (sym (z .0)) (by-checks m (paper-laws f .known) cs fresh);
       same = z .0;
       finish = λ x. ap (at x) (z .1) ∙ at-ends x (finishLedgers m cs fresh);
       back = λ d.

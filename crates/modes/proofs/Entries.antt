@@ -15,8 +15,9 @@ use Rattle.modes.specs.Call.{CallInput, Side}
 use Rattle.modes.specs.Mode.{Mode, wholeHistory}
 use Rattle.modes.specs.Paper.{PaperResult}
 use Rattle.modes.specs.Rules.{growth, sameBytes}
-use Rattle.modes.specs.Ledger.{PaperMode, Ledger, equalTags, wrapFinds, unwrapFinds, checkBefore11, onCheck, accepts, refuses11, ledgerWrap, ledgerUnwrap}
+use Rattle.modes.specs.Ledger.{PaperMode, Ledger, equalTags, rightHeader, stringA, wrapFinds, unwrapFinds, checkBefore11, onCheck, accepts, refuses11, ledgerWrap, ledgerUnwrap}
 use Rattle.modes.specs.Delivery.{delivery}
+use Rattle.envelope.specs.Layout.{Known}
 use Rattle.modes.proofs.Papers.{toPaper, paperOf}
 use Rattle.modes.proofs.Steps.{ModeLaws}
 use Rattle.modes.proofs.Modes.{Follows}
@@ -29,6 +30,7 @@ abbrev pub restoredPaper : PaperResult → List ℕ → PaperResult
 restoredPaper r p = record { history = r .history; toggle = r .toggle; text = p; tag = r .tag }
 
 pub record PaperLaws (m : PaperMode) : Type 0 where
+  pub known : Known (m .letter)
   pub undone : (key : List ℕ) (h : List Str) (e : Bool) (a p : List ℕ)
       → m .unwraps key h e a (m .wraps key h e a p .text) (m .wraps key h e a p .tag) ≡ restoredPaper (m .wraps key h e a p) p
   pub wraps-length : (key : List ℕ) (h : List Str) (e : Bool) (a p : List ℕ) → length (m .wraps key h e a p .text) ≡ length p
@@ -42,6 +44,7 @@ own-laws : {r : Mode} → ModeLaws r → PaperLaws (paperOf r)
 unfolding paperOf
 own-laws {r} laws =
     record {
+      known = laws .known;
       undone = λ key h e a p. ap (toPaper r e) (laws .undone (wholeHistory key) h e a p);
       wraps-length = λ key. laws .wraps-length (wholeHistory key);
       wraps-tag = λ key. laws .wraps-tag (wholeHistory key);
@@ -89,7 +92,7 @@ equalTags-is (x ∷ s) (y ∷ t) = go (eqb x y) (equalTags-is s t)
 -- ---- one call at a ledger
 
 module _ (m : PaperMode) (l : Ledger) (i : CallInput) where
-  -- a wrap is accepted where it meets none of the checks 6 to 9
+  -- a wrap is accepted where it meets none of the checks before 11
   pub wrap-none : ledgerWrap m l i .answer .number ≡ 0 → checkBefore11 m (wrapFinds m l i) i ≡ 0
   unfolding ledgerWrap
   wrap-none h = go (checkBefore11 m (wrapFinds m l i) i) h
@@ -111,7 +114,7 @@ module _ (m : PaperMode) (l : Ledger) (i : CallInput) where
       go zero g = absurd (g refl)
       go (suc n) g = refl
 
-  -- an arrival that meets none of the checks 6 to 9, by its tag
+  -- an arrival that meets none of the checks before 11, by its tag
   pub unwrap-same : checkBefore11 m (unwrapFinds m l i) i ≡ 0 → i .tag ≡ unwrapFinds m l i .tag
       → ledgerUnwrap m l i ≡ accepts m l i (unwrapFinds m l i) (i .tag)
   unfolding ledgerUnwrap
@@ -147,19 +150,20 @@ module _ (m : PaperMode) (l : Ledger) (i : CallInput) where
       go (suc n) g = (omega arith, refl)
 
 -- a call that no check stopped is stopped by none with a tag of the mode's length and any output buffer that holds the text
-check-again : (a n t l o o′ x : ℕ)
-    → _≡_ {A = ℕ} (cond (ltb 16384 a || ltb 16384 n) 6 (cond (not (eqb t l)) 7 (cond (ltb o n) 8 (cond (ltb 1048576 x) 9 0)))) 0 → n ≤ o′
-    → _≡_ {A = ℕ} (cond (ltb 16384 a || ltb 16384 n) 6 (cond (not (eqb l l)) 7 (cond (ltb o′ n) 8 (cond (ltb 1048576 x) 9 0)))) 0
-check-again a n t l o o′ x h f =
-    go (ltb 16384 a || ltb 16384 n) (not (eqb t l)) (ltb o n) (ltb 1048576 x) (not (eqb l l)) (ltb o′ n) h (ap not (eq-eqb l l refl)) (le-ltb o′ n f)
+check-again : (wrong : Bool) (a n t l o o′ x : ℕ)
+    → _≡_ {A = ℕ} (cond wrong 1 (cond (ltb 16384 a || ltb 16384 n) 6 (cond (not (eqb t l)) 7 (cond (ltb o n) 8 (cond (ltb 1048576 x) 9 0))))) 0 → n ≤ o′
+    → _≡_ {A = ℕ} (cond wrong 1 (cond (ltb 16384 a || ltb 16384 n) 6 (cond (not (eqb l l)) 7 (cond (ltb o′ n) 8 (cond (ltb 1048576 x) 9 0))))) 0
+check-again wrong a n t l o o′ x h f =
+    go wrong (ltb 16384 a || ltb 16384 n) (not (eqb t l)) (ltb o n) (ltb 1048576 x) (not (eqb l l)) (ltb o′ n) h (ap not (eq-eqb l l refl)) (le-ltb o′ n f)
   where
-    go : (b₂ b₃ b₄ b₅ c₃ c₄ : Bool) → _≡_ {A = ℕ} (cond b₂ 6 (cond b₃ 7 (cond b₄ 8 (cond b₅ 9 0)))) 0
-        → c₃ ≡ false → c₄ ≡ false → _≡_ {A = ℕ} (cond b₂ 6 (cond c₃ 7 (cond c₄ 8 (cond b₅ 9 0)))) 0
-    go true b₃ b₄ b₅ c₃ c₄ z p q = omega arith
-    go false true b₄ b₅ c₃ c₄ z p q = omega arith
-    go false false true b₅ c₃ c₄ z p q = omega arith
-    go false false false true c₃ c₄ z p q = omega arith
-    go false false false false c₃ c₄ z p q = rw (p, q) refl
+    go : (b₁ b₂ b₃ b₄ b₅ c₃ c₄ : Bool) → _≡_ {A = ℕ} (cond b₁ 1 (cond b₂ 6 (cond b₃ 7 (cond b₄ 8 (cond b₅ 9 0))))) 0
+        → c₃ ≡ false → c₄ ≡ false → _≡_ {A = ℕ} (cond b₁ 1 (cond b₂ 6 (cond c₃ 7 (cond c₄ 8 (cond b₅ 9 0))))) 0
+    go true b₂ b₃ b₄ b₅ c₃ c₄ z p q = omega arith
+    go false true b₃ b₄ b₅ c₃ c₄ z p q = omega arith
+    go false false true b₄ b₅ c₃ c₄ z p q = omega arith
+    go false false false true b₅ c₃ c₄ z p q = omega arith
+    go false false false false true c₃ c₄ z p q = omega arith
+    go false false false false false c₃ c₄ z p q = rw (p, q) refl
 
 module _ {m : PaperMode} (laws : PaperLaws m) (l : Ledger) where
   -- what an accepted wrap gave, arriving at a ledger like the one that gave it: the message, and the ledger after that wrap
@@ -169,7 +173,7 @@ module _ {m : PaperMode} (laws : PaperLaws m) (l : Ledger) where
   unfolding ledgerUnwrap
   unwrap-done x i out h f =
       ap (λ (r : PaperResult). onCheck m (checkBefore11 m r j) l j (cond (equalTags (j .tag) (r .tag)) (accepts m l j r (j .tag)) (refuses11 m l j)))
-      (laws .undone (l .key) (l .history) (l .toggle) (i .metadata) (i .text))
+      (laws .undone (l .key) (l .history) (l .toggle) (stringA i) (i .text))
       ∙ ap₂ (λ (n : ℕ) (q : Bool). onCheck m n l j (cond q (accepts m l j r (j .tag)) (refuses11 m l j))) number (equalTags-refl (w .tag))
     where
       w : PaperResult
@@ -183,8 +187,9 @@ module _ {m : PaperMode} (laws : PaperLaws m) (l : Ledger) where
 
       number : checkBefore11 m r j ≡ 0
       number =
-          ap₂ (λ (n t : ℕ). cond (ltb 16384 (length (i .metadata)) || ltb 16384 n) 6
-          (cond (not (eqb t (m .tagLength))) 7 (cond (ltb (length out) n) 8 (cond (ltb 1048576 (indexOf (w .history))) 9 0))))
-          (laws .wraps-length (l .key) (l .history) (l .toggle) (i .metadata) (i .text))
-          (laws .wraps-tag (l .key) (l .history) (l .toggle) (i .metadata) (i .text))
-          ∙ check-again (length (i .metadata)) (length (i .text)) (length (i .tag)) (m .tagLength) (length (i .out)) (length out) (indexOf (w .history)) h f
+          ap₂ (λ (n t : ℕ). cond (not (rightHeader (m .letter) (i .header) (length (i .metadata)) n)) 1
+          (cond (ltb 16384 (length (i .metadata)) || ltb 16384 n) 6
+          (cond (not (eqb t (m .tagLength))) 7 (cond (ltb (length out) n) 8 (cond (ltb 1048576 (indexOf (w .history))) 9 0)))))
+          (laws .wraps-length (l .key) (l .history) (l .toggle) (stringA i) (i .text))
+          (laws .wraps-tag (l .key) (l .history) (l .toggle) (stringA i) (i .text))
+          ∙ check-again (not (rightHeader (m .letter) (i .header) (length (i .metadata)) (length (i .text)))) (length (i .metadata)) (length (i .text)) (length (i .tag)) (m .tagLength) (length (i .out)) (length out) (indexOf (w .history)) h f

@@ -15,7 +15,7 @@ use Rattle.modes.specs.Call.{CallInput, Side, office, group, Call, wrap,
 use Rattle.modes.specs.Paper.{PaperResult, sanseOpens, sanseUnwrap}
 use Rattle.modes.specs.Mode.{Mode, incremental, sanse}
 use Rattle.modes.specs.Rules.{SessionState, Outcome, growth, newSession, wrapAt}
-use Rattle.modes.specs.Ledger.{PaperMode, sansePaper, Ledger, equalTags, wrapFinds, unwrapFinds, checkBefore11, onCheck, accepts, refuses11, ledgerWrap, ledgerUnwrap, freshLedger}
+use Rattle.modes.specs.Ledger.{PaperMode, sansePaper, Ledger, equalTags, stringA, wrapFinds, unwrapFinds, checkBefore11, onCheck, accepts, refuses11, ledgerWrap, ledgerUnwrap, freshLedger}
 use Rattle.modes.specs.Exactly.{NoneBefore11}
 use Rattle.modes.specs.OneCall.{sessionOf}
 use Rattle.modes.specs.TwoEnds.{Ledgers, ledgerAt, finishLedgers, freshLedgers}
@@ -23,50 +23,51 @@ use Rattle.modes.specs.Delivery.{delivery, sentBy, InFlight, Delivers}
 use Rattle.modes.specs.Fresh.{InLimits, FreshAccepts, noTag, afterThere, BothWays, Disturbed, otherTag, repeated, reflected, Replays}
 use Rattle.modes.proofs.Sessions.{growth-most}
 use Rattle.modes.proofs.Modes.{Follows, sanse-follows}
+use Rattle.modes.proofs.Header.{string-most}
 use Rattle.modes.proofs.Ledgers.{wrap-by-ledger}
 use Rattle.modes.proofs.Entries.{PaperLaws, paper-laws, wrap-stays, unwrap-stopped}
 use Rattle.modes.proofs.Delivery.{set-same}
 use Rattle.modes.proofs.Exactly.{check-none, wrap-exactly}
 use Rattle.modes.proofs.Start.{new-session}
 
--- a call within the limits moves the index by at most 686
-growth-within : (a n : ℕ) → a ≤ 16384 → n ≤ 16384 → growth a n ≤ 686
+-- a call within the limits moves the index by at most 686, with a header too
+growth-within : (a n : ℕ) → a ≤ 16401 → n ≤ 16384 → growth a n ≤ 686
 growth-within a n h g = omega (arith, growth-most a n)
 
 module _ {m : PaperMode} (laws : PaperLaws m) (l : Ledger) (i : CallInput) where
   -- a ledger with room accepts it
   pub accepts-within : InLimits m i → indexOf (l .history) + 686 ≤ 1048576 → ledgerWrap m l i .answer .number ≡ 0
   accepts-within w room =
-      let g : growth (length (i .metadata)) (length (i .text)) ≤ 686 = growth-within (length (i .metadata)) (length (i .text)) (omega arith) (omega arith) in
-      let e = laws .wraps-index (l .key) (l .history) (l .toggle) (i .metadata) (i .text) in
-      wrap-exactly m l i .accepted .1 (record { isOpen = λ z. z; metadata = omega arith; text = omega arith; tag = omega arith; out = omega arith; index = omega arith })
+      let g : growth (length (stringA i)) (length (i .text)) ≤ 686 = growth-within (length (stringA i)) (length (i .text)) (string-most (m .letter) i (w .header) (w .metadata)) (w .text) in
+      let e = laws .wraps-index (l .key) (l .history) (l .toggle) (stringA i) (i .text) in
+      wrap-exactly m (laws .known) l i .accepted .1 (record { header = w .header; isOpen = λ z. z; metadata = omega arith; text = omega arith; tag = omega arith; out = omega arith; index = omega arith })
 
   -- any call moves a ledger's index by at most 686
-  moves : (r : PaperResult) → indexOf (r .history) ≡ indexOf (l .history) + growth (length (i .metadata)) (length (i .text)) → NoneBefore11 ⊥ (m .tagLength) (indexOf (r .history)) i
+  moves : (r : PaperResult) → indexOf (r .history) ≡ indexOf (l .history) + growth (length (stringA i)) (length (i .text)) → NoneBefore11 (m .letter) ⊥ (m .tagLength) (indexOf (r .history)) i
       → indexOf (r .history) ≤ indexOf (l .history) + 686
   moves r e c =
-      let g : growth (length (i .metadata)) (length (i .text)) ≤ 686 = growth-within (length (i .metadata)) (length (i .text)) (c .metadata) (c .text) in
+      let g : growth (length (stringA i)) (length (i .text)) ≤ 686 = growth-within (length (stringA i)) (length (i .text)) (string-most (m .letter) i (c .header) (c .metadata)) (c .text) in
       omega arith
 
   wrap-moves : indexOf (ledgerWrap m l i .ledger .history) ≤ indexOf (l .history) + 686
   unfolding ledgerWrap
-  wrap-moves = go (checkBefore11 m (wrapFinds m l i) i) (check-none m (wrapFinds m l i) i)
+  wrap-moves = go (checkBefore11 m (wrapFinds m l i) i) (check-none m (laws .known) (wrapFinds m l i) i)
     where
-      go : (k : ℕ) → (k ≡ 0 → NoneBefore11 ⊥ (m .tagLength) (indexOf (wrapFinds m l i .history)) i)
+      go : (k : ℕ) → (k ≡ 0 → NoneBefore11 (m .letter) ⊥ (m .tagLength) (indexOf (wrapFinds m l i .history)) i)
           → indexOf (onCheck m k l i (accepts m l i (wrapFinds m l i) (wrapFinds m l i .tag)) .ledger .history) ≤ indexOf (l .history) + 686
-      go zero c = moves (wrapFinds m l i) (laws .wraps-index (l .key) (l .history) (l .toggle) (i .metadata) (i .text)) (c refl)
+      go zero c = moves (wrapFinds m l i) (laws .wraps-index (l .key) (l .history) (l .toggle) (stringA i) (i .text)) (c refl)
       go (suc k) c = omega arith
 
   unwrap-moves : indexOf (ledgerUnwrap m l i .ledger .history) ≤ indexOf (l .history) + 686
   unfolding ledgerUnwrap
-  unwrap-moves = go (checkBefore11 m r i) (equalTags (i .tag) (r .tag)) (check-none m r i)
+  unwrap-moves = go (checkBefore11 m r i) (equalTags (i .tag) (r .tag)) (check-none m (laws .known) r i)
     where
       r : PaperResult
       r = unwrapFinds m l i
 
-      go : (k : ℕ) (q : Bool) → (k ≡ 0 → NoneBefore11 ⊥ (m .tagLength) (indexOf (r .history)) i)
+      go : (k : ℕ) (q : Bool) → (k ≡ 0 → NoneBefore11 (m .letter) ⊥ (m .tagLength) (indexOf (r .history)) i)
           → indexOf (onCheck m k l i (cond q (accepts m l i r (i .tag)) (refuses11 m l i)) .ledger .history) ≤ indexOf (l .history) + 686
-      go zero true c = moves r (laws .unwraps-index (l .key) (l .history) (l .toggle) (i .metadata) (i .text) (i .tag)) (c refl)
+      go zero true c = moves r (laws .unwraps-index (l .key) (l .history) (l .toggle) (stringA i) (i .text) (i .tag)) (c refl)
       go zero false c = omega arith
       go (suc k) q c = omega arith
 
@@ -94,8 +95,8 @@ module _ {r : Mode} {m : PaperMode} (f : Follows r m) (key : List ℕ) (opening 
     where
       back : ledgerWrap m (freshLedger key opening) i .answer .number ≡ 0 → InLimits m i
       back h =
-          let n = wrap-exactly m (freshLedger key opening) i .accepted .0 h in
-          record { metadata = n .metadata; text = n .text; tag = n .tag; out = n .out }
+          let n = wrap-exactly m (paper-laws f .known) (freshLedger key opening) i .accepted .0 h in
+          record { header = n .header; metadata = n .metadata; text = n .text; tag = n .tag; out = n .out }
 
       same : wrapAt r incremental s i .number ≡ ledgerWrap m (freshLedger key opening) i .answer .number
       same =
@@ -106,12 +107,12 @@ module _ {r : Mode} {m : PaperMode} (f : Follows r m) (key : List ℕ) (opening 
   module _ (t : 1 ≤ m .tagLength) where
     no-tag-arrival : (l : Ledger) → checkBefore11 m (unwrapFinds m l noTag) noTag ≢ 0
     no-tag-arrival l h =
-        let n : 0 ≡ m .tagLength = check-none m (unwrapFinds m l noTag) noTag h .tag in
+        let n : 0 ≡ m .tagLength = check-none m (paper-laws f .known) (unwrapFinds m l noTag) noTag h .tag in
         omega arith
 
     no-tag-wrap : (l : Ledger) → ledgerWrap m l noTag .answer .number ≢ 0
     no-tag-wrap l h =
-        let n : 0 ≡ m .tagLength = wrap-exactly m l noTag .accepted .0 h .tag in
+        let n : 0 ≡ m .tagLength = wrap-exactly m (paper-laws f .known) l noTag .accepted .0 h .tag in
         omega arith
 
     -- messages both ways
@@ -181,10 +182,10 @@ replays-deliver key i j out out′ t =
     disturbed-delivers key i j out out′
     (otherTag sansePaper key sanseOpens i j out out′ t) (repeated sansePaper key sanseOpens i j out out′ t) (reflected sansePaper key sanseOpens i j out out′ t)
 
--- arrivals whose tags differ there are: without a text, the tag that is found goes by the ledger and the metadata alone, so every other tag
+-- arrivals whose tags differ there are: without a text, the tag that is found goes by the ledger, the header and the metadata alone, so every other tag
 -- differs
 pub some-differ : (l : Ledger) (z : CallInput) → z .text ≡ []
-    → z .tag ≢ unwrapFinds sansePaper l (record { metadata = z .metadata; text = []; out = []; tag = [] }) .tag
+    → z .tag ≢ unwrapFinds sansePaper l (record { header = z .header; metadata = z .metadata; text = []; out = []; tag = [] }) .tag
     → z .tag ≢ unwrapFinds sansePaper l z .tag
 unfolding sanseUnwrap
-some-differ l z e d h = d (h ∙ ap (λ (x : List ℕ). sansePaper .unwraps (l .key) (l .history) (l .toggle) (z .metadata) x (z .tag) .tag) e)
+some-differ l z e d h = d (h ∙ ap (λ (x : List ℕ). sansePaper .unwraps (l .key) (l .history) (l .toggle) (stringA z) x (z .tag) .tag) e)

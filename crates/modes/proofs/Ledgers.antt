@@ -1,6 +1,6 @@
 -- The ledger of document 01 and the rules: for any mode that follows its paper, wrap and unwrap of the session that a ledger's history gives have the
 -- ledger's answer and leave the session that its history then gives; for one call, and for every list of calls. Assumes nothing.
-use mathlib.Core.Bool.{Bool, true, false, cond}
+use mathlib.Core.Bool.{Bool, true, false, not, cond}
 use mathlib.Core.List.{List, _∷_, _++_, map}
 use mathlib.Core.Path.{_≡_, refl, sym, ap, ap₂, _∙_}
 use Prim.Native.Nat.{ℕ, zero, suc}
@@ -11,8 +11,9 @@ use Rattle.deck.specs.Deck.{outputMask}
 use Rattle.deck.specs.Incremental.{fromScratch}
 use Rattle.modes.specs.Call.{CallInput, Side, office, group, Call, wrap, unwrap, sideOf}
 use Rattle.modes.specs.Mode.{StepResult, Mode, wholeHistory, incremental}
-use Rattle.modes.specs.Rules.{SessionState, Outcome, firstCheck, metadataString, ifNoCheck, checkNumber, wrapSteps, unwrapSteps, accepted, wrongTag, compareTag, wrapAt, unwrapAt}
-use Rattle.modes.specs.Ledger.{PaperMode, Ledger, Entry, equalTags, wrapFinds, unwrapFinds, checkBefore11, onCheck, accepts, refuses11, ledgerWrap, ledgerUnwrap}
+use Rattle.modes.specs.Header.{headerFits}
+use Rattle.modes.specs.Rules.{SessionState, Outcome, firstCheck, metadataString, ifNoCheck, checkFrom5, checkNumber, wrapSteps, unwrapSteps, accepted, wrongTag, compareTag, wrapAt, unwrapAt}
+use Rattle.modes.specs.Ledger.{PaperMode, Ledger, Entry, equalTags, stringA, rightHeader, wrapFinds, unwrapFinds, checkBefore11, onCheck, accepts, refuses11, ledgerWrap, ledgerUnwrap}
 use Rattle.modes.specs.OneCall.{sessionOf}
 use Rattle.modes.specs.TwoEnds.{Ends, at, put, outcome, Runs, Ledgers, ledgerAt, setLedger, ledgerStep, nextLedgers, entries, finishLedgers}
 use Rattle.modes.specs.Demand3.{outcomeOf}
@@ -20,6 +21,7 @@ use Rattle.modes.proofs.Papers.{paperOf}
 use Rattle.modes.proofs.Steps.{ModeLaws}
 use Rattle.modes.proofs.Modes.{Follows}
 use Rattle.modes.proofs.Entries.{equalTags-is}
+use Rattle.modes.proofs.Header.{right-is}
 use Rattle.modes.proofs.Sessions.{mapOutcome, incremental-simulates, wholeHistory-grows, wrapAt-simulates, unwrapAt-simulates}
 
 -- ---- one call
@@ -37,17 +39,33 @@ module _ {m : Mode} (laws : ModeLaws m) (l : Ledger) (i : CallInput) where
   onCheck-is zero o e h = h
   onCheck-is (suc n) o e h = refl
 
+  -- the first check, by the rules' test of the header and the ledger's judgement of it, and by an index
+  checks-are : {n n′ : ℕ} → n′ ≡ n
+      → cond (headerFits (m .parameters .letter) (i .header) (length (i .metadata)) (length (i .text)))
+      (firstCheck true n (m .parameters .tagLength) (length (i .metadata)) (length (i .text)) (length (i .tag)) (length (i .out))) 1
+      ≡ cond (not (rightHeader (m .parameters .letter) (i .header) (length (i .metadata)) (length (i .text)))) 1
+      (firstCheck true n′ (m .parameters .tagLength) (length (i .metadata)) (length (i .text)) (length (i .tag)) (length (i .out)))
+  checks-are {n} {n′} e =
+      go (headerFits (m .parameters .letter) (i .header) (length (i .metadata)) (length (i .text)))
+      (rightHeader (m .parameters .letter) (i .header) (length (i .metadata)) (length (i .text)))
+      (right-is (m .parameters .letter) (laws .known) (i .header) (length (i .metadata)) (length (i .text)))
+    where
+      check : ℕ → ℕ
+      check n = firstCheck true n (m .parameters .tagLength) (length (i .metadata)) (length (i .text)) (length (i .tag)) (length (i .out))
+
+      go : (p q : Bool) → q ≡ p → cond p (check n) 1 ≡ cond (not q) 1 (check n′)
+      go true q h = rw h (ap check (sym e))
+      go false q h = rw h refl
+
   wrap-check : checkNumber m (wholeHistory (l .key)) (toSession l) i ≡ checkBefore11 (paperOf m) (wrapFinds (paperOf m) l i) i
-  unfolding checkNumber metadataString paperOf
+  unfolding checkNumber checkFrom5 metadataString paperOf
   wrap-check =
-      ap (λ (n : ℕ). firstCheck true n (m .parameters .tagLength) (length (i .metadata)) (length (i .text)) (length (i .tag)) (length (i .out)))
-      (sym (laws .wraps-index (wholeHistory (l .key)) (wholeHistory-grows (l .key)) (l .history) (l .toggle) (i .metadata) (i .text)))
+      checks-are (laws .wraps-index (wholeHistory (l .key)) (wholeHistory-grows (l .key)) (l .history) (l .toggle) (stringA i) (i .text))
 
   unwrap-check : checkNumber m (wholeHistory (l .key)) (toSession l) i ≡ checkBefore11 (paperOf m) (unwrapFinds (paperOf m) l i) i
-  unfolding checkNumber metadataString paperOf
+  unfolding checkNumber checkFrom5 metadataString paperOf
   unwrap-check =
-      ap (λ (n : ℕ). firstCheck true n (m .parameters .tagLength) (length (i .metadata)) (length (i .text)) (length (i .tag)) (length (i .out)))
-      (sym (laws .unwraps-index (wholeHistory (l .key)) (wholeHistory-grows (l .key)) (l .history) (l .toggle) (i .metadata) (i .text) (i .tag)))
+      checks-are (laws .unwraps-index (wholeHistory (l .key)) (wholeHistory-grows (l .key)) (l .history) (l .toggle) (stringA i) (i .text) (i .tag))
 
   wrap-entry : wrapAt m (wholeHistory (l .key)) (toSession l) i ≡ toOutcome (ledgerWrap (paperOf m) l i)
   unfolding wrapAt ledgerWrap metadataString paperOf
@@ -74,7 +92,7 @@ module _ {m : Mode} (laws : ModeLaws m) (l : Ledger) (i : CallInput) where
       both false =
           ap (λ (n : ℕ). record {
             number = 11;
-            count = m .parameters .count (length (i .metadata)) (length (i .text));
+            count = m .parameters .count (length (stringA i)) (length (i .text));
             session = toSession l;
             out = replicate (length (i .text)) 0 ++ drop n (i .out);
             tag = i .tag;

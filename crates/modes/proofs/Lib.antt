@@ -6,6 +6,7 @@ pub mod Modes
 pub mod Sessions
 pub mod Ledgers
 pub mod Entries
+pub mod Header
 pub mod Delivery
 pub mod Converse
 pub mod Exactly

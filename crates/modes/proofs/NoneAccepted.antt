@@ -12,7 +12,7 @@ use Rattle.deck.specs.Deck.{indexOf}
 use Rattle.modes.specs.Call.{CallInput, Side, office, group, Call, wrap, unwrap, sideOf}
 use Rattle.modes.specs.Rules.{Outcome, growth}
 use Rattle.modes.specs.Paper.{PaperResult}
-use Rattle.modes.specs.Ledger.{PaperMode, Ledger, Entry, equalTags, wrapFinds, unwrapFinds, checkBefore11, onCheck, accepts, refuses11, ledgerWrap, ledgerUnwrap}
+use Rattle.modes.specs.Ledger.{PaperMode, Ledger, stringA, Entry, equalTags, wrapFinds, unwrapFinds, checkBefore11, onCheck, accepts, refuses11, ledgerWrap, ledgerUnwrap}
 use Rattle.modes.specs.TwoEnds.{Ledgers, ledgerAt, setLedger, ledgerStep, nextLedgers, entries, finishLedgers}
 use Rattle.modes.specs.Demand3.{outcomeOf}
 use Rattle.modes.specs.CodeLists.{NoneAccepted}
@@ -40,7 +40,7 @@ module _ {m : PaperMode} (laws : PaperLaws m) (l : Ledger) (i : CallInput) where
       go : (n : ℕ) → (onCheck m n l i (accepts m l i r (r .tag)) .ledger .history ≡ [])
           ↔ ((l .history ≡ []) × (onCheck m n l i (accepts m l i r (r .tag)) .answer .number ≢ 0))
       go zero = (
-        λ e. absurd (longer (r .history) (l .history) (length (i .metadata)) (length (i .text)) (laws .wraps-index (l .key) (l .history) (l .toggle) (i .metadata) (i .text)) e),
+        λ e. absurd (longer (r .history) (l .history) (length (stringA i)) (length (i .text)) (laws .wraps-index (l .key) (l .history) (l .toggle) (stringA i) (i .text)) e),
         λ w. absurd (w .1 refl),
       )
       go (suc n) = (λ e. (e, λ z. omega arith), λ w. w .0)
@@ -57,7 +57,7 @@ module _ {m : PaperMode} (laws : PaperLaws m) (l : Ledger) (i : CallInput) where
       go zero true = (
         λ e.
             absurd
-            (longer (r .history) (l .history) (length (i .metadata)) (length (i .text)) (laws .unwraps-index (l .key) (l .history) (l .toggle) (i .metadata) (i .text) (i .tag)) e),
+            (longer (r .history) (l .history) (length (stringA i)) (length (i .text)) (laws .unwraps-index (l .key) (l .history) (l .toggle) (stringA i) (i .text) (i .tag)) e),
         λ w. absurd (w .1 refl),
       )
       go zero false = (λ e. (e, λ z. omega arith), λ w. w .0)

@@ -1,6 +1,7 @@
 -- Demands 1 and 2 for one call, from the ledger with that history. Assumes nothing.
 use mathlib.Core.Bool.{Bool, cond}
 use mathlib.Core.List.{List, _++_}
+use mathlib.Core.Logic.{_⊎_, inl, inr}
 use mathlib.Core.Path.{_≡_, refl, sym, ap, _∙_, subst}
 use Prim.Native.Nat.{ℕ, suc, _≤_}
 use native.Mathlib.Omega.{arith}
@@ -17,7 +18,7 @@ use Rattle.modes.specs.OneCall.{sessionOf, Within, Accepted, WrongTag, R
 use Rattle.modes.specs.Demand3.{outcomeOf}
 use Rattle.modes.proofs.Modes.{Follows, sanse-follows}
 use Rattle.modes.proofs.Ledgers.{wrap-by-ledger, unwrap-by-ledger}
-use Rattle.modes.proofs.Entries.{wrap-done, unwrap-same, unwrap-differs}
+use Rattle.modes.proofs.Entries.{paper-laws, wrap-done, unwrap-same, unwrap-differs}
 use Rattle.modes.proofs.Exactly.{First, ledger-first, none-check}
 
 module _ {p : Mode} {m : PaperMode} (f : Follows p m) (key : List ℕ) (h : List Str) (e : Bool) (i : CallInput) where
@@ -25,7 +26,7 @@ module _ {p : Mode} {m : PaperMode} (f : Follows p m) (key : List ℕ) (h : List
   ledger = record { key = key; history = h; toggle = e }
 
   none : (r : PaperResult) → Within m i (r .history) → checkBefore11 m r i ≡ 0
-  none r w = none-check m r i (record { isOpen = λ z. z; metadata = w .metadata; text = w .text; tag = w .tag; out = w .out; index = w .index })
+  none r w = none-check m (paper-laws f .known) r i (record { header = w .header; isOpen = λ z. z; metadata = w .metadata; text = w .text; tag = w .tag; out = w .out; index = w .index })
 
   -- the outcome of an entry of an accepted call, and of one with number 11
   accepted-is : (r : PaperResult) (tag : List ℕ) → tag ≡ r .tag → (o : Outcome DeckState) → o ≡ outcomeOf (accepts m ledger i r tag) → Accepted m key i r o
@@ -52,25 +53,26 @@ module _ {p : Mode} {m : PaperMode} (f : Follows p m) (key : List ℕ) (h : List
   -- an entry of a call that meets a check before 11
   stopped-is : (r : PaperResult) (z : Entry) (o : Outcome DeckState) → o ≡ outcomeOf (onCheck m (checkBefore11 m r i) ledger i z)
       → (Within m i (r .history) → ⊥) → Refused (sessionOf key h e) i o
-  stopped-is r z o g n = go (checkBefore11 m r i) (ledger-first m r i) g
+  stopped-is r z o g n = go (checkBefore11 m r i) (ledger-first m (paper-laws f .known) r i) g
     where
-      refused : (k : ℕ) → o ≡ outcomeOf (onCheck m (suc k) ledger i z) → (6 ≤ suc k) × (suc k ≤ 9) → Refused (sessionOf key h e) i o
+      refused : (k : ℕ) → o ≡ outcomeOf (onCheck m (suc k) ledger i z) → (suc k ≡ 1) ⊎ ((6 ≤ suc k) × (suc k ≤ 9)) → Refused (sessionOf key h e) i o
       refused k g b =
           record {
-            number = subst (λ (n : ℕ). (6 ≤ n) × (n ≤ 9)) (sym (ap (λ (o : Outcome DeckState). o .number) g)) b;
+            number = subst (λ (n : ℕ). (n ≡ 1) ⊎ ((6 ≤ n) × (n ≤ 9))) (sym (ap (λ (o : Outcome DeckState). o .number) g)) b;
             count = ap (λ (o : Outcome DeckState). o .count) g;
             out = ap (λ (o : Outcome DeckState). o .out) g;
             tag = ap (λ (o : Outcome DeckState). o .tag) g;
             session = ap (λ (o : Outcome DeckState). o .session) g;
           }
 
-      go : (k : ℕ) → First ⊥ (m .tagLength) (indexOf (r .history)) i k → o ≡ outcomeOf (onCheck m k ledger i z) → Refused (sessionOf key h e) i o
-      go k (First.is5 z) g = absurd z
-      go k (First.is6 z a) g = refused 5 g (omega arith, omega arith)
-      go k (First.is7 z a b) g = refused 6 g (omega arith, omega arith)
-      go k (First.is8 z a b c) g = refused 7 g (omega arith, omega arith)
-      go k (First.is9 z a b c d) g = refused 8 g (omega arith, omega arith)
-      go k (First.is0 c) g = absurd (n (record { metadata = c .metadata; text = c .text; tag = c .tag; out = c .out; index = c .index }))
+      go : (k : ℕ) → First (m .letter) ⊥ (m .tagLength) (indexOf (r .history)) i k → o ≡ outcomeOf (onCheck m k ledger i z) → Refused (sessionOf key h e) i o
+      go k (First.is1 w) g = refused 0 g (inl refl)
+      go k (First.is5 w z) g = absurd z
+      go k (First.is6 w z a) g = refused 5 g (inr (omega arith, omega arith))
+      go k (First.is7 w z a b) g = refused 6 g (inr (omega arith, omega arith))
+      go k (First.is8 w z a b c) g = refused 7 g (inr (omega arith, omega arith))
+      go k (First.is9 w z a b c d) g = refused 8 g (inr (omega arith, omega arith))
+      go k (First.is0 c) g = absurd (n (record { header = c .header; metadata = c .metadata; text = c .text; tag = c .tag; out = c .out; index = c .index }))
 
   wraps : WrapClaim m key h e i (wrapAt p incremental (sessionOf key h e) i)
   unfolding ledgerWrap

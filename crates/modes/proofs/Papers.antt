@@ -25,6 +25,7 @@ toPaper m e r = record { history = r .after; toggle = m .parameters .nextToggle 
 unfoldable pub paperOf : Mode → PaperMode
 paperOf m =
     record {
+      letter = m .parameters .letter;
       tagLength = m .parameters .tagLength;
       count = m .parameters .count;
       wraps = λ key h e a x. toPaper m e (m .wraps (wholeHistory key) h e a x);
@@ -103,6 +104,7 @@ pub sanse-paper : paperOf sanse ≡ sansePaper
 unfolding paperOf
 sanse-paper =
     λ i. record {
+      letter = 83;
       tagLength = 32;
       count = λ A M. count-is A M i;
       wraps = λ key h e a x. sanse-wraps key h e a x i;

@@ -81,6 +81,7 @@ pub sane-paper : paperOf sane ≡ sanePaper
 unfolding paperOf
 sane-paper =
     λ i. record {
+      letter = 78;
       tagLength = 16;
       count = λ A M. count-is A M i;
       wraps = λ key h e a x. sane-wraps key h e a x i;

@@ -121,10 +121,10 @@ module _ (key nonce : List ℕ) (h : length nonce ≤ 16384) where
       sane-disturbed i j out out′
       (otherTag sanePaper key (saneOpens nonce) i j out out′ t) (repeated sanePaper key (saneOpens nonce) i j out out′ t) (reflected sanePaper key (saneOpens nonce) i j out out′ t)
 
--- arrivals whose tags differ there are: the tag that is found goes by the ledger, the metadata and the cryptogram, and not by the tag that
+-- arrivals whose tags differ there are: the tag that is found goes by the ledger, the header, the metadata and the cryptogram, and not by the tag that
 -- arrived, so every other tag differs
 pub sane-some-differ : (l : Ledger) (z : CallInput)
-    → z .tag ≢ unwrapFinds sanePaper l (record { metadata = z .metadata; text = z .text; out = []; tag = [] }) .tag
+    → z .tag ≢ unwrapFinds sanePaper l (record { header = z .header; metadata = z .metadata; text = z .text; out = []; tag = [] }) .tag
     → z .tag ≢ unwrapFinds sanePaper l z .tag
 unfolding saneUnwrap
 sane-some-differ l z d h = d h

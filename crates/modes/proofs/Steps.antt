@@ -10,6 +10,8 @@ use Rattle.word.specs.Lists.{tabulate, sum}
 use Rattle.word.proofs.Lists.{tabulate-length, sum-length, sum-undone}
 use Rattle.deck.specs.Strings.{Str, b, framed}
 use Rattle.deck.specs.Deck.{run}
+use Rattle.envelope.specs.Layout.{Known}
+use Rattle.envelope.proofs.Layouts.{known-S, known-N}
 use Rattle.modes.specs.Mode.{HistoryRep, StepResult, Mode, Parameters, withA, withText, tagOf, addKeystream, stepResult, sivBody, sivWrap, sivUnwrap, siv, streamWrap, streamUnwrap, stream, sanse, sanseParameters, sane, saneParameters}
 use Rattle.modes.specs.Rules.{growth}
 
@@ -36,6 +38,7 @@ restored r m = record { after = r .after; body = m; tag = r .tag }
 -- ---- the facts that the theorems need of a mode
 
 pub record ModeLaws (m : Mode) : Type 1 where
+  pub known : Known (m .parameters .letter)
   pub wraps-simulate : {S S′ : Type 0} {d : HistoryRep S} {d′ : HistoryRep S′} {φ : S → S′} → Simulates d d′ φ
       → (h : S) (e : Bool) (a x : List ℕ) → m .wraps d′ (φ h) e a x ≡ mapResult φ (m .wraps d h e a x)
   pub unwraps-simulate : {S S′ : Type 0} {d : HistoryRep S} {d′ : HistoryRep S′} {φ : S → S′} → Simulates d d′ φ
@@ -214,9 +217,10 @@ module _ (p : Parameters) (s : ShortFrames p) {S : Type 0} (d : HistoryRep S) (g
 
 -- ---- the modes, with any frame bits
 
-pub siv-laws : (p : Parameters) → ShortFrames p → ModeLaws (siv p)
-siv-laws p s =
+pub siv-laws : (p : Parameters) → Known (p .letter) → ShortFrames p → ModeLaws (siv p)
+siv-laws p k s =
     record {
+      known = k;
       wraps-simulate = λ l. sivWrap-simulates p l;
       unwraps-simulate = λ l. sivUnwrap-simulates p l;
       undone = λ d. siv-undone p d;
@@ -226,9 +230,10 @@ siv-laws p s =
       unwraps-index = λ d g. sivUnwrap-index p s d g;
     }
 
-pub stream-laws : (p : Parameters) → ShortFrames p → ModeLaws (stream p)
-stream-laws p s =
+pub stream-laws : (p : Parameters) → Known (p .letter) → ShortFrames p → ModeLaws (stream p)
+stream-laws p k s =
     record {
+      known = k;
       wraps-simulate = λ l. streamWrap-simulates p l;
       unwraps-simulate = λ l. streamUnwrap-simulates p l;
       undone = λ d h e a x. stream-undone p d h e a x _;
@@ -239,7 +244,7 @@ stream-laws p s =
     }
 
 pub sanse-laws : ModeLaws sanse
-sanse-laws = siv-laws sanseParameters (record { ofA = λ e. omega arith; ofM = λ e. omega arith; ofT = λ e. omega arith })
+sanse-laws = siv-laws sanseParameters known-S (record { ofA = λ e. omega arith; ofM = λ e. omega arith; ofT = λ e. omega arith })
 
 pub sane-laws : ModeLaws sane
-sane-laws = stream-laws saneParameters (record { ofA = λ e. omega arith; ofM = λ e. omega arith; ofT = λ e. omega arith })
+sane-laws = stream-laws saneParameters known-N (record { ofA = λ e. omega arith; ofM = λ e. omega arith; ofT = λ e. omega arith })

@@ -89,7 +89,7 @@ numeral n =
 
 -- the header `letter,group,A length,M length,`
 unfoldable pub headerText : (letter group A M : ℕ) → List ℕ
-headerText letter group A M = letter ∷ 44 ∷ numeral group ++ 44 ∷ numeral A ++ 44 ∷ numeral M ++ 44 ∷ []
+headerText letter group A M = letter ∷ 44 ∷ (numeral group ++ (44 ∷ (numeral A ++ (44 ∷ (numeral M ++ (44 ∷ []))))))
 
 -- whether the bytes x are the header of one of the first n groups
 unfoldable pub ofGroup : (n letter A M : ℕ) (x : List ℕ) → Bool
