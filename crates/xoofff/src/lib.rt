@@ -55,7 +55,7 @@ pub fn key_mask(key: &[u8]) -> [u32; 12]
 }
 
 // The accumulator with one more block, to which this mask is added.
-fn add_block(acc: [u32; 12], mask: [u32; 12], b: [u32; 12]) -> [u32; 12]
+pub fn add_block(acc: [u32; 12], mask: [u32; 12], b: [u32; 12]) -> [u32; 12]
     ensures { λ r. ⌜ r ≡ sum acc (perm (sum b mask)) ⌝ }
 {
     let x = state::add(b, mask);
