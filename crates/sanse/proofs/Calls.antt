@@ -47,7 +47,7 @@ sums (w ∷ a) [] (y ∷ m) l ha gm t c eh eg et ec = absurd (omega (arith, l))
 sums (w ∷ a) (z ∷ x) [] l ha gm t c eh eg et ec = absurd (omega (arith, l))
 sums (w ∷ a) (z ∷ x) (y ∷ m) l ha gm t c eh eg et ec = omega arith
 
-count-most : (a x : ℕ) → a ≤ 16384 → x ≤ 16384 → sanseCount a x ≤ 1030
+count-most : (a x : ℕ) → a ≤ 16401 → x ≤ 16384 → sanseCount a x ≤ 1030
 unfolding sanseCount
 count-most zero zero h g = omega arith
 count-most (suc a) zero h g = omega arith
@@ -72,20 +72,20 @@ pub record Done (s : SessionState DeckState) (i : CallInput) (n : ℕ) (d : Deck
 
 module _ {s : SessionState DeckState} {i : CallInput} {n : ℕ} {d : DeckState} {ca : ℕ} {h : Compressed} {y : List ℕ} {cm : ℕ} {g : Compressed} {l : ℕ} {t : List ℕ} {q : ℕ} {u : List ℕ} {ct : ℕ} {o : List ℕ} {r : ℕ}
     (k : Done s i n d ca h y cm g l t q u ct o r) where
-  counted : h .count + g .count + q + r ≡ sanseCount (length (i .metadata)) (length (i .text))
+  counted : h .count + g .count + q + r ≡ sanseCount (length (metadataString i)) (length (i .text))
   counted =
-      sums (i .metadata) (i .text) y (k .sized) (h .count) (g .count) q r (begun-count short (k .begun))
+      sums (metadataString i) (i .text) y (k .sized) (h .count) (g .count) q r (begun-count short (k .begun))
       (text-count sanseParameters short (h .state) (s .toggle) y cm g (k .closesM) (k .isM)) (k .isTag .1 ∙ ap (outputCount 0) (k .fills))
       (k .streamed .1 ∙ ap (λ (j : ℕ). cond (isEmpty (i .text)) 0 (b j + outputCount 0 (length (i .text)))) (k .tagged))
 
   pub done-most : h .count + g .count + q + r ≤ 1030
   done-most =
       let w = within sanse s i (k .begun .checked) (k .begun .none) in
-      omega (arith, counted, count-most (length (i .metadata)) (length (i .text)) (w .metadata) (w .text))
+      omega (arith, counted, count-most (length (metadataString i)) (length (i .text)) (k .begun .long) (w .text))
 
   -- the history with A
   abbrev withMetadata : DeckState
-  withMetadata = withA sanseParameters incremental (s .history) (s .toggle) (i .metadata) (i .text)
+  withMetadata = withA sanseParameters incremental (s .history) (s .toggle) (metadataString i) (i .text)
 
   after-is : g .state ≡ withText sanseParameters incremental withMetadata (s .toggle) y
   after-is =
@@ -121,13 +121,13 @@ module _ {s : SessionState DeckState} {i : CallInput} {n : ℕ} {d : DeckState} 
 
   -- wrap adds the tag that it found to the history of the keystream
   pub wrap-worked : y ≡ i .text → u ≡ t → Worked sanse s i (wrapSteps sanse incremental s i) (g .state) (h .count + g .count + q + r) o t
-  unfolding sivWrap metadataString
+  unfolding sivWrap
   wrap-worked e f = worked e (f ∙ worked e f .tag)
 
   -- unwrap the one that arrived; the message is at the output buffer's start
   pub unwrap-worked : y ≡ take (length (i .text)) o → u ≡ i .tag
       → Worked sanse s i (unwrapSteps sanse incremental s i) (g .state) (h .count + g .count + q + r) o t
-  unfolding sivUnwrap metadataString
+  unfolding sivUnwrap
   unwrap-worked e f =
       worked (e ∙ added-taken (output (append withMetadata (framed (i .tag) (sanseParameters .frameT (s .toggle))))) 0 (i .text) (i .out) o (worked e f .body)) f
 

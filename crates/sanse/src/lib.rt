@@ -1,4 +1,5 @@
-// Xoofff-SANSE by value: start, wrap and unwrap over a session record. A refused call leaves the record and the buffers as they were.
+// Xoofff-SANSE by value: start, wrap and unwrap over a session record, without an envelope and for one, whose header is under the tag then
+// (document 02, request 7). A refused call leaves the record and the buffers as they were.
 ghost use mathlib.Core.Path.{_≡_};
 ghost use mathlib.Core.Bool.{false, true, cond};
 ghost use mathlib.Core.List.{[], _∷_};
@@ -10,10 +11,11 @@ ghost use Rattle.deck.specs.Deck.{run};
 ghost use Rattle.deck.specs.Incremental.{append, output};
 ghost use Rattle.deck.specs.Closing.{closingByte, closedBy};
 ghost use Rattle.modes.specs.Mode.{sanse, incremental, isEmpty};
-ghost use Rattle.modes.specs.Rules.{growth, firstCheck, written, wrapAt, unwrapAt, startAt};
+ghost use Rattle.modes.specs.Rules.{growth, firstCheck, written, wrapFrom5, unwrapFrom5, wrapAt, unwrapAt, startAt};
 ghost use Rattle.steps.specs.Steps.{outputCount};
-ghost use Rattle.sanse.specs.Session.{stateOf, startResult, callResult, handed};
+ghost use Rattle.sanse.specs.Session.{stateOf, startResult, callResult, handed, handedFor};
 use deck::DeckState;
+use envelope::LETTER_S;
 
 // A session: the accumulator, the mask at the index, the input index, e, and whether it is open.
 #[repr(C)]
@@ -57,11 +59,19 @@ fn closing_t(e: bool) -> u8
 
 // ---- parts of the calls
 
-// The first of the checks 5 to 9 that is met, or 0.
-fn check(opened: bool, index: u32, a: usize, m: usize, tag: usize, out: usize) -> u32
-    ensures { λ r. ⌜ r ≡ firstCheck opened (index + growth a m) 32 a m tag out ⌝ }
+// The first of the checks 5 to 9 that is met, or 0: 9 by the length of A's string, 6 by that of the metadata.
+fn check(
+    opened: bool,
+    index: u32,
+    string: usize,
+    a: usize,
+    m: usize,
+    tag: usize,
+    out: usize,
+) -> u32
+    ensures { λ r. ⌜ r ≡ firstCheck opened (index + growth string m) 32 a m tag out ⌝ }
 {
-    let after = steps::index_after(index, a, m);
+    let after = steps::index_after(index, string, m);
     steps::first_check(opened, after, 32, a, m, tag, out)
 }
 
@@ -146,6 +156,82 @@ pub fn start(key: &[u8]) -> CallResult
     }
 }
 
+// Wraps a message, where check 1 is not met: A is the header's bytes `head`, none for a call without an envelope, and then the metadata. Checks 5
+// to 9.
+pub fn wrap_string(
+    s: Session,
+    head: &[u8],
+    metadata: &[u8],
+    message: &[u8],
+    out: &mut [u8],
+    tag: &mut [u8],
+) -> CallResult
+    requires { ⌜ length (now head) ≤ 17 ⌝ }
+    ensures { λ r. ⌜ callResult r (now (out .exit)) (now (tag .exit))
+        ≡ wrapFrom5 sanse incremental (stateOf s) (handedFor (now (head .entry)) (now (metadata .entry)) (now (message .entry)) (now (out .entry)) (now (tag .entry))) ⌝ }
+{
+    let d = deck_of(s);
+    let e = s.toggle;
+    let number = check(
+        s.opened,
+        s.index,
+        head.len() + metadata.len(),
+        metadata.len(),
+        message.len(),
+        tag.len(),
+        out.len(),
+    );
+    if number != 0 {
+        return result(number, 0, d, e, s.opened);
+    }
+    let h = steps::append_metadata(d, head, metadata, message, closing_a(e));
+    let d1 = h.state;
+    let g = steps::append_text(d1, message, closing_m(e));
+    let d2 = g.state;
+    let t = steps::tag_of(d2, tag);
+    let c = add_body(d1, message, tag, closing_t(e), out);
+    result(0, h.count + g.count + t + c, d2, !e, s.opened)
+}
+
+// Unwraps a cryptogram, where check 1 is not met, with A as in `wrap_string`. Checks 5 to 9, and 11 for a tag that differs, whose 32 bytes are all
+// compared.
+pub fn unwrap_string(
+    s: Session,
+    head: &[u8],
+    metadata: &[u8],
+    cryptogram: &[u8],
+    tag: &[u8],
+    out: &mut [u8],
+) -> CallResult
+    requires { ⌜ length (now head) ≤ 17 ⌝ }
+    ensures { λ r. ⌜ callResult r (now (out .exit)) (now (tag .entry))
+        ≡ unwrapFrom5 sanse incremental (stateOf s) (handedFor (now (head .entry)) (now (metadata .entry)) (now (cryptogram .entry)) (now (out .entry)) (now (tag .entry))) ⌝ }
+{
+    let n = cryptogram.len();
+    let d = deck_of(s);
+    let e = s.toggle;
+    let a = metadata.len();
+    let number = check(s.opened, s.index, head.len() + a, a, n, tag.len(), out.len());
+    if number != 0 {
+        return result(number, 0, d, e, s.opened);
+    }
+    let h = steps::append_metadata(d, head, metadata, cryptogram, closing_a(e));
+    let d1 = h.state;
+    let c = add_body(d1, cryptogram, tag, closing_t(e), out);
+    let g = steps::append_text(d1, &out[..n], closing_m(e));
+    let d2 = g.state;
+    let mut found = [0u8; 32];
+    let t = steps::tag_of(d2, &mut found);
+    let count = h.count + g.count + t + c;
+    if steps::same_bytes(tag, &found) {
+        return result(0, count, d2, !e, s.opened);
+    }
+    steps::clear(out, n);
+    result(11, count, d, e, s.opened)
+}
+
+// ---- calls without an envelope
+
 // Wraps a message: the cryptogram goes to the start of `out`, and the tag fills `tag`, which has 32 bytes. Checks 5 to 9.
 pub fn wrap(
     s: Session,
@@ -157,26 +243,8 @@ pub fn wrap(
     ensures { λ r. ⌜ callResult r (now (out .exit)) (now (tag .exit))
         ≡ wrapAt sanse incremental (stateOf s) (handed (now (metadata .entry)) (now (message .entry)) (now (out .entry)) (now (tag .entry))) ⌝ }
 {
-    let d = deck_of(s);
-    let e = s.toggle;
-    let number = check(
-        s.opened,
-        s.index,
-        metadata.len(),
-        message.len(),
-        tag.len(),
-        out.len(),
-    );
-    if number != 0 {
-        return result(number, 0, d, e, s.opened);
-    }
-    let h = steps::append_metadata(d, metadata, message, closing_a(e));
-    let d1 = h.state;
-    let g = steps::append_text(d1, message, closing_m(e));
-    let d2 = g.state;
-    let t = steps::tag_of(d2, tag);
-    let c = add_body(d1, message, tag, closing_t(e), out);
-    result(0, h.count + g.count + t + c, d2, !e, s.opened)
+    let none = &metadata[..0];
+    wrap_string(s, none, metadata, message, out, tag)
 }
 
 // Unwraps a cryptogram: the message goes to the start of `out`. Checks 5 to 9, and 11 for a tag that differs, whose 32 bytes are all compared.
@@ -190,24 +258,48 @@ pub fn unwrap(
     ensures { λ r. ⌜ callResult r (now (out .exit)) (now (tag .entry))
         ≡ unwrapAt sanse incremental (stateOf s) (handed (now (metadata .entry)) (now (cryptogram .entry)) (now (out .entry)) (now (tag .entry))) ⌝ }
 {
-    let n = cryptogram.len();
-    let d = deck_of(s);
-    let e = s.toggle;
-    let number = check(s.opened, s.index, metadata.len(), n, tag.len(), out.len());
-    if number != 0 {
-        return result(number, 0, d, e, s.opened);
+    let none = &metadata[..0];
+    unwrap_string(s, none, metadata, cryptogram, tag, out)
+}
+
+// ---- calls for an envelope
+
+// Wraps a message for the envelope with this header, whose bytes go before the metadata under the tag. Check 1 where the header is not the layout's
+// with letter S and the lengths of metadata and message, and then as `wrap`.
+pub fn wrap_envelope(
+    s: Session,
+    header: &[u8],
+    metadata: &[u8],
+    message: &[u8],
+    out: &mut [u8],
+    tag: &mut [u8],
+) -> CallResult
+    ensures { λ r. ⌜ callResult r (now (out .exit)) (now (tag .exit))
+        ≡ wrapAt sanse incremental (stateOf s) (handedFor (now (header .entry)) (now (metadata .entry)) (now (message .entry)) (now (out .entry)) (now (tag .entry))) ⌝ }
+{
+    if !headers::fits(LETTER_S, header, metadata.len(), message.len()) {
+        let d = deck_of(s);
+        return result(1, 0, d, s.toggle, s.opened);
     }
-    let h = steps::append_metadata(d, metadata, cryptogram, closing_a(e));
-    let d1 = h.state;
-    let c = add_body(d1, cryptogram, tag, closing_t(e), out);
-    let g = steps::append_text(d1, &out[..n], closing_m(e));
-    let d2 = g.state;
-    let mut found = [0u8; 32];
-    let t = steps::tag_of(d2, &mut found);
-    let count = h.count + g.count + t + c;
-    if steps::same_bytes(tag, &found) {
-        return result(0, count, d2, !e, s.opened);
+    wrap_string(s, header, metadata, message, out, tag)
+}
+
+// Unwraps the cryptogram of the envelope with this header. Check 1 where the header is not the layout's with letter S and the lengths of metadata
+// and cryptogram, and then as `unwrap`.
+pub fn unwrap_envelope(
+    s: Session,
+    header: &[u8],
+    metadata: &[u8],
+    cryptogram: &[u8],
+    tag: &[u8],
+    out: &mut [u8],
+) -> CallResult
+    ensures { λ r. ⌜ callResult r (now (out .exit)) (now (tag .entry))
+        ≡ unwrapAt sanse incremental (stateOf s) (handedFor (now (header .entry)) (now (metadata .entry)) (now (cryptogram .entry)) (now (out .entry)) (now (tag .entry))) ⌝ }
+{
+    if !headers::fits(LETTER_S, header, metadata.len(), cryptogram.len()) {
+        let d = deck_of(s);
+        return result(1, 0, d, s.toggle, s.opened);
     }
-    steps::clear(out, n);
-    result(11, count, d, e, s.opened)
+    unwrap_string(s, header, metadata, cryptogram, tag, out)
 }

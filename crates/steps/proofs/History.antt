@@ -1,8 +1,8 @@
 -- Laws of the first check and of the strings that enter the history, over plain values. Assumes nothing.
-use mathlib.Core.Path.{_≡_, refl}
+use mathlib.Core.Path.{_≡_, refl, sym, ap, _∙_}
 use mathlib.Core.Logic.{_≢_, _⊎_, inl, inr}
 use mathlib.Core.Bool.{Bool, true, false, not, _||_, cond}
-use mathlib.Core.List.{List, [], _∷_}
+use mathlib.Core.List.{List, [], _∷_, _++_}
 use Prim.Native.Nat.{ℕ, zero, suc, _+_, _/_, _≤_}
 use native.Mathlib.Omega.{arith}
 use lib.Dec.{ltb, eqb}
@@ -10,6 +10,7 @@ use lib.ListN.{length}
 use borrow.Author.Tests.{ltb-false, eqb-true}
 use Rattle.deck.specs.declared.DeckState.{DeckState}
 use Rattle.deck.specs.Strings.{Str}
+use Rattle.deck.specs.Closing.{closedBy}
 use Rattle.xoofff.specs.declared.Compressed.{Compressed}
 use Rattle.xoofff.specs.Leaves.{compressed}
 use Rattle.modes.specs.Mode.{isEmpty}
@@ -78,6 +79,20 @@ pub skipped-a : (d : DeckState) (a m : List ℕ) (s : Str) → length a ≡ 0 �
 skipped-a d [] [] s h g = absurd (g refl)
 skipped-a d [] (y ∷ m) s h g = refl
 skipped-a d (x ∷ a) m s h g = absurd (omega (arith, h))
+
+-- A with a header before the metadata, and with none
+pub headed-a : (d : DeckState) (r : Compressed) (head a m : List ℕ) (s : Str) → length head ≢ 0 → r ≡ compressed d s
+    → r ≡ compressedIf (not (isEmpty (head ++ a)) || isEmpty m) d s
+headed-a d r [] a m s h e = absurd (h refl)
+headed-a d r (x ∷ head) a m s h e = e
+
+no-head : (head a : List ℕ) → length head ≡ 0 → head ++ a ≡ a
+no-head [] a h = refl
+no-head (x ∷ head) a h = absurd (omega (arith, h))
+
+pub bare-a : (d : DeckState) (r : Compressed) (head a m : List ℕ) (c : ℕ) → length head ≡ 0
+    → r ≡ compressedIf (not (isEmpty a) || isEmpty m) d (closedBy a c) → r ≡ compressedIf (not (isEmpty (head ++ a)) || isEmpty m) d (closedBy (head ++ a) c)
+bare-a d r head a m c h e = e ∙ sym (ap (λ (x : List ℕ). compressedIf (not (isEmpty x) || isEmpty m) d (closedBy x c)) (no-head head a h))
 
 pub appended-text : (d : DeckState) (r : Compressed) (m : List ℕ) (s : Str) → length m ≢ 0 → r ≡ compressed d s → r ≡ compressedIf (not (isEmpty m)) d s
 appended-text d r [] s h e = absurd (h refl)

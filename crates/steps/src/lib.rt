@@ -2,6 +2,7 @@
 // mode's closing bytes, the length of its tag and the offset of its keystream are parameters.
 ghost use mathlib.Core.Path.{_≡_};
 ghost use mathlib.Core.Bool.{not, _||_};
+ghost use mathlib.Core.List.{_++_};
 ghost use Prim.Native.Nat.{_+_, _≤_, _<_};
 ghost use lib.ListN.{length, replicate};
 ghost use Rattle.word.specs.Lists.{sum};
@@ -72,11 +73,16 @@ pub fn first_check(
 
 // ---- the history
 
-// The history gains A, with this closing byte, if A is not empty or the text is.
-pub fn append_metadata(d: DeckState, a: &[u8], m: &[u8], closing: u8) -> Compressed
-    requires { ⌜ (0 < closing) × (length (now a) ≤ 16401) × (d .index ≤ 1048576) ⌝ }
-    ensures { λ r. ⌜ r ≡ compressedIf (not (isEmpty (now (a .entry))) || isEmpty (now (m .entry))) d (closedBy (now (a .entry)) closing) ⌝ }
+// The history gains A, which is the header's bytes `head` and then the metadata `a`, with this closing byte, if A is not empty or the text is. The
+// metadata is read where it stands.
+pub fn append_metadata(d: DeckState, head: &[u8], a: &[u8], m: &[u8], closing: u8) -> Compressed
+    requires { ⌜ (0 < closing) × (length (now head) ≤ 17) × (length (now a) ≤ 16384) × (d .index ≤ 1048576) ⌝ }
+    ensures { λ r. ⌜ r ≡ compressedIf (not (isEmpty (now (head .entry) ++ now (a .entry))) || isEmpty (now (m .entry))) d
+        (closedBy (now (head .entry) ++ now (a .entry)) closing) ⌝ }
 {
+    if head.len() != 0 {
+        return joined::compress_joined(d, head, a, closing);
+    }
     if a.len() != 0 {
         return xoofff::compress(d, a, closing);
     }

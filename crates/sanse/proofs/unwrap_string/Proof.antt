@@ -1,4 +1,4 @@
--- `sanse::unwrap` meets its contract. Assumes nothing.
+-- `sanse::unwrap_string` meets its contract. Assumes nothing.
 use mathlib.Core.Path.{_≡_, refl, sym, ap, _∙_}
 use Prim.Native.Nat.{_≤_}
 use native.Mathlib.Omega.{arith}
@@ -11,10 +11,10 @@ use Rattle.modes.specs.Call.{CallInput}
 use Rattle.modes.specs.Mode.{sanse, sanseParameters}
 use Rattle.steps.proofs.Calls.{Begun, begins, begun-index, Within, within, unwrap-refused, unwrap-accepted, unwrap-wrong}
 use Rattle.sanse.specs.declared.CallResult.{CallResult}
-use Rattle.sanse.specs.Session.{stateOf, callResult, handed}
+use Rattle.sanse.specs.Session.{stateOf, callResult, handedFor}
 use Rattle.sanse.proofs.Calls.{short, Done, done-most, unwrap-worked}
-use Rattle.sanse.proofs.unwrap.Statement.{statement}
-use Rattle.sanse.proofs.unwrap.Tie as tie
+use Rattle.sanse.proofs.unwrap_string.Statement.{statement}
+use Rattle.sanse.proofs.unwrap_string.Tie as tie
 
 -- ---- from a place back to an earlier one: the entry; where no check was met; the history with A; the message; the history with it; the tag
 
@@ -40,7 +40,7 @@ tag c = c .before .before .before .before .before
 
 -- what the call was handed beside the record
 abbrev input : tie.After-check → CallInput
-input c = let a = entry c .args in handed (now (a .metadata)) (now (a .cryptogram)) (now (a .out)) (now (a .tag))
+input c = let a = entry c .args in handedFor (now (a .head)) (now (a .metadata)) (now (a .cryptogram)) (now (a .out)) (now (a .tag))
 
 limits : (c : tie.Else1) → Within sanse (stateOf (entry (c .before) .args .s)) (input (c .before))
 limits c = within sanse (stateOf (entry (c .before) .args .s)) (input (c .before)) (c .before .check .ensures) (c .if1 .left)
@@ -134,8 +134,8 @@ returns-3 c =
     ∙ unwrap-wrong sanse (stateOf (entry q .args .s)) (input q) (unwrap-worked (done t) refl refl) (sym (l .before .same-bytes .ensures) ∙ l .if2 .left) (z .last .0)
     (z .ensures) (q .before .deck-of .result) (q .before .deck-of .ensures)
 
-pub unwrap-spec : {M : Type 1} → statement M
-unwrap-spec =
+pub unwrap-string-spec : {M : Type 1} → statement M
+unwrap-string-spec =
     tie.close
     (tie.spec (λ c κs. search needs) (λ c κs. search needs) (λ c κs. search needs) returns (λ c κs. search needs) append-metadata-requires (λ c κs. search needs)
     add-body-requires (λ c. holds (c .before .before)) (λ c. sym (taken (c .before .before .before))) (λ c κs. search needs) append-text-requires (λ c. search needs) (λ c κs. search needs)

@@ -1,4 +1,4 @@
--- `sanse::wrap` meets its contract. Assumes nothing.
+-- `sanse::wrap_string` meets its contract. Assumes nothing.
 use mathlib.Core.Path.{refl, ap, _∙_}
 use native.Mathlib.Omega.{arith}
 use lib.ListN.{length}
@@ -9,10 +9,10 @@ use Rattle.modes.specs.Call.{CallInput}
 use Rattle.modes.specs.Mode.{sanse, sanseParameters}
 use Rattle.steps.proofs.Calls.{Begun, begins, begun-index, Within, within, wrap-refused, wrap-accepted}
 use Rattle.sanse.specs.declared.CallResult.{CallResult}
-use Rattle.sanse.specs.Session.{stateOf, callResult, handed}
+use Rattle.sanse.specs.Session.{stateOf, callResult, handedFor}
 use Rattle.sanse.proofs.Calls.{short, Done, done-most, wrap-worked}
-use Rattle.sanse.proofs.wrap.Statement.{statement}
-use Rattle.sanse.proofs.wrap.Tie as tie
+use Rattle.sanse.proofs.wrap_string.Statement.{statement}
+use Rattle.sanse.proofs.wrap_string.Tie as tie
 
 -- ---- from a place back to an earlier one: the entry; where no check was met; the history with A, with M; the tag; its closing byte
 
@@ -35,7 +35,7 @@ tag c = c .before .before .before .before
 
 -- what the call was handed beside the record
 abbrev input : tie.After-check → CallInput
-input c = let a = entry c .args in handed (now (a .metadata)) (now (a .message)) (now (a .out)) (now (a .tag))
+input c = let a = entry c .args in handedFor (now (a .head)) (now (a .metadata)) (now (a .message)) (now (a .out)) (now (a .tag))
 
 limits : (c : tie.Else1) → Within sanse (stateOf (entry (c .before) .args .s)) (input (c .before))
 limits c = within sanse (stateOf (entry (c .before) .args .s)) (input (c .before)) (c .before .check .ensures) (c .if1 .left)
@@ -112,8 +112,8 @@ returns-2 c =
     ap (λ (r : CallResult). callResult r (z .add-body .last .1 .1 .1 .1 .0) (t .tag-of .last .1 .0)) (c .result2 .ensures)
     ∙ wrap-accepted sanse (stateOf (entry q .args .s)) (input q) (wrap-worked (done z) refl refl)
 
-pub wrap-spec : {M : Type 1} → statement M
-wrap-spec =
+pub wrap-string-spec : {M : Type 1} → statement M
+wrap-string-spec =
     tie.close
     (tie.spec (λ c κs. search needs) (λ c κs. search needs) (λ c κs. search needs) returns (λ c κs. search needs) append-metadata-requires (λ c κs. search needs)
     append-text-requires tag-of-requires (λ c κs. search needs) add-body-requires (λ c. omega (arith, done-most (done (c .before .before .before .before))))
