@@ -6,8 +6,8 @@ use native.Mathlib.Omega.{arith}
 use lib.ListN.{length, take, drop}
 use lib.Seq.{take-at}
 use Rattle.decimal.specs.Buffer.{writtenAt}
-use Rattle.envelope.specs.Layout.{envelope, IsEnvelope}
-use Rattle.envelope.specs.Read.{anEnvelope, readEnvelope, metadataPart, cryptogramPart, tagPart}
+use Rattle.envelope.specs.Layout.{header, envelope, IsEnvelope}
+use Rattle.envelope.specs.Read.{anEnvelope, readEnvelope, headerPart, metadataPart, cryptogramPart, tagPart}
 use Rattle.envelope.proofs.Layouts.{envelope-length}
 use Rattle.envelope.proofs.Reading.{envelope-complete, envelope-sound}
 use Rattle.envelope.proofs.Spelling.{spelled, place-is, front-is}
@@ -16,10 +16,11 @@ use Rattle.envelope_write.specs.Checks.{writable}
 use Rattle.envelope_write.specs.declared.WriteResult.{WriteResult}
 use Rattle.envelope_write.proofs.Writing.{accepted, stop-given, done}
 
--- Reading the bytes s gives this letter, this group, these three parts, and this place
+-- Reading the bytes s gives this letter, this group, these three parts, this place, and the header that goes with them
 abbrev pub ReadsAs : List ℕ → (letter group place : ℕ) (metadata cryptogram tag : List ℕ) → Type 0
 ReadsAs s letter group place metadata cryptogram tag =
     (readEnvelope s ≡ anEnvelope letter group place) × (metadataPart s ≡ metadata) × (cryptogramPart s ≡ cryptogram) × (tagPart s ≡ tag)
+    × (headerPart s ≡ header letter group (length metadata) (length cryptogram))
 
 -- what is known of a call that was not refused: its answer, its buffer, and that the bytes written are an envelope
 module _ (letter group : ℕ) (metadata cryptogram tag buffer : List ℕ) (e : writeAnswer letter group metadata cryptogram tag buffer .number ≡ 0) where
