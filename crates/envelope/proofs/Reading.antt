@@ -10,7 +10,7 @@ use lib.Seq.{drop-at, take-at, length-take-le}
 use borrow.Author.Tests.{lt-ltb, le-ltb}
 use Rattle.decimal.proofs.Laws.{lt-or-le}
 use Rattle.envelope.specs.Layout.{tagLength, header, envelope, Begins, IsEnvelope}
-use Rattle.envelope.specs.Read.{noHeader, readHeader, noParts, partsOf, readParts, anEnvelope, answerOf, readEnvelope, between, metadataPart, cryptogramPart, tagPart}
+use Rattle.envelope.specs.Read.{noHeader, readHeader, noParts, partsOf, readParts, anEnvelope, answerOf, readEnvelope, between, headerPart, metadataPart, cryptogramPart, tagPart}
 use Rattle.envelope.specs.Checks.{ReadStop, bad-header, too-few, readable}
 use Rattle.envelope.specs.declared.Header.{Header}
 use Rattle.envelope.specs.declared.Parts.{Parts}
@@ -74,20 +74,20 @@ unfolding readEnvelope
 read-number-exact s n =
     ((λ e. subst (ReadStop s) (sym (parts-number s (some-stop s .0) (some-stop s .1)) ∙ e) (some-stop s .1)), parts-number s n)
 
--- only the number is given: three empty parts, a zero byte for the letter, group 0 and place 0; and where places are given, these are 0
+-- only the number is given: empty parts, the header's bytes too, a zero byte for the letter, group 0 and place 0; and where places are given, these are 0
 abbrev pub OnlyNumber : List ℕ → Type 0
 OnlyNumber s =
     (readEnvelope s ≡ record { number = readEnvelope s .number; letter = 0; group = 0; place = 0 })
     × (readParts s ≡ record { number = readParts s .number; letter = 0; group = 0; metadata = 0; cryptogram = 0; tag = 0; place = 0 })
-    × (metadataPart s ≡ []) × (cryptogramPart s ≡ []) × (tagPart s ≡ [])
+    × (metadataPart s ≡ []) × (cryptogramPart s ≡ []) × (tagPart s ≡ []) × (headerPart s ≡ [])
 
 -- A refusal gives nothing but its number.
 pub read-refused : (s : List ℕ) → (readEnvelope s .number ≡ 0 → ⊥) → OnlyNumber s
-unfolding readEnvelope metadataPart cryptogramPart tagPart
+unfolding readEnvelope headerPart metadataPart cryptogramPart tagPart
 read-refused s stopped = go (some-stop s .0) (some-stop s .1)
   where
     empty : (n : ℕ) → readParts s ≡ noParts n → OnlyNumber s
-    empty n e = (simp e, simp e, simp e, simp e, simp e)
+    empty n e = (simp e, simp e, simp e, simp e, simp e, simp e)
 
     go : (n : ℕ) → ReadStop s n → OnlyNumber s
     go n (bad-header none) = empty 1 (parts-bad s none)
@@ -120,11 +120,12 @@ between-at : (before run after : List ℕ) (i j : ℕ) → length before ≡ i �
 between-at before run after i j is-i is-j =
     ap (take (j - i)) (drop-at before (run ++ after) i is-i) ∙ take-at run after (j - i) (omega arith)
 
--- An envelope that stands there is read: its letter, its group, its parts, and its length as the place after it. Whatever follows it is free.
+-- An envelope that stands there is read: its letter, its group, its parts, its length as the place after it, and the header's bytes. Whatever follows
+-- it is free.
 pub envelope-complete : (s : List ℕ) (letter group : ℕ) (metadata cryptogram tag rest : List ℕ) → IsEnvelope s letter group metadata cryptogram tag rest
     → (readEnvelope s ≡ anEnvelope letter group (length (envelope letter group metadata cryptogram tag)))
-    × (metadataPart s ≡ metadata) × (cryptogramPart s ≡ cryptogram) × (tagPart s ≡ tag)
-unfolding readEnvelope metadataPart cryptogramPart tagPart envelope
+    × (metadataPart s ≡ metadata) × (cryptogramPart s ≡ cryptogram) × (tagPart s ≡ tag) × (headerPart s ≡ header letter group (length metadata) (length cryptogram))
+unfolding readEnvelope headerPart metadataPart cryptogramPart tagPart envelope
 envelope-complete s letter group metadata cryptogram tag rest h =
     let head = header letter group (length metadata) (length cryptogram) in
     let whole : s ≡ head ++ (metadata ++ (cryptogram ++ (tag ++ rest))) = h .bytes ∙ simp append-assoc in
@@ -146,6 +147,9 @@ envelope-complete s letter group metadata cryptogram tag rest h =
           ∙ between-at ((head ++ metadata) ++ cryptogram) tag rest (length head + length metadata + length cryptogram)
           (length head + (length metadata + length cryptogram + tagLength letter))
           (simp length-append) (omega (arith, h .tag-fits)),
+      ap (λ (p : Parts). between 0 (p .metadata) s) found
+          ∙ ap (between 0 (length head)) whole
+          ∙ between-at [] head (metadata ++ (cryptogram ++ (tag ++ rest))) 0 (length head) refl (omega arith),
     )
 
 -- enough bytes behind a header are the three parts and a rest

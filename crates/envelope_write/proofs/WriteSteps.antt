@@ -8,53 +8,65 @@ use lib.ListN.{length, set, length-append}
 use lib.Dec.{eqb, ltb}
 use borrow.Author.Tests.{lt-ltb, le-ltb, eq-eqb, ne-eqb}
 use Rattle.decimal.specs.Buffer.{writtenAt}
-use Rattle.decimal.proofs.Laws.{decimal-within}
 use Rattle.decimal.proofs.Buffers.{writtenAt-join, writtenAt-pair}
-use Rattle.envelope.specs.Layout.{comma, maxGroup, maxLength, tagLength, Known, field, header, envelope}
-use Rattle.envelope.proofs.Layouts.{header-length, field-length, tag-bound}
-use Rattle.envelope_write.specs.Write.{writeNumber}
+use Rattle.envelope.specs.Layout.{comma, maxGroup, maxLength, tagLength, Known, field, header, envelope, InRange}
+use Rattle.envelope.proofs.Layouts.{header-length, header-longest, field-length, tag-bound}
+use Rattle.envelope_write.specs.Write.{rangeThen, writeNumber, headerNumber}
 
-module _ (letter group alen mlen tlen room : ℕ) where
-  pub number-1 : tagLength letter ≡ 0 → writeNumber letter group alen mlen tlen room ≡ 1
+module _ (letter group alen mlen n : ℕ) where
+  -- the checks of letter, group and lengths; n is what comes after them
+  pub range-1 : tagLength letter ≡ 0 → rangeThen letter group alen mlen n ≡ 1
+  unfolding rangeThen
+  range-1 h = simp (eq-eqb (tagLength letter) 0 h)
+
+  pub range-3 : Known letter → maxGroup < group → rangeThen letter group alen mlen n ≡ 3
+  unfolding rangeThen
+  range-3 l h = simp (ne-eqb (tagLength letter) 0 l, lt-ltb maxGroup group h)
+
+  pub range-6-metadata : Known letter → group ≤ maxGroup → maxLength < alen → rangeThen letter group alen mlen n ≡ 6
+  unfolding rangeThen
+  range-6-metadata l g h = simp (ne-eqb (tagLength letter) 0 l, le-ltb maxGroup group g, lt-ltb maxLength alen h)
+
+  pub range-6-message : Known letter → group ≤ maxGroup → alen ≤ maxLength → maxLength < mlen → rangeThen letter group alen mlen n ≡ 6
+  unfolding rangeThen
+  range-6-message l g a h =
+      simp (ne-eqb (tagLength letter) 0 l, le-ltb maxGroup group g, le-ltb maxLength alen a, lt-ltb maxLength mlen h)
+
+  pub range-passed : InRange letter group alen mlen → rangeThen letter group alen mlen n ≡ n
+  unfolding rangeThen
+  range-passed r =
+      simp (ne-eqb (tagLength letter) 0 (r .known), le-ltb maxGroup group (r .group-fits), le-ltb maxLength alen (r .metadata-fits), le-ltb maxLength mlen (r .message-fits))
+
+module _ (letter group alen mlen tlen room : ℕ) (r : InRange letter group alen mlen) where
+  -- the tests up to the tag's
+  to-tag : writeNumber letter group alen mlen tlen room
+      ≡ cond (eqb tlen (tagLength letter)) (cond (ltb room (length (header letter group alen mlen) + alen + mlen + tlen)) 8 0) 7
   unfolding writeNumber
-  number-1 h = simp (eq-eqb (tagLength letter) 0 h)
+  to-tag = range-passed letter group alen mlen _ r
 
-  module _ (l : Known letter) where
-    pub number-3 : maxGroup < group → writeNumber letter group alen mlen tlen room ≡ 3
-    unfolding writeNumber
-    number-3 h = simp (ne-eqb (tagLength letter) 0 l, lt-ltb maxGroup group h)
+  pub number-7 : (tlen ≡ tagLength letter → ⊥) → writeNumber letter group alen mlen tlen room ≡ 7
+  number-7 h = to-tag ∙ simp (ne-eqb tlen (tagLength letter) h)
 
-    module _ (g : group ≤ maxGroup) where
-      pub number-6-metadata : maxLength < alen → writeNumber letter group alen mlen tlen room ≡ 6
-      unfolding writeNumber
-      number-6-metadata h = simp (ne-eqb (tagLength letter) 0 l, le-ltb maxGroup group g, lt-ltb maxLength alen h)
+  -- n is the header's length
+  module _ (t : tlen ≡ tagLength letter) (n : ℕ) (is-n : n ≡ length (header letter group alen mlen)) where
+    pub sizes : n + alen + mlen + tlen ≤ 32817
+    sizes = omega (arith, tag-bound letter, header-longest r, r .metadata-fits, r .message-fits)
 
-      module _ (a : alen ≤ maxLength) where
-        pub number-6-message : maxLength < mlen → writeNumber letter group alen mlen tlen room ≡ 6
-        unfolding writeNumber
-        number-6-message h = simp (ne-eqb (tagLength letter) 0 l, le-ltb maxGroup group g, le-ltb maxLength alen a, lt-ltb maxLength mlen h)
+    pub number-8 : room < n + alen + mlen + tlen → writeNumber letter group alen mlen tlen room ≡ 8
+    number-8 h = to-tag ∙ simp (eq-eqb tlen (tagLength letter) t, sym is-n, lt-ltb room (n + alen + mlen + tlen) h)
 
-        module _ (m : mlen ≤ maxLength) where
-          -- the tests up to the tag's
-          to-tag : writeNumber letter group alen mlen tlen room
-              ≡ cond (eqb tlen (tagLength letter)) (cond (ltb room (length (header letter group alen mlen) + alen + mlen + tlen)) 8 0) 7
-          unfolding writeNumber
-          to-tag = simp (ne-eqb (tagLength letter) 0 l, le-ltb maxGroup group g, le-ltb maxLength alen a, le-ltb maxLength mlen m)
+    pub number-0 : n + alen + mlen + tlen ≤ room → writeNumber letter group alen mlen tlen room ≡ 0
+    number-0 h = to-tag ∙ simp (eq-eqb tlen (tagLength letter) t, sym is-n, le-ltb room (n + alen + mlen + tlen) h)
 
-          pub number-7 : (tlen ≡ tagLength letter → ⊥) → writeNumber letter group alen mlen tlen room ≡ 7
-          number-7 h = to-tag ∙ simp (ne-eqb tlen (tagLength letter) h)
+-- the same for a header alone, whose length is n
+module _ (letter group alen mlen room : ℕ) (r : InRange letter group alen mlen) (n : ℕ) (is-n : n ≡ length (header letter group alen mlen)) where
+  pub header-8 : room < n → headerNumber letter group alen mlen room ≡ 8
+  unfolding headerNumber
+  header-8 h = range-passed letter group alen mlen _ r ∙ simp (sym is-n, lt-ltb room n h)
 
-          -- n is the header's length
-          module _ (t : tlen ≡ tagLength letter) (n : ℕ) (is-n : n ≡ length (header letter group alen mlen)) where
-            pub sizes : n + alen + mlen + tlen ≤ 32817
-            sizes =
-                omega (arith, tag-bound letter, header-length letter group alen mlen, decimal-within 1 group (omega arith), decimal-within 4 alen (omega arith), decimal-within 4 mlen (omega arith))
-
-            pub number-8 : room < n + alen + mlen + tlen → writeNumber letter group alen mlen tlen room ≡ 8
-            number-8 h = to-tag ∙ simp (eq-eqb tlen (tagLength letter) t, sym is-n, lt-ltb room (n + alen + mlen + tlen) h)
-
-            pub number-0 : n + alen + mlen + tlen ≤ room → writeNumber letter group alen mlen tlen room ≡ 0
-            number-0 h = to-tag ∙ simp (eq-eqb tlen (tagLength letter) t, sym is-n, le-ltb room (n + alen + mlen + tlen) h)
+  pub header-0 : n ≤ room → headerNumber letter group alen mlen room ≡ 0
+  unfolding headerNumber
+  header-0 h = range-passed letter group alen mlen _ r ∙ simp (sym is-n, le-ltb room n h)
 
 -- letter and comma, and then the three numbers, one behind the other, are the header
 pub header-written : (letter group alen mlen p q : ℕ) (out o₁ o₂ o₃ : List ℕ) → length (header letter group alen mlen) ≤ length out

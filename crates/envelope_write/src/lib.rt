@@ -1,5 +1,5 @@
-// Writes envelopes (document 01, "Envelope", and document 02, request 2) to the start of a lent buffer. Each answer has a number of document 01's "What stops a call", 0
-// where nothing stopped it. specs/Write.antt says what is written; that reading gives it back is shown in proofs/RoundTrip.antt.
+// Writes envelopes (document 01, "Envelope", and document 02, request 2), and headers alone (request 7), to the start of a lent buffer. Each answer has
+// a number of document 01's "What stops a call", 0 where nothing stopped it. specs/Write.antt says what is written; that reading gives it back is shown in proofs/RoundTrip.antt.
 use decimal::decimal_len;
 use decimal::write_decimal;
 use envelope::COMMA;
@@ -11,7 +11,7 @@ ghost use Prim.Native.Nat.{ℕ, _+_, _≤_};
 ghost use lib.ListN.{length};
 ghost use Rattle.decimal.specs.Buffer.{writtenAt};
 ghost use Rattle.envelope.specs.Layout.{field, header};
-ghost use Rattle.envelope_write.specs.Write.{writeNumber, writeAnswer, writeBuffer};
+ghost use Rattle.envelope_write.specs.Write.{rangeThen, writeNumber, headerNumber, writeAnswer, writeBuffer, headerAnswer, headerBuffer};
 
 // What writing answers: the number, and how many bytes were written.
 #[repr(C)]
@@ -51,7 +51,7 @@ pub fn header_len(group: u32, alen: u32, mlen: u32) -> usize
 }
 
 // Writes a header to the start of a buffer that has room for it, and gives the place after it.
-fn write_header(letter: u8, group: u32, alen: u32, mlen: u32, out: &mut [u8]) -> usize
+fn put_header(letter: u8, group: u32, alen: u32, mlen: u32, out: &mut [u8]) -> usize
     requires { ⌜ length (header letter group alen mlen) ≤ length (now out) ⌝ }
     ensures { λ r. ⌜ (r ≡ length (header letter group alen mlen)) × (now (out .exit) ≡ writtenAt (now (out .entry)) 0 (header letter group alen mlen)) ⌝ }
 {
@@ -62,12 +62,11 @@ fn write_header(letter: u8, group: u32, alen: u32, mlen: u32, out: &mut [u8]) ->
     write_field(mlen, out, q)
 }
 
-// The first check that writing meets, by the lengths of metadata, cryptogram, tag and buffer, or 0.
-fn write_number(letter: u8, group: u32, alen: usize, mlen: usize, tlen: usize, room: usize) -> u32
-    ensures { λ r. ⌜ r ≡ writeNumber letter group alen mlen tlen room ⌝ }
+// The first of the checks 1, 3 and 6 that letter, group and lengths meet, or 0.
+fn range_number(letter: u8, group: u32, alen: usize, mlen: usize) -> u32
+    ensures { λ r. ⌜ r ≡ rangeThen letter group alen mlen 0 ⌝ }
 {
-    let known = tag_len(letter);
-    if known == 0 {
+    if tag_len(letter) == 0 {
         return 1;
     }
     if MAX_GROUP < group {
@@ -79,13 +78,59 @@ fn write_number(letter: u8, group: u32, alen: usize, mlen: usize, tlen: usize, r
     if (MAX_LENGTH as usize) < mlen {
         return 6;
     }
-    if tlen != known {
+    0
+}
+
+// The first check that writing an envelope meets, by the lengths of metadata, cryptogram, tag and buffer, or 0.
+fn write_number(letter: u8, group: u32, alen: usize, mlen: usize, tlen: usize, room: usize) -> u32
+    ensures { λ r. ⌜ r ≡ writeNumber letter group alen mlen tlen room ⌝ }
+{
+    let range = range_number(letter, group, alen, mlen);
+    if range != 0 {
+        return range;
+    }
+    if tlen != tag_len(letter) {
         return 7;
     }
     if room < header_len(group, alen as u32, mlen as u32) + alen + mlen + tlen {
         return 8;
     }
     0
+}
+
+// The first check that writing a header alone meets, or 0.
+fn header_number(letter: u8, group: u32, alen: usize, mlen: usize, room: usize) -> u32
+    ensures { λ r. ⌜ r ≡ headerNumber letter group alen mlen room ⌝ }
+{
+    let range = range_number(letter, group, alen, mlen);
+    if range != 0 {
+        return range;
+    }
+    if room < header_len(group, alen as u32, mlen as u32) {
+        return 8;
+    }
+    0
+}
+
+// The answer for a call that is refused by a number: no bytes were written.
+fn refused(number: u32) -> WriteResult
+    ensures { λ r. ⌜ r ≡ record { number = number; len = 0 } ⌝ }
+{
+    WriteResult { number, len: 0 }
+}
+
+// Writes a header alone to the start of a buffer and gives how many bytes that are; the rest of the buffer is kept. Refusals: 1 (the letter is neither S
+// nor N), 3 (the group), 6 (a length is above 16,384), 8 (the buffer is shorter than the header); then the buffer is unaltered.
+pub fn write_header(letter: u8, group: u32, alen: usize, mlen: usize, out: &mut [u8]) -> WriteResult
+    ensures { λ r. ⌜ (r ≡ headerAnswer letter group alen mlen (now (out .entry)))
+        × (now (out .exit) ≡ headerBuffer letter group alen mlen (now (out .entry))) ⌝ }
+{
+    let number = header_number(letter, group, alen, mlen, out.len());
+    if number != 0 {
+        return refused(number);
+    }
+    let n = put_header(letter, group, alen as u32, mlen as u32, out);
+    WriteResult { number: 0, len: n }
 }
 
 // Writes an envelope to the start of a buffer and gives how many bytes that are; the rest of the buffer is kept. Refusals: 1 (the letter is
@@ -111,9 +156,9 @@ pub fn write_envelope(
         out.len(),
     );
     if number != 0 {
-        return WriteResult { number, len: 0 };
+        return refused(number);
     }
-    let p = write_header(
+    let p = put_header(
         letter,
         group,
         metadata.len() as u32,

@@ -13,10 +13,12 @@ use borrow.Author.Tests.{eq-eqb, eqb-true}
 use Rattle.decimal.specs.Decimal.{decimal, decimalWithin}
 use Rattle.decimal.proofs.Laws.{decimal-some}
 use Rattle.envelope.specs.Layout.{letterS, letterN, maxGroup, maxLength, header, InRange, Begins}
-use Rattle.envelope.specs.Read.{aHeader, readHeader}
+use Rattle.envelope.specs.Read.{aHeader, readHeader, readEnvelope, headerPart, metadataPart, cryptogramPart}
 use Rattle.envelope.specs.declared.Header.{Header}
 use Rattle.envelope.proofs.Headers.{Stands, header-sound, header-complete}
 use Rattle.envelope.proofs.Layouts.{header-length, header-longest, header-of-17, tag-of-S, tag-of-N}
+use Rattle.envelope.proofs.Reading.{envelope-sound}
+use Rattle.envelope.proofs.Spelling.{header-part-is}
 use Rattle.headers.specs.Fits.{foundFor, fits, fitsGroup}
 use Rattle.headers.proofs.Steps.{to-place}
 
@@ -109,3 +111,12 @@ fits-of-8 = (
   ),
   header-length letterN 0 0 0,
 )
+
+-- The header's bytes of an envelope that is read are taken for its letter, its group and the lengths of its parts.
+pub part-fits : (s : List ℕ) → readEnvelope s .number ≡ 0
+    → (fitsGroup (readEnvelope s .letter) (readEnvelope s .group) (length (metadataPart s)) (length (cryptogramPart s)) (headerPart s) ≡ true)
+    × (fits (readEnvelope s .letter) (length (metadataPart s)) (length (cryptogramPart s)) (headerPart s) ≡ true)
+part-fits s e =
+    let by-group : fitsGroup (readEnvelope s .letter) (readEnvelope s .group) (length (metadataPart s)) (length (cryptogramPart s)) (headerPart s) ≡ true =
+    fits-group-exactly _ _ _ _ _ .1 (envelope-sound s e .in-range, header-part-is s e) in
+    (by-group, fits-of-group _ _ _ _ _ by-group)
