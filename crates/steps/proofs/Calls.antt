@@ -6,7 +6,7 @@ use mathlib.Core.Bool.{Bool, true, false, not, _||_, cond}
 use mathlib.Core.List.{List, [], _∷_, _++_}
 use Prim.Native.Nat.{ℕ, zero, suc, _+_, _≤_, _<_}
 use native.Mathlib.Omega.{arith}
-use lib.ListN.{length, drop, replicate, length-replicate}
+use lib.ListN.{length, drop, replicate, length-replicate, length-append}
 use lib.Seq.{drop-at}
 use Rattle.deck.specs.declared.DeckState.{DeckState}
 use Rattle.xoofff.specs.declared.Compressed.{Compressed}
@@ -207,6 +207,21 @@ module _ (m : Mode) (s : SessionState DeckState) (i : CallInput) where
 -- what wrap or unwrap is handed, with this header
 abbrev pub headed : CallHeader → (metadata text out tag : List ℕ) → CallInput
 headed h metadata text out tag = record { header = h; metadata = metadata; text = text; out = out; tag = tag }
+
+-- the first check and the length of A, from the lengths of the header `head` and the metadata
+module _ (m : Mode) (s : SessionState DeckState) (head metadata text out tag : List ℕ) where
+  pub first-of : {n : ℕ} → n ≡ firstCheck (s .opened) (s .history .index + growth (length head + length metadata) (length text)) (m .parameters .tagLength)
+      (length metadata) (length text) (length tag) (length out) → n ≡ firstOf m s (headed (under head) metadata text out tag)
+  unfolding metadataString
+  first-of h =
+      h
+      ∙ ap (λ (k : ℕ). firstCheck (s .opened) (s .history .index + growth k (length text)) (m .parameters .tagLength) (length metadata) (length text) (length tag) (length out))
+      (sym (length-append head metadata))
+
+  pub string-long : length head ≤ 17 → Within m s (headed (under head) metadata text out tag)
+      → length (metadataString (headed (under head) metadata text out tag)) ≤ 16401
+  unfolding metadataString
+  string-long h w = omega (arith, w .metadata, length-append head metadata)
 
 -- the header plays no part in what a refusal leaves
 same-unless : (n : ℕ) (s : SessionState DeckState) (h g : CallHeader) (metadata text out tag : List ℕ) (o : Outcome DeckState)

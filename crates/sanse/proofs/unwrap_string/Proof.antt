@@ -9,7 +9,8 @@ use borrow.Author.Needs.{needs}
 use Rattle.deck.proofs.Closing.{closing-pos}
 use Rattle.modes.specs.Call.{CallInput}
 use Rattle.modes.specs.Mode.{sanse, sanseParameters}
-use Rattle.steps.proofs.Calls.{Begun, begins, begun-index, Within, within, unwrap-refused, unwrap-accepted, unwrap-wrong}
+use Rattle.modes.specs.Rules.{metadataString}
+use Rattle.steps.proofs.Calls.{Begun, begins, begun-index, Within, within, firstOf, first-of, string-long, unwrap-refused, unwrap-accepted, unwrap-wrong}
 use Rattle.sanse.specs.declared.CallResult.{CallResult}
 use Rattle.sanse.specs.Session.{stateOf, callResult, handedFor}
 use Rattle.sanse.proofs.Calls.{short, Done, done-most, unwrap-worked}
@@ -19,7 +20,7 @@ use Rattle.sanse.proofs.unwrap_string.Tie as tie
 -- ---- from a place back to an earlier one: the entry; where no check was met; the history with A; the message; the history with it; the tag
 
 abbrev entry : tie.After-check → tie.Start
-entry c = c .before .before .before .before .before .before
+entry c = c .before .before .before .before .before .before .before
 
 abbrev passed : tie.After-append-metadata → tie.Else1
 passed c = c .before .before
@@ -42,14 +43,29 @@ tag c = c .before .before .before .before .before
 abbrev input : tie.After-check → CallInput
 input c = let a = entry c .args in handedFor (now (a .head)) (now (a .metadata)) (now (a .cryptogram)) (now (a .out)) (now (a .tag))
 
+-- the first check
+checked : (c : tie.After-check) → c .check .result ≡ firstOf sanse (stateOf (entry c .args .s)) (input c)
+checked c =
+    let a = entry c .args in
+    first-of sanse (stateOf (a .s)) (now (a .head)) (now (a .metadata)) (now (a .cryptogram)) (now (a .out)) (now (a .tag)) (c .check .ensures)
+
 limits : (c : tie.Else1) → Within sanse (stateOf (entry (c .before) .args .s)) (input (c .before))
-limits c = within sanse (stateOf (entry (c .before) .args .s)) (input (c .before)) (c .before .check .ensures) (c .if1 .left)
+limits c = within sanse (stateOf (entry (c .before) .args .s)) (input (c .before)) (checked (c .before)) (c .if1 .left)
 
 begun : (c : tie.After-append-metadata) → (let q = passed c .before in
     Begun sanse (stateOf (entry q .args .s)) (input q) (q .check .result) (q .before .deck-of .result) (c .before .closing-a .result) (c .append-metadata .result))
+unfolding metadataString
 begun c =
     let q = passed c in
-    record { checked = q .before .check .ensures; none = q .if1 .left; held = q .before .before .deck-of .ensures; closes = c .before .closing-a .ensures; isA = c .append-metadata .ensures }
+    let a = entry (q .before) .args in
+    record {
+      checked = checked (q .before);
+      none = q .if1 .left;
+      held = q .before .before .deck-of .ensures;
+      closes = c .before .closing-a .ensures;
+      long = string-long sanse (stateOf (a .s)) (now (a .head)) (now (a .metadata)) (now (a .cryptogram)) (now (a .out)) (now (a .tag)) (entry (q .before) .pre) (limits q);
+      isA = c .append-metadata .ensures;
+    }
 
 -- the output buffer holds the cryptogram, so the message is as long as it
 holds : (c : tie.After-add-body) → length (input (passed (metadata c) .before) .text) ≤ length (c .add-body .last .1 .1 .1 .1 .0)
@@ -83,13 +99,13 @@ returns : tie.Need-returns
 returns c =
     let q = c .before .before in
     ap (λ (r : CallResult). callResult r (input q .out) (input q .tag)) (c .result .ensures)
-    ∙ unwrap-refused sanse (stateOf (entry q .args .s)) (input q) (q .check .result) (q .before .deck-of .result) (q .check .ensures)
+    ∙ unwrap-refused sanse (stateOf (entry q .args .s)) (input q) (q .check .result) (q .before .deck-of .result) (checked q)
     (q .before .deck-of .ensures) (c .before .if1 .taken)
 
 append-metadata-requires : tie.Need-append-metadata-requires
 append-metadata-requires c κs =
     let q = c .before .before in
-    begins sanse (stateOf (entry q .args .s)) (input q) (limits (c .before)) (q .before .deck-of .ensures) (c .closing-a .ensures)
+    begins sanse (stateOf (entry q .args .s)) (input q) (limits (c .before)) (entry q .pre) (q .before .deck-of .ensures) (c .closing-a .ensures)
 
 add-body-requires : tie.Need-add-body-requires
 add-body-requires c κs =
@@ -137,7 +153,7 @@ returns-3 c =
 pub unwrap-string-spec : {M : Type 1} → statement M
 unwrap-string-spec =
     tie.close
-    (tie.spec (λ c κs. search needs) (λ c κs. search needs) (λ c κs. search needs) returns (λ c κs. search needs) append-metadata-requires (λ c κs. search needs)
+    (tie.spec (λ c κs. search needs) (λ c. search needs) (λ c κs. search needs) (λ c κs. search needs) returns (λ c κs. search needs) append-metadata-requires (λ c κs. search needs)
     add-body-requires (λ c. holds (c .before .before)) (λ c. sym (taken (c .before .before .before))) (λ c κs. search needs) append-text-requires (λ c. search needs) (λ c κs. search needs)
     (λ c. omega (arith, done-most (done (c .before .before .before)))) (λ c. omega (arith, done-most (done (c .before .before .before))))
     (λ c. omega (arith, done-most (done (c .before .before .before)))) (λ c. search needs) same-bytes-requires (λ c κs. search needs) (λ c. search needs)
