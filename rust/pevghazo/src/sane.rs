@@ -222,7 +222,7 @@ impl SaneSession {
     /// drop(session);
     ///
     /// let session = SaneSession::from_bytes(&bytes).unwrap();
-    /// assert_eq!((session.index(), session.toggle(), session.is_open()), (4, true, true));
+    /// assert_eq!((session.index(), session.toggle(), session.is_open()), (6, true, true));
     /// # Ok(())
     /// # }
     /// ```

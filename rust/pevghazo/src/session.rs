@@ -18,7 +18,8 @@ use crate::texts::{Arrival, Opened, Plain, Sealed, Unwrapped, Wrapped};
 /// before the call returns.
 ///
 /// [`wrap`](Session::wrap) and [`unwrap`](Session::unwrap) work on the parts of a message, [`seal`](Session::seal) and
-/// [`open`](Session::open) on whole [envelopes](crate::envelope).
+/// [`open`](Session::open) on whole [envelopes](crate::envelope), whose header the tag covers too;
+/// [`wrap_envelope`](Session::wrap_envelope) and [`unwrap_envelope`](Session::unwrap_envelope) work on the parts of one.
 ///
 /// ```
 /// use pevghazo::{Arrival, Plain, Session};
@@ -248,7 +249,7 @@ impl Session {
     /// drop(session);
     ///
     /// let session = Session::from_bytes(&bytes).unwrap();
-    /// assert_eq!((session.index(), session.toggle(), session.is_open()), (2, true, true));
+    /// assert_eq!((session.index(), session.toggle(), session.is_open()), (4, true, true));
     /// # Ok(())
     /// # }
     /// ```

@@ -1,8 +1,8 @@
 //! The safe types: stored bytes, refusals, and what is shown.
 
 use pevghazo::{
-    Arrival, BadBytes, Code, GROUPS, Group, INDEX_MAX, Letter, Number, PACKET_MAX, Plain, Refusal, SANE_TAG_LENGTH,
-    Session, TAG_LENGTH, TEXT_MAX, Table, Wrapped, envelope, raw, wipe,
+    Arrival, BadBytes, Code, Envelope, GROUPS, Group, INDEX_MAX, Letter, Number, PACKET_MAX, Plain, Refusal,
+    SANE_TAG_LENGTH, Session, TAG_LENGTH, TEXT_MAX, Table, Wrapped, envelope, raw, wipe,
 };
 use pevghazo_reference::session::Session as Reference;
 
@@ -401,20 +401,25 @@ fn codes_of_groups() {
     assert_eq!(*office.to_bytes(), *before, "codes alter neither a session nor a count");
 }
 
-/// Sealing is wrapping and writing, opening is reading and unwrapping, and the first check that is met is the one that is named.
+/// A table where group 7 is open, and the session of a group with the same key.
+fn office_and_group() -> (Table, Session) {
+    let mut office = Table::new();
+    office.start_day(3_000);
+    office.open_group(7, KEY).unwrap();
+    (office, Session::start(KEY).unwrap().0)
+}
+
+/// Sealing is writing the header, wrapping for it and writing the envelope; opening is reading and unwrapping.
 #[test]
 fn envelopes_of_a_session_and_of_a_table() {
-    let mut office = Table::new();
-    office.start_day(1_000);
-    office.open_group(7, KEY).unwrap();
-    let start = || Session::start(KEY).unwrap().0;
-    let (mut group, mut by_hand) = (start(), start());
+    let ((mut office, mut group), mut by_hand) = (office_and_group(), Session::start(KEY).unwrap().0);
     for length in [0, 1, 48, TEXT_MAX] {
         office.start_day(3_000);
         let text = vec![length as u8 ^ 0x55; length];
         let plain = Plain { metadata: b"size C", message: &text };
         let sealed = office.seal(7, &plain).unwrap();
-        let wrapped = by_hand.wrap(&plain).unwrap();
+        let header = envelope::write_header(Letter::S, 7, &plain).unwrap();
+        let wrapped = by_hand.wrap_envelope(&header, &plain).unwrap();
         let written = envelope::write(Letter::S, 7, b"size C", &wrapped.cryptogram, &wrapped.tag).unwrap();
         assert_eq!(sealed.envelope, written);
         assert_eq!((sealed.count, office.group(7).unwrap().count), (wrapped.count, wrapped.count));
@@ -431,42 +436,154 @@ fn envelopes_of_a_session_and_of_a_table() {
         assert_eq!(repeated, Refusal { number: Number::WrongTag, count: back.count });
     }
     assert_eq!(*group.to_bytes(), *by_hand.to_bytes());
+}
 
+/// Number and count of a refused call.
+fn number(refused: Refusal) -> (Number, u32) {
+    (refused.number, refused.count)
+}
+
+/// The first check that sealing meets is the one that is named, in the order of the numbers.
+#[test]
+fn refused_sealing() {
+    let (mut office, mut group) = office_and_group();
+    let before = (office.to_bytes(), group.to_bytes());
     let long = Plain { metadata: b"", message: &[0; TEXT_MAX + 1] };
-    let number = |refused: Refusal| (refused.number, refused.count);
     let mut closed = Session::from_bytes(&[0; Session::BYTES]).unwrap();
     assert_eq!(number(closed.seal(32, &long).unwrap_err()), (Number::BadGroup, 0));
     assert_eq!(number(closed.seal(31, &long).unwrap_err()), (Number::NotOpen, 0));
+    assert_eq!(number(closed.seal(31, &plain(b"")).unwrap_err()), (Number::NotOpen, 0));
     assert_eq!(number(group.seal(32, &long).unwrap_err()), (Number::BadGroup, 0));
     assert_eq!(number(group.seal(0, &long).unwrap_err()), (Number::TooLong, 0));
     assert_eq!(number(office.seal(u32::MAX, &long).unwrap_err()), (Number::BadGroup, 0));
     assert_eq!(number(office.seal(8, &long).unwrap_err()), (Number::NotOpen, 0));
+    assert_eq!(number(office.seal(7, &long).unwrap_err()), (Number::TooLong, 0));
+    assert_eq!((&*office.to_bytes(), &*group.to_bytes()), (&*before.0, &*before.1));
     office.start_day(0);
     assert_eq!(number(office.seal(7, &long).unwrap_err()), (Number::TooLong, 0));
     assert_eq!(number(office.seal(7, &plain(b"")).unwrap_err()), (Number::Allowance, 0));
-    // An arrival that would be opened, by either way, one permutation short of its count; then it just fits.
+    let mut bytes = group.to_bytes().to_vec();
+    bytes[96..100].copy_from_slice(&(INDEX_MAX - 1).to_le_bytes());
+    let mut full = Session::from_bytes(&bytes).unwrap();
+    assert_eq!(number(full.seal(7, &plain(b"")).unwrap_err()), (Number::IndexFull, 0));
+}
+
+/// The first check that opening meets is the one that is named.
+#[test]
+fn refused_opening() {
+    let (mut office, mut group) = office_and_group();
+    // An arrival that would be opened, by any way, one permutation short of its count; then it just fits.
     let next = Session::from_bytes(&group.to_bytes()).unwrap().seal(7, &plain(b"12001")).unwrap();
-    let parts = envelope::read(&next.envelope).unwrap();
+    let read = envelope::read(&next.envelope).unwrap();
     office.start_day(next.count - 1);
     assert_eq!(number(office.open(&next.envelope).unwrap_err()), (Number::Allowance, 0));
-    assert_eq!(number(office.unwrap(7, &parts.arrival().unwrap()).unwrap_err()), (Number::Allowance, 0));
-    assert_eq!(
-        number(office.unwrap_to(7, &parts.arrival().unwrap(), &mut [0; 5]).unwrap_err()),
-        (Number::Allowance, 0)
-    );
+    assert_eq!(number(office.unwrap_envelope(7, &read).unwrap_err()), (Number::Allowance, 0));
+    assert_eq!(number(office.unwrap_envelope_to(7, &read, &mut [0; 5]).unwrap_err()), (Number::Allowance, 0));
     office.start_day(next.count);
     assert_eq!((office.open(&next.envelope).unwrap().count, office.left(7)), (next.count, Some(0)));
     office.start_day(0);
-    assert_eq!(*group.to_bytes(), *by_hand.to_bytes(), "a refused sealing leaves the session");
-    let envelope = by_hand.seal(8, &plain(b"12001")).unwrap().envelope;
-    assert_eq!(number(office.open(&envelope).unwrap_err()), (Number::NotOpen, 0));
+    let mut closed = Session::from_bytes(&[0; Session::BYTES]).unwrap();
+    let sealed = Session::from_bytes(&group.to_bytes()).unwrap().seal(8, &plain(b"12001")).unwrap().envelope;
+    assert_eq!(number(office.open(&sealed).unwrap_err()), (Number::NotOpen, 0));
     for session_refuses in [closed.open(b"S,32,0,0,"), group.open(b"")] {
         assert_eq!(number(session_refuses.unwrap_err()), (Number::BadHeader, 0));
     }
-    assert_eq!(number(group.open(&envelope[1..]).unwrap_err()), (Number::BadHeader, 0));
-    assert_eq!(number(group.open(&envelope[..envelope.len() - 1]).unwrap_err()), (Number::TooFewBytes, 0));
-    assert_eq!(number(closed.open(&envelope).unwrap_err()), (Number::NotOpen, 0));
-    assert_eq!(group.open(&envelope).unwrap().group, 8, "the header is not under the tag");
+    assert_eq!(number(group.open(&sealed[1..]).unwrap_err()), (Number::BadHeader, 0));
+    assert_eq!(number(group.open(&sealed[..sealed.len() - 1]).unwrap_err()), (Number::TooFewBytes, 0));
+    assert_eq!(number(closed.open(&sealed).unwrap_err()), (Number::NotOpen, 0));
+    assert_eq!(group.open(&sealed).unwrap().group, 8, "a session takes any group");
+}
+
+/// Two groups with one key, and an envelope whose group digit was altered on the way: 11 at lone sessions, and at the office for the
+/// group that it names; in the table 1 where it is unwrapped for another group than the one that it names.
+#[test]
+fn a_readdressed_envelope() {
+    let mut office = Table::new();
+    office.start_day(1_000);
+    let [mut group_8, mut group_9] = [8, 9].map(|group| {
+        office.open_group(group, KEY).unwrap();
+        Session::start(KEY).unwrap().0
+    });
+    let sealed = group_8.seal(8, &Plain { metadata: b"size C", message: b"12001-12100" }).unwrap();
+    let mut readdressed = sealed.envelope.clone();
+    assert_eq!(readdressed[2], b'8');
+    readdressed[2] = b'9';
+    let wrong = Refusal { number: Number::WrongTag, count: sealed.count };
+    assert_eq!(group_9.open(&readdressed).unwrap_err(), wrong);
+    assert_eq!(office.open(&readdressed).unwrap_err(), wrong);
+    assert_eq!((office.group(9).unwrap().count, office.group(8).unwrap().count), (1 + sealed.count, 1));
+    let (right, altered) = (envelope::read(&sealed.envelope).unwrap(), envelope::read(&readdressed).unwrap());
+    assert_eq!((right.header, altered.header), (&b"S,8,6,11,"[..], &b"S,9,6,11,"[..]));
+    let refused = Refusal { number: Number::BadHeader, count: 0 };
+    for (group, envelope) in [(9, &right), (8, &altered), (32, &right)] {
+        assert_eq!(office.unwrap_envelope(group, envelope).unwrap_err(), refused);
+    }
+    assert_eq!(office.unwrap_envelope(9, &altered).unwrap_err(), wrong);
+    assert_eq!(group_9.unwrap_envelope(&altered).unwrap_err(), wrong);
+    assert_eq!(office.unwrap_envelope(8, &right).unwrap().message, b"12001-12100");
+    assert_eq!(
+        group_9.open(&sealed.envelope).unwrap().message,
+        b"12001-12100",
+        "as it was sealed, where the key is the same"
+    );
+}
+
+/// An envelope goes by its header's bytes, and not by what was read of them; its parts may be altered after the reading.
+#[test]
+fn envelopes_with_altered_parts() {
+    let mut office = office_and_group().0;
+    let block = Plain { metadata: b"size C", message: b"12001-12100" };
+    let header = envelope::write_header(Letter::S, 7, &block).unwrap();
+    let wrapped = office.wrap_envelope(7, &header, &block).unwrap();
+    let bytes = envelope::write(Letter::S, 7, b"size C", &wrapped.cryptogram, &wrapped.tag).unwrap();
+    let read = envelope::read(&bytes).unwrap();
+    assert_eq!((read.header, &bytes[..read.header.len()]), (&header[..], &header[..]));
+    let refused =
+        |envelope: &Envelope<'_>| Session::start(KEY).unwrap().0.unwrap_envelope(envelope).map(|_| ()).unwrap_err();
+    for header in [&header[1..], b"", b"S,7,6,10,", b"S,7,5,11,", b"N,7,6,11,"] {
+        assert_eq!(number(refused(&Envelope { header, ..read })), (Number::BadHeader, 0));
+    }
+    assert_eq!(number(refused(&Envelope { metadata: b"size", ..read })), (Number::BadHeader, 0));
+    assert_eq!(number(refused(&Envelope { tag: &read.tag[1..], ..read })), (Number::BadTagLength, 0));
+    assert_eq!(number(refused(&Envelope { metadata: b"size D", ..read })), (Number::WrongTag, wrapped.count));
+    let mut out = [0xAA; 12];
+    let mut group = Session::start(KEY).unwrap().0;
+    assert_eq!(group.unwrap_envelope_to(&read, &mut out[..10]).unwrap_err().number, Number::NoRoom);
+    let other = Envelope { letter: Letter::N, group: 31, place: 0, rest: b"", ..read };
+    assert_eq!(group.unwrap_envelope_to(&other, &mut out), Ok(wrapped.count));
+    assert_eq!((&out[..11], out[11]), (block.message, 0xAA));
+}
+
+/// Wrapping for an envelope into buffers, and its refusals; versions before put what was wrapped without a header into envelopes.
+#[test]
+fn wrapping_for_envelopes() {
+    let ((mut office, mut group), mut other) = (office_and_group(), Session::start(KEY).unwrap().0);
+    let block = Plain { metadata: b"size C", message: b"12001-12100" };
+    let (mut out, mut tag) = ([0xAA; 12], [0xBB; 32]);
+    for header in [&b""[..], b"S,7,6,12,", b"N,7,6,11,", b"S,7,6,11,,"] {
+        assert_eq!(number(group.wrap_envelope(header, &block).unwrap_err()), (Number::BadHeader, 0));
+        assert_eq!(number(office.wrap_envelope(7, header, &block).unwrap_err()), (Number::BadHeader, 0));
+    }
+    assert_eq!(number(office.wrap_envelope(7, b"S,8,6,11,", &block).unwrap_err()), (Number::BadHeader, 0));
+    let header = b"S,7,6,11,";
+    assert_eq!(group.wrap_envelope_to(header, &block, &mut out[..10], &mut tag).unwrap_err().number, Number::NoRoom);
+    assert_eq!(
+        office.wrap_envelope_to(7, header, &block, &mut out[..10], &mut tag).unwrap_err().number,
+        Number::NoRoom
+    );
+    assert_eq!((out, tag), ([0xAA; 12], [0xBB; 32]));
+    let count = group.wrap_envelope_to(header, &block, &mut out, &mut tag).unwrap();
+    let sealed = office.seal(7, &block).unwrap();
+    assert_eq!(
+        (&out[..11], out[11], count),
+        (envelope::read(&sealed.envelope).unwrap().cryptogram, 0xAA, sealed.count)
+    );
+
+    let old = other.wrap(&block).unwrap();
+    let bytes = envelope::write(Letter::S, 7, b"size C", &old.cryptogram, &old.tag).unwrap();
+    let mut group = Session::start(KEY).unwrap().0;
+    assert_eq!(group.open(&bytes).unwrap_err().number, Number::WrongTag, "sealed before version 0.8");
+    assert_eq!(group.unwrap(&envelope::read(&bytes).unwrap().arrival().unwrap()).unwrap().message, block.message);
 }
 
 #[test]
@@ -514,6 +631,27 @@ fn envelopes_that_are_not_written() {
     for letter in (0..=u8::MAX).filter(|letter| !b"SN".contains(letter)) {
         let written = raw::write_envelope(letter, 32, &[0; TEXT_MAX + 1], b"", b"", &mut []);
         assert_eq!(written, raw::Written { number: 1, len: 0 }, "letter {letter}");
+    }
+}
+
+/// A header alone is what the envelope begins with, and meets the checks of writing that it can meet.
+#[test]
+fn headers_alone() {
+    let long = [0; TEXT_MAX + 1];
+    for letter in [Letter::S, Letter::N] {
+        let refused = |number| Err(Refusal { number, count: 0 });
+        let longest = Plain { metadata: &long[1..], message: &long[1..] };
+        for (group, plain) in [(0, plain(b"")), (7, plain(b"12001")), (31, longest)] {
+            let header = envelope::write_header(letter, group, &plain).unwrap();
+            let (metadata, message) = (plain.metadata, plain.message);
+            let bytes = envelope::write(letter, group, metadata, message, &vec![9; letter.tag_length()]).unwrap();
+            assert_eq!(envelope::read(&bytes).unwrap().header, header);
+            assert_eq!(bytes.len(), header.len() + metadata.len() + message.len() + letter.tag_length());
+        }
+        for long in [Plain { metadata: &long, message: b"" }, plain(&long)] {
+            assert_eq!(envelope::write_header(letter, 32, &long), refused(Number::BadGroup));
+            assert_eq!(envelope::write_header(letter, 31, &long), refused(Number::TooLong));
+        }
     }
 }
 

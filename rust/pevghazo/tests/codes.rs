@@ -1,17 +1,20 @@
 //! Codes for packets through the C library, beside the independent implementation: in lists of calls at both ends, where they
-//! equal the output of the full history and change nothing that a later call gives; of any record; and at the edges.
+//! equal the output of the full history and change nothing that a later call gives; of any record; and at the edges. The calls
+//! between are without an envelope and for one.
 
 mod common;
 
+use common::headers::all_were_there;
+use common::play::{self, Tally};
 use common::{
-    Arrival, Both, PACKETS, answer_of, any_session, cases, copy, is_whole_run, key, maybe_long, other_length, packet,
-    record_of, same, text,
+    Arrival, Both, Library, PACKETS, answer_of, any_session, cases, copy, is_whole_run, key, maybe_long, other_length,
+    packet, record_of, same, text,
 };
 use pevghazo::raw::{self, Answer, Record};
 use pevghazo_reference::deck::xoofff;
 use pevghazo_reference::ledger::Ledger;
 use pevghazo_reference::random::Random;
-use pevghazo_reference::session::Session;
+use pevghazo_reference::session::{Header, Session};
 
 /// One end of a session, to which each call is made four times: by the library and the reference, with codes asked for in
 /// between; by the library on a record of which no code is asked; and on the key and the full history.
@@ -28,22 +31,24 @@ impl End {
         End { asked, unasked, ledger: Ledger::start(key, xoofff).unwrap() }
     }
 
-    fn wrap(&mut self, metadata: &[u8], message: &[u8], out: &mut [u8], tag: &mut [u8]) -> Answer {
+    fn wrap(&mut self, header: Header<'_>, metadata: &[u8], message: &[u8], out: &mut [u8], tag: &mut [u8]) -> Answer {
         let mut outs = [out.to_vec(), out.to_vec()];
         let mut tags = [tag.to_vec(), tag.to_vec()];
-        let answer = self.asked.wrap(metadata, message, out, tag);
-        assert_eq!(raw::wrap(&mut self.unasked, metadata, message, &mut outs[0], &mut tags[0]), answer);
-        assert_eq!(answer_of(self.ledger.wrap(metadata, message, &mut outs[1], &mut tags[1])), answer);
+        let answer = self.asked.wrap_for(header, metadata, message, out, tag);
+        assert_eq!(self.unasked.wrap_for(header, metadata, message, &mut outs[0], &mut tags[0]), answer);
+        assert_eq!(answer_of(self.ledger.wrap_for(header, metadata, message, &mut outs[1], &mut tags[1])), answer);
         assert!(outs.iter().all(|other| other == out) && tags.iter().all(|other| other == tag), "the buffers differ");
         self.check();
         answer
     }
 
-    fn unwrap(&mut self, metadata: &[u8], cryptogram: &[u8], tag: &[u8], out: &mut [u8]) -> Answer {
+    fn unwrap(&mut self, arrival: &Arrival, out: &mut [u8]) -> Answer {
+        let Arrival { header, metadata, cryptogram, tag, .. } = arrival;
+        let header = header.as_deref();
         let mut outs = [out.to_vec(), out.to_vec()];
-        let answer = self.asked.unwrap(metadata, cryptogram, tag, out);
-        assert_eq!(raw::unwrap(&mut self.unasked, metadata, cryptogram, tag, &mut outs[0]), answer);
-        assert_eq!(answer_of(self.ledger.unwrap(metadata, cryptogram, tag, &mut outs[1])), answer);
+        let answer = self.asked.unwrap_for(header, metadata, cryptogram, tag, out);
+        assert_eq!(self.unasked.unwrap_for(header, metadata, cryptogram, tag, &mut outs[0]), answer);
+        assert_eq!(answer_of(self.ledger.unwrap_for(header, metadata, cryptogram, tag, &mut outs[1])), answer);
         assert!(outs.iter().all(|other| other == out), "the buffers differ");
         self.check();
         answer
@@ -85,31 +90,33 @@ fn ask(random: &mut Random, ends: &[End; 2], codes: &mut [u64; 13]) {
     }
 }
 
-/// Wraps some message at an end, with lengths that are refused now and then, and gives what travels.
-fn wrap(random: &mut Random, end: &mut End, numbers: &mut [u64; 13]) -> Option<Arrival> {
+/// Wraps some message at an end, with a header or lengths that are refused now and then, and gives what travels.
+fn wrap(random: &mut Random, end: &mut End, tally: &mut Tally) -> Option<Arrival> {
     let (metadata, message) = (text(random), text(random));
     let (metadata, message) = (maybe_long(random, &metadata, 30), maybe_long(random, &message, 30));
+    let envelope = play::any_envelope(random);
+    let header = play::any_header::<Record>(random, envelope, &metadata, &message, &mut tally.ways);
     let (room, tag_length) = (other_length(random, message.len(), 8), other_length(random, 32, 12));
     let (mut out, mut tag) = (random.bytes(room), random.bytes(tag_length));
-    let answer = end.wrap(&metadata, &message, &mut out, &mut tag);
-    numbers[answer.number as usize] += 1;
+    let answer = end.wrap(header.as_deref(), &metadata, &message, &mut out, &mut tag);
     out.truncate(message.len());
-    (answer.number == 0).then_some(Arrival { metadata, cryptogram: out, tag, message })
+    let accepted = tally.take(header.as_deref(), answer);
+    accepted.then_some(Arrival { header, metadata, cryptogram: out, tag, message })
 }
 
 /// Hands an arrival to an end, now and then damaged or with a buffer of another length, and gives whether it was accepted.
-fn unwrap(random: &mut Random, end: &mut End, arrival: &Arrival, numbers: &mut [u64; 13]) -> bool {
-    let handed = if random.once_in(3) { arrival.damaged(random) } else { arrival.clone() };
+fn unwrap(random: &mut Random, end: &mut End, arrival: &Arrival, tally: &mut Tally) -> bool {
+    let is_damaged = random.once_in(3);
+    let handed = if is_damaged { arrival.damaged(random, b'S', &mut tally.ways) } else { arrival.clone() };
     let room = other_length(random, handed.cryptogram.len(), 8);
     let mut out = random.bytes(room);
-    let answer = end.unwrap(&handed.metadata, &handed.cryptogram, &handed.tag, &mut out);
-    numbers[answer.number as usize] += 1;
-    answer.number == 0
+    let answer = end.unwrap(&handed, &mut out);
+    tally.take(handed.header.as_deref(), answer)
 }
 
 #[test]
 fn lists_with_and_without_codes() {
-    let (mut wraps, mut unwraps, mut codes) = ([0; 13], [0; 13], [0; 13]);
+    let (mut wraps, mut unwraps, mut codes) = (Tally::default(), Tally::default(), [0; 13]);
     cases("lists_with_and_without_codes", |random| {
         let key = key(random);
         let mut ends = [End::start(random, &key), End::start(random, &key)];
@@ -133,8 +140,10 @@ fn lists_with_and_without_codes() {
         }
     });
     if is_whole_run() {
-        assert!([0, 6, 7, 8].iter().all(|number| wraps[*number] > 100), "wraps: {wraps:?}");
-        assert!([0, 8, 11].iter().all(|number| unwraps[*number] > 100), "unwraps: {unwraps:?}");
+        assert!([0, 1, 6, 7, 8].iter().all(|number| wraps.numbers[*number] > 100), "wraps: {:?}", wraps.numbers);
+        assert!([0, 1, 8, 11].iter().all(|number| unwraps.numbers[*number] > 100), "unwraps: {:?}", unwraps.numbers);
+        assert!(unwraps.accepted.iter().all(|sort| *sort > 1_000), "{:?}", unwraps.accepted);
+        all_were_there(&unwraps.ways, 20);
         assert!([0, 8, 12].iter().all(|number| codes[*number] > 1_000), "codes: {codes:?}");
     }
 }
@@ -191,7 +200,7 @@ fn every_packet() {
     let mut end = End::start(&mut random, &[9; 47]);
     for length in [0, 1, 300] {
         let (metadata, message) = (random.bytes(20), random.bytes(length));
-        assert_eq!(end.wrap(&metadata, &message, &mut vec![0; length], &mut [0; 32]).number, 0);
+        assert_eq!(end.wrap(None, &metadata, &message, &mut vec![0; length], &mut [0; 32]).number, 0);
         let run = xoofff(&end.ledger.key, &end.ledger.history, 32, 8 * 2_048);
         for (packet, expected) in (0..).zip(run.chunks_exact(8)) {
             let mut code = [0; 8];

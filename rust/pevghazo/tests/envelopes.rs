@@ -40,6 +40,19 @@ fn write(letter: u8, group: u32, metadata: &[u8], cryptogram: &[u8], tag: &[u8],
     given
 }
 
+/// Writes a header alone on both sides, and gives what the library gave.
+fn write_header(letter: u8, group: u32, metadata: usize, message: usize, out: &mut [u8]) -> Written {
+    let mut out_too = out.to_vec();
+    let given = raw::write_header(letter, group, metadata, message, out);
+    let expected = match envelope::write_header(letter, group, metadata, message, &mut out_too) {
+        Ok(len) => Written { number: 0, len },
+        Err(number) => Written { number: number.number().into(), len: 0 },
+    };
+    assert_eq!(given, expected);
+    assert!(out == out_too, "the buffers differ");
+    given
+}
+
 /// What was written, cut off anywhere and damaged in the header; `whole` bytes are the envelope's.
 fn cut_and_damaged(random: &mut Random, written: &[u8], whole: usize) {
     let header = raw::read_envelope(written).metadata;
@@ -73,6 +86,9 @@ fn written_and_read() {
             assert_eq!((written.len, read(&out)), (whole, 0));
             let parts = raw::read_envelope(&out);
             assert_eq!((parts.letter, parts.group, parts.place), (letter, group, whole));
+            let mut header = vec![0; parts.metadata];
+            assert_eq!(write_header(letter, group, a.len(), c.len(), &mut header).number, 0);
+            assert!(out[..parts.metadata] == header, "the header's bytes are those from 0 up to the metadata");
             assert!(out[parts.metadata..parts.cryptogram] == a && out[parts.cryptogram..parts.tag] == c);
             assert!(out[parts.tag..parts.place] == tag);
             cut_and_damaged(random, &out, whole);
@@ -115,6 +131,57 @@ fn writing_at_the_edges() {
                 let written = write(letter, group, &bytes[..a], &bytes[..c], &bytes[..tag], &mut out);
                 assert_eq!(written, Written { number, len }, "{letter} {group} {a} {c} {tag} {spare}");
                 assert!(out[len..].iter().all(|byte| *byte == 0xA5));
+            }
+        }
+    }
+}
+
+#[test]
+fn any_header_alone() {
+    let mut numbers = [0; 12];
+    cases("any_header_alone", |random| {
+        let letter = if random.once_in(10) { any_byte(random) } else { random.pick(b"SN") };
+        let group = if random.once_in(10) { random.bits() as u32 } else { random.below(34) as u32 };
+        let [a, m] = [(); 2].map(|()| match random.below(8) {
+            0 => random.bits() as usize,
+            1 => random.pick(&[9, 10, 99, 100, 999, 1_000, 9_999, 10_000, 16_383, 16_384, 16_385, usize::MAX]),
+            _ => random.below(16_400),
+        });
+        let whole = envelope::header_bytes(letter, group, a, m).len();
+        let room = if random.once_in(2) { whole + random.below(20) } else { other_length(random, whole, 3) };
+        let mut out = random.bytes(room);
+        let written = write_header(letter, group, a, m, &mut out);
+        numbers[written.number as usize] += 1;
+        if written.number == 0 {
+            assert!(written.len == whole && whole <= 17);
+            // Exactly the bytes that it announces follow it.
+            let mut envelope = out[..whole].to_vec();
+            envelope.resize(whole + a + m + if letter == b'S' { 32 } else { 16 }, 7);
+            assert_eq!(read(&envelope), 0);
+            let parts = raw::read_envelope(&envelope);
+            assert_eq!((parts.metadata, parts.cryptogram, parts.place), (whole, whole + a, envelope.len()));
+        }
+    });
+    if is_whole_run() {
+        assert!([0, 1, 3, 6, 8].iter().all(|number| numbers[*number] > 100), "{numbers:?}");
+    }
+}
+
+/// The first number met of 1 for the letter, 3, 6 for either length, and 8, or the header, with the buffer's other bytes kept.
+#[test]
+fn headers_alone_at_the_edges() {
+    for letter in 0..=u8::MAX {
+        let lengths = [0, 20, 16_384, 16_385, usize::MAX];
+        for (a, m) in lengths.into_iter().flat_map(|a| lengths.map(|m| (a, m))) {
+            for (group, spare) in [0, 31, 32, u32::MAX].into_iter().flat_map(|group| [-1, 0, 3].map(|n| (group, n))) {
+                let whole = [&[letter], format!(",{group},{a},{m},").as_bytes()].concat();
+                let tag = if letter == b'N' { 16 } else { 32 };
+                let number = number_of_writing(letter, group, a.max(m), tag, spare >= 0);
+                let len = if number == 0 { whole.len() } else { 0 };
+                let mut out = vec![0xA5; whole.len().saturating_add_signed(spare)];
+                let written = write_header(letter, group, a, m, &mut out);
+                assert_eq!(written, Written { number, len }, "{letter} {group} {a} {m} {spare}");
+                assert!(out[..len] == whole[..len] && out[len..].iter().all(|byte| *byte == 0xA5));
             }
         }
     }

@@ -1,10 +1,13 @@
 //! A group's day depends on its own calls alone, through the C library: two tables that agree in one group's record, or before the
 //! start of a day in its session alone, under one allowance. The same calls for that group give it the same answers, buffers,
 //! counts and record, however the other groups' calls differ or fall between; they are those of a table where no other group calls.
+//! All lists hold calls without an envelope and calls for one.
 
 mod common;
 
-use common::tables::{any_number, any_record, group_record_of};
+use common::headers::{Ways, header, maybe_misfit};
+use common::play::{any_envelope, next_arrival};
+use common::tables::{any_number, any_record, group_record_of, unwrap_group, wrap_group};
 use common::{Arrival, Library, answer_of, any_session, cases, is_whole_run, key, maybe_long, other_length};
 use pevghazo::raw::{self, Answer, GroupRecord};
 use pevghazo_reference::random::Random;
@@ -21,8 +24,8 @@ struct Call {
 #[derive(Clone)]
 enum Kind {
     Open { key: Vec<u8> },
-    Wrap { metadata: Vec<u8>, message: Vec<u8>, out: Vec<u8>, tag: Vec<u8> },
-    Unwrap { metadata: Vec<u8>, cryptogram: Vec<u8>, tag: Vec<u8>, out: Vec<u8> },
+    Wrap { header: Option<Vec<u8>>, metadata: Vec<u8>, message: Vec<u8>, out: Vec<u8>, tag: Vec<u8> },
+    Unwrap { header: Option<Vec<u8>>, metadata: Vec<u8>, cryptogram: Vec<u8>, tag: Vec<u8>, out: Vec<u8> },
 }
 
 /// What a call gives: its answer, and what its output and tag buffers hold then.
@@ -36,16 +39,19 @@ struct Given {
 impl Call {
     /// The call on the library's records.
     fn on_library(&self, table: &mut [GroupRecord], allowance: u32) -> Given {
+        let group = self.group;
         match self.kind.clone() {
             Kind::Open { key } => {
-                Given { answer: raw::open_group(table, self.group, allowance, &key), out: vec![], tag: vec![] }
+                Given { answer: raw::open_group(table, group, allowance, &key), out: vec![], tag: vec![] }
             }
-            Kind::Wrap { metadata, message, mut out, mut tag } => {
-                let answer = raw::wrap_group(table, self.group, allowance, &metadata, &message, &mut out, &mut tag);
+            Kind::Wrap { header, metadata, message, mut out, mut tag } => {
+                let (texts, buffers) = ([&metadata[..], &message], [&mut out[..], &mut tag]);
+                let answer = wrap_group(table, group, allowance, header.as_deref(), texts, buffers);
                 Given { answer, out, tag }
             }
-            Kind::Unwrap { metadata, cryptogram, tag, mut out } => {
-                let answer = raw::unwrap_group(table, self.group, allowance, &metadata, &cryptogram, &tag, &mut out);
+            Kind::Unwrap { header, metadata, cryptogram, tag, mut out } => {
+                let arrived = [&metadata[..], &cryptogram, &tag];
+                let answer = unwrap_group(table, group, allowance, header.as_deref(), arrived, &mut out);
                 Given { answer, out, tag }
             }
         }
@@ -57,13 +63,13 @@ impl Call {
             Kind::Open { key } => {
                 Given { answer: answer_of(table.open_group(self.group, &key)), out: vec![], tag: vec![] }
             }
-            Kind::Wrap { metadata, message, mut out, mut tag } => {
-                let answer = answer_of(table.wrap(self.group, &metadata, &message, &mut out, &mut tag));
-                Given { answer, out, tag }
+            Kind::Wrap { header, metadata, message, mut out, mut tag } => {
+                let answer = table.wrap_for(self.group, header.as_deref(), &metadata, &message, &mut out, &mut tag);
+                Given { answer: answer_of(answer), out, tag }
             }
-            Kind::Unwrap { metadata, cryptogram, tag, mut out } => {
-                let answer = answer_of(table.unwrap(self.group, &metadata, &cryptogram, &tag, &mut out));
-                Given { answer, out, tag }
+            Kind::Unwrap { header, metadata, cryptogram, tag, mut out } => {
+                let answer = table.unwrap_for(self.group, header.as_deref(), &metadata, &cryptogram, &tag, &mut out);
+                Given { answer: answer_of(answer), out, tag }
             }
         }
     }
@@ -76,15 +82,20 @@ fn some_bytes(random: &mut Random) -> Vec<u8> {
     maybe_long(random, &bytes, 40)
 }
 
-/// What this session takes for the next message, mostly; a damaged one, or one of another session, is refused.
-fn some_arrival(random: &mut Random, session: &Session) -> Arrival {
+/// The header of a call for a group, now and then of another one; or none, for a call without an envelope.
+fn some_header(random: &mut Random, group: u32, metadata: &[u8], message: &[u8]) -> Option<Vec<u8>> {
+    let other = any_envelope(random)?;
+    let named = if random.once_in(12) { other } else { group };
+    Some(header(b'S', named, metadata.len(), message.len()))
+}
+
+/// What this group's session takes for the next message, mostly; a damaged one, or one of another session, is refused.
+fn some_arrival(random: &mut Random, group: u32, session: &Session) -> Arrival {
     let (metadata, message) = (some_bytes(random), some_bytes(random));
-    let (mut cryptogram, mut tag) = (random.bytes(message.len()), random.bytes(32));
-    // Where it cannot be wrapped, the buffers stay as they are.
-    let _ = Session { index: 0, open: true, ..session.clone() }.wrap(&metadata, &message, &mut cryptogram, &mut tag);
-    tag.truncate(other_length(random, 32, 20));
-    let arrival = Arrival { metadata, cryptogram, tag, message };
-    if random.once_in(3) { arrival.damaged(random) } else { arrival }
+    let header = some_header(random, group, &metadata, &message);
+    let mut arrival = next_arrival(session, header, metadata, message);
+    arrival.tag.truncate(other_length(random, 32, 20));
+    if random.once_in(3) { arrival.damaged(random, b'S', &mut Ways::default()) } else { arrival }
 }
 
 /// A call for a group with this session.
@@ -97,13 +108,16 @@ fn some_call(random: &mut Random, group: u32, session: &Session) -> Call {
         }
         1..4 => {
             let (metadata, message) = (some_bytes(random), some_bytes(random));
+            let lengths = (metadata.len(), message.len());
+            let whole = some_header(random, group, &metadata, &message);
+            let header = whole.map(|whole| maybe_misfit(random, &mut Ways::default(), 12, whole, lengths));
             let (room, tag) = (other_length(random, message.len(), 20), other_length(random, 32, 20));
-            Kind::Wrap { metadata, message, out: random.bytes(room), tag: random.bytes(tag) }
+            Kind::Wrap { header, metadata, message, out: random.bytes(room), tag: random.bytes(tag) }
         }
         _ => {
-            let Arrival { metadata, cryptogram, tag, .. } = some_arrival(random, session);
+            let Arrival { header, metadata, cryptogram, tag, .. } = some_arrival(random, group, session);
             let room = other_length(random, cryptogram.len(), 20);
-            Kind::Unwrap { metadata, cryptogram, tag, out: random.bytes(room) }
+            Kind::Unwrap { header, metadata, cryptogram, tag, out: random.bytes(room) }
         }
     };
     Call { group, kind }
@@ -189,7 +203,7 @@ fn tally(numbers: &mut [u32; 13], given: &[Given]) {
 /// Accepted calls and the refusals that a group's calls meet have all been there.
 fn check_numbers(numbers: &[u32; 13]) {
     if is_whole_run() {
-        assert!([0, 4, 5, 6, 7, 8, 9, 10, 11].iter().all(|number| numbers[*number] >= 5), "{numbers:?}");
+        assert!([0, 1, 4, 5, 6, 7, 8, 9, 10, 11].iter().all(|number| numbers[*number] >= 5), "{numbers:?}");
         assert!(numbers[0] > 1_000 && numbers[10] > 200 && numbers[11] > 200, "{numbers:?}");
     }
 }

@@ -1,12 +1,13 @@
 //! Wraps and unwraps of both modes through the C library, beside the independent implementation, at all short lengths and at
 //! those where blocks begin and end, with all buffers at addresses that are not aligned: answers, buffers, counts and records are
-//! the same, the message comes back, and the bytes around the buffers stay.
+//! the same, the message comes back, and the bytes around the buffers stay. Each is made without an envelope, and for one.
 
 mod common;
 
 use std::array;
 use std::ops::Range;
 
+use common::headers::header;
 use common::{Both, BothOf, EDGES, Library, SaneBoth, answer_of, same};
 use pevghazo_reference::random::Random;
 use pevghazo_reference::session::Mode;
@@ -43,6 +44,12 @@ impl Placed {
         &mut self.bytes[self.range.clone()]
     }
 
+    /// Puts these bytes into the buffer, as what it is known to hold.
+    fn put(&mut self, bytes: &[u8]) {
+        self.get_mut().copy_from_slice(bytes);
+        self.before.copy_from_slice(&self.bytes);
+    }
+
     /// The bytes around the buffer are as they were.
     fn is_kept_around(&self) -> bool {
         let Range { start, end } = self.range;
@@ -60,46 +67,56 @@ fn placed<const N: usize>(random: &mut Random, turn: usize, lengths: [usize; N])
     array::from_fn(|i| Placed::new(random, OFFSETS[(turn + i) % OFFSETS.len()], lengths[i]))
 }
 
-/// Names the lengths and the turn of a message that fails.
+/// Names the lengths and the turn of a message that fails, and the group of its envelope, if it has one.
+#[derive(Debug)]
 struct Case {
     a: usize,
     m: usize,
     turn: usize,
+    group: Option<u32>,
 }
 
 impl Drop for Case {
     fn drop(&mut self) {
         if std::thread::panicking() {
-            eprintln!("failed with {} bytes of metadata, a message of {} and turn {}", self.a, self.m, self.turn);
+            eprintln!("failed with metadata of a bytes and a message of m: {self:?}");
         }
     }
 }
 
 /// A message from one end to the other.
-fn message<R: Library>(random: &mut Random, [here, there]: &mut [BothOf<R>; 2], &Case { a, m, turn }: &Case) {
-    let [metadata, message, mut out, mut tag, mut back] = placed(random, turn, [a, m, m, R::Mode::TAG, m]);
-    let accepted = answer_of(Ok(R::Mode::count(a, m)));
-    let answer = here.wrap(metadata.get(), message.get(), out.get_mut(), tag.get_mut());
+fn message<R: Library>(random: &mut Random, [here, there]: &mut [BothOf<R>; 2], case: &Case) {
+    let Case { a, m, turn, group } = *case;
+    let whole = group.map(|group| header(R::Mode::LETTER, group, a, m)).unwrap_or_default();
+    let lengths = [whole.len(), a, m, m, R::Mode::TAG, m];
+    let [mut header, metadata, message, mut out, mut tag, mut back] = placed(random, turn, lengths);
+    header.put(&whole);
+    let of_envelope = group.map(|_| header.get());
+    let accepted = answer_of(Ok(R::Mode::count(whole.len() + a, m)));
+    let answer = here.wrap_for(of_envelope, metadata.get(), message.get(), out.get_mut(), tag.get_mut());
     assert_eq!(answer, accepted, "wrap");
-    let answer = there.unwrap(metadata.get(), out.get(), tag.get(), back.get_mut());
+    let answer = there.unwrap_for(of_envelope, metadata.get(), out.get(), tag.get(), back.get_mut());
     assert_eq!(answer, accepted, "unwrap");
     assert!(back.get() == message.get(), "another message comes back");
     assert!(same(&here.library, &there.library), "the ends' records differ");
-    assert!(metadata.is_kept() && message.is_kept(), "metadata or message were altered");
+    assert!([header, metadata, message].iter().all(Placed::is_kept), "header, metadata or message were altered");
     assert!([out, tag, back].iter().all(Placed::is_kept_around), "bytes beside the output were altered");
 }
 
-/// Lengths of metadata and message: all pairs of edges, and every length up to three blocks and a byte.
+/// Lengths of metadata and message: all pairs of edges, and every length up to three blocks and a byte; so header and metadata
+/// together have every length from 10 to that, too.
 fn lengths() -> impl Iterator<Item = (usize, usize)> {
     let edges = || EDGES.into_iter().chain(STREAM_EDGES);
     edges().flat_map(move |a| edges().map(move |m| (a, m))).chain((0..=145).map(|m| (145 - m, m)))
 }
 
-/// Messages of all these lengths and at all turns, from these ends on, which take turns in sealing.
+/// Messages of all these lengths and at all turns, without an envelope and for one, from these ends on, which take turns in sealing.
 fn messages<R: Library>(random: &mut Random, mut ends: [BothOf<R>; 2]) {
     for (a, m) in lengths() {
         for turn in 0..OFFSETS.len() {
-            message(random, &mut ends, &Case { a, m, turn });
+            for group in [None, Some(random.below(32) as u32)] {
+                message(random, &mut ends, &Case { a, m, turn, group });
+            }
             ends.reverse();
         }
     }

@@ -9,8 +9,9 @@ use std::fs::{self, File};
 use std::os::unix::fs::FileExt;
 use std::process::Command;
 
-use pevghazo::{Arrival, Plain, SaneSession, Session, Table, raw};
+use pevghazo::{Envelope, Letter, Plain, SaneSession, Session, Table, envelope, raw};
 use pevghazo_reference::deck::p;
+use pevghazo_reference::envelope::header_bytes;
 use pevghazo_reference::rolling::{roll_input, roll_output};
 use pevghazo_reference::session::{SaneSession as SaneReference, Session as Reference};
 use pevghazo_reference::xoodoo::State;
@@ -22,9 +23,16 @@ const GROUP: u32 = 7;
 const PACKET: u32 = 2;
 const VARIABLE: &str = "PEVGHAZO_LANES";
 
-/// The messages that go out, longer and longer.
-fn messages() -> [Vec<u8>; 3] {
-    [vec![], vec![0x31; 40], vec![0x32; 400]]
+/// The messages that go out, longer and longer, each without an envelope and then for one: whether it is for one.
+fn messages() -> [(bool, Vec<u8>); 6] {
+    let of = |for_envelope| [vec![], vec![0x31; 40], vec![0x32; 400]].map(|message| (for_envelope, message));
+    let ([a, b, c], [d, e, f]) = (of(false), of(true));
+    [a, d, b, e, c, f]
+}
+
+/// The header of a message that is for an envelope with this letter.
+fn header(letter: Letter, for_envelope: bool, message: &[u8]) -> Option<Vec<u8>> {
+    for_envelope.then(|| header_bytes(letter.byte(), GROUP, METADATA.len(), message.len()))
 }
 
 /// All lanes of mask and accumulator from the start to the last message in either mode, also those of the masks in between, and
@@ -39,8 +47,10 @@ fn lanes() -> BTreeSet<u32> {
 fn sanse_states() -> Vec<State> {
     let mut session = Reference::start(KEY).unwrap();
     let mut states = Vec::new();
-    for message in messages() {
-        session.wrap(METADATA, &message, &mut vec![0; message.len()], &mut [0; 32]).unwrap();
+    for (for_envelope, message) in messages() {
+        let header = header(Letter::S, for_envelope, &message);
+        let mut out = vec![0; message.len()];
+        session.wrap_for(header.as_deref(), METADATA, &message, &mut out, &mut [0; 32]).unwrap();
         states.push(session.accumulator);
         states.extend(output_states(&session.accumulator, 2));
     }
@@ -52,10 +62,12 @@ fn sanse_states() -> Vec<State> {
 fn sane_states() -> Vec<State> {
     let (mut session, _) = SaneReference::start(KEY, NONCE, &mut [0; 16]).unwrap();
     let mut states = Vec::new();
-    for message in messages() {
+    for (for_envelope, message) in messages() {
         states.push(session.accumulator);
         states.extend(output_states(&session.accumulator, (message.len() + 16).div_ceil(48)));
-        session.wrap(METADATA, &message, &mut vec![0; message.len()], &mut [0; 16]).unwrap();
+        let header = header(Letter::N, for_envelope, &message);
+        let mut out = vec![0; message.len()];
+        session.wrap_for(header.as_deref(), METADATA, &message, &mut out, &mut [0; 16]).unwrap();
     }
     states.push(session.accumulator);
     states.extend(output_states(&session.accumulator, 1));
@@ -174,77 +186,182 @@ impl Memory {
 fn child() {
     let mut memory = Memory::new();
     memory.nothing("before the first call");
-    lone(&mut memory);
-    sane(&mut memory);
+    lone(&mut memory, || Session::start(KEY).unwrap().0, stored);
+    lone(&mut memory, || SaneSession::start(KEY, NONCE).unwrap().0, stored_in_sane);
     table(&mut memory);
     println!("memory looked through");
 }
 
-/// One session, which wraps; and one that unwraps what it gave.
-fn lone(memory: &mut Memory) {
-    let mut sent = Vec::new();
-    let (mut session, _) = Session::start(KEY).unwrap();
-    memory.one_record("after start");
-    for message in messages() {
-        sent.push(session.wrap(&Plain { metadata: METADATA, message: &message }).unwrap());
-        memory.one_record("after wrap");
-        session.code(PACKET).unwrap();
-        memory.one_record("after a code");
-    }
-    drop(session);
-    memory.nothing("after the end of a session");
+/// An end whose calls are looked at.
+trait End {
+    /// What it is, for messages.
+    const NAME: &'static str;
+    /// The letter of its envelopes.
+    const LETTER: Letter;
+    /// Wraps without an envelope, and gives cryptogram and tag.
+    fn wrap(&mut self, plain: &Plain<'_>) -> (Vec<u8>, Vec<u8>);
+    /// Seals, and gives the envelope.
+    fn seal(&mut self, plain: &Plain<'_>) -> Vec<u8>;
+    /// Unwraps the parts of an envelope without its header, and gives whether it is accepted.
+    fn unwrap(&mut self, envelope: &Envelope<'_>) -> bool;
+    /// Unwraps an envelope, and gives whether it is accepted.
+    fn unwrap_envelope(&mut self, envelope: &Envelope<'_>) -> bool;
+    /// Opens an envelope, and gives whether it is accepted.
+    fn open(&mut self, bytes: &[u8]) -> bool;
+    /// Asks for a code, where it has some.
+    fn code(&self) {}
+}
 
-    let (mut session, _) = Session::start(KEY).unwrap();
-    for wrapped in &sent {
-        let arrival = Arrival { metadata: METADATA, cryptogram: &wrapped.cryptogram, tag: &wrapped.tag };
-        assert!(session.unwrap(&Arrival { tag: &[0; 32], ..arrival }).is_err());
-        memory.one_record("after a refused unwrap");
-        let _ = session.unwrap(&arrival).unwrap();
-        memory.one_record("after unwrap");
+/// A lone session of either mode.
+macro_rules! lone_end {
+    ($session:ty, $name:literal, $letter:expr $(, $code:item)?) => {
+        impl End for $session {
+            const NAME: &'static str = $name;
+            const LETTER: Letter = $letter;
+
+            fn wrap(&mut self, plain: &Plain<'_>) -> (Vec<u8>, Vec<u8>) {
+                let wrapped = <$session>::wrap(self, plain).unwrap();
+                (wrapped.cryptogram, wrapped.tag.to_vec())
+            }
+
+            fn seal(&mut self, plain: &Plain<'_>) -> Vec<u8> {
+                <$session>::seal(self, GROUP, plain).unwrap().envelope
+            }
+
+            fn unwrap(&mut self, envelope: &Envelope<'_>) -> bool {
+                <$session>::unwrap(self, &envelope.arrival().unwrap()).is_ok()
+            }
+
+            fn unwrap_envelope(&mut self, envelope: &Envelope<'_>) -> bool {
+                <$session>::unwrap_envelope(self, envelope).is_ok()
+            }
+
+            fn open(&mut self, bytes: &[u8]) -> bool {
+                <$session>::open(self, bytes).is_ok()
+            }
+
+            $($code)?
+        }
+    };
+}
+
+lone_end!(
+    Session,
+    "SANSE",
+    Letter::S,
+    fn code(&self) {
+        Session::code(self, PACKET).unwrap();
+    }
+);
+lone_end!(SaneSession, "SANE", Letter::N);
+
+impl End for Table {
+    const NAME: &'static str = "a table";
+    const LETTER: Letter = Letter::S;
+
+    fn wrap(&mut self, plain: &Plain<'_>) -> (Vec<u8>, Vec<u8>) {
+        let wrapped = Table::wrap(self, GROUP, plain).unwrap();
+        (wrapped.cryptogram, wrapped.tag.to_vec())
+    }
+
+    fn seal(&mut self, plain: &Plain<'_>) -> Vec<u8> {
+        Table::seal(self, GROUP, plain).unwrap().envelope
+    }
+
+    fn unwrap(&mut self, envelope: &Envelope<'_>) -> bool {
+        Table::unwrap(self, GROUP, &envelope.arrival().unwrap()).is_ok()
+    }
+
+    fn unwrap_envelope(&mut self, envelope: &Envelope<'_>) -> bool {
+        Table::unwrap_envelope(self, GROUP, envelope).is_ok()
+    }
+
+    fn open(&mut self, bytes: &[u8]) -> bool {
+        Table::open(self, bytes).is_ok()
+    }
+
+    fn code(&self) {
+        Table::code(self, GROUP, PACKET).unwrap();
+    }
+}
+
+/// What travels: whether it is for an envelope, and the envelope's bytes, in which a message without one stands too.
+struct Travels {
+    for_envelope: bool,
+    bytes: Vec<u8>,
+}
+
+/// An end wraps and seals all messages.
+fn sends<E: End>(memory: &mut Memory, end: &mut E) -> Vec<Travels> {
+    let mut sent = Vec::new();
+    for (for_envelope, message) in messages() {
+        let plain = Plain { metadata: METADATA, message: &message };
+        let bytes = if for_envelope {
+            end.seal(&plain)
+        } else {
+            let (cryptogram, tag) = end.wrap(&plain);
+            envelope::write(E::LETTER, GROUP, METADATA, &cryptogram, &tag).unwrap()
+        };
+        memory.one_record(&format!("after wrapping in {}, for an envelope: {for_envelope}", E::NAME));
+        sent.push(Travels { for_envelope, bytes });
+        end.code();
+        memory.one_record(&format!("after a code of {}", E::NAME));
+    }
+    sent
+}
+
+/// An end is handed what travels: damaged, with another header, and as it is.
+fn receives<E: End>(memory: &mut Memory, end: &mut E, Travels { for_envelope, bytes }: &Travels) {
+    let mut damaged = bytes.clone();
+    *damaged.last_mut().unwrap() ^= 1;
+    let (arrived, damaged) = (envelope::read(bytes).unwrap(), envelope::read(&damaged).unwrap());
+    let mut look = |what: &str| memory.one_record(&format!("{what} in {}, for an envelope: {for_envelope}", E::NAME));
+    if *for_envelope {
+        assert!(!end.unwrap_envelope(&Envelope { header: &arrived.header[1..], ..arrived }));
+        look("after a header that is refused");
+        assert!(!end.unwrap_envelope(&damaged));
+        look("after a refused unwrap");
+        assert!(end.open(bytes));
+    } else {
+        assert!(!end.unwrap(&damaged));
+        look("after a refused unwrap");
+        assert!(end.unwrap(&arrived));
+    }
+    look("after opening");
+}
+
+/// One session, which wraps and seals; and one that unwraps and opens what it gave.
+fn lone<E: End>(memory: &mut Memory, start: fn() -> E, store_and_load: fn(&mut Memory, E) -> E) {
+    let mut session = start();
+    memory.one_record(&format!("after start in {}", E::NAME));
+    let sent = sends(memory, &mut session);
+    drop(session);
+    memory.nothing(&format!("after the end of a session in {}", E::NAME));
+    let mut session = start();
+    for travels in &sent {
+        receives(memory, &mut session, travels);
         let moved = Box::new(session);
-        session = *moved;
-        let bytes = session.to_bytes();
-        drop(session);
-        memory.one_record("while it is stored");
-        session = Session::from_bytes(&bytes).unwrap();
-        drop(bytes);
-        memory.one_record("after storing and loading");
+        session = store_and_load(memory, *moved);
+        memory.one_record(&format!("after storing and loading in {}", E::NAME));
     }
     drop(session);
-    memory.nothing("after the end of a second session");
+    memory.nothing(&format!("after the end of a second session in {}", E::NAME));
+}
+
+/// A session that is stored and loaded.
+fn stored(memory: &mut Memory, session: Session) -> Session {
+    let bytes = session.to_bytes();
+    drop(session);
+    memory.one_record("while it is stored in SANSE");
+    Session::from_bytes(&bytes).unwrap()
 }
 
 /// The same in SANE.
-fn sane(memory: &mut Memory) {
-    let mut sent = Vec::new();
-    let (mut session, _, _) = SaneSession::start(KEY, NONCE).unwrap();
-    memory.one_record("after start in SANE");
-    for message in messages() {
-        sent.push(session.seal(GROUP, &Plain { metadata: METADATA, message: &message }).unwrap().envelope);
-        memory.one_record("after sealing in SANE");
-    }
+fn stored_in_sane(memory: &mut Memory, session: SaneSession) -> SaneSession {
+    let bytes = session.to_bytes();
     drop(session);
-    memory.nothing("after the end of a session in SANE");
-
-    let (mut session, _, _) = SaneSession::start(KEY, NONCE).unwrap();
-    for envelope in &sent {
-        let mut damaged = envelope.clone();
-        *damaged.last_mut().unwrap() ^= 1;
-        assert!(session.open(&damaged).is_err());
-        memory.one_record("after a refused opening in SANE");
-        let _ = session.open(envelope).unwrap();
-        memory.one_record("after opening in SANE");
-        let moved = Box::new(session);
-        session = *moved;
-        let bytes = session.to_bytes();
-        drop(session);
-        memory.one_record("while it is stored in SANE");
-        session = SaneSession::from_bytes(&bytes).unwrap();
-        drop(bytes);
-        memory.one_record("after storing and loading in SANE");
-    }
-    drop(session);
-    memory.nothing("after the end of a second session in SANE");
+    memory.one_record("while it is stored in SANE");
+    SaneSession::from_bytes(&bytes).unwrap()
 }
 
 /// The same for a group of a table.
@@ -253,22 +370,20 @@ fn table(memory: &mut Memory) {
     office.start_day(u32::MAX);
     office.open_group(GROUP, KEY).unwrap();
     memory.one_record("after opening a group");
-    let mut sent = Vec::new();
-    for message in messages() {
-        sent.push(office.seal(GROUP, &Plain { metadata: METADATA, message: &message }).unwrap());
-        memory.one_record("after sealing for a group");
-        office.code(GROUP, PACKET).unwrap();
-        memory.one_record("after a code for a group");
-    }
+    let sent = sends(memory, &mut office);
     assert_eq!(office.nearly_full(1), Some(GROUP));
     memory.one_record("after the nearly-full question");
     office.start_day(u32::MAX);
     memory.one_record("after the start of a day");
     office.open_group(GROUP, KEY).unwrap();
-    for sealed in &sent {
-        let _ = office.open(&sealed.envelope).unwrap();
-        memory.one_record("after opening an envelope of a group");
+    for travels in &sent {
+        receives(memory, &mut office, travels);
     }
+    stored_table(memory, office);
+}
+
+/// A table that is stored and loaded, also as versions up to 0.4 stored it.
+fn stored_table(memory: &mut Memory, mut office: Table) {
     let bytes = office.to_bytes();
     drop(office);
     memory.one_record("while the table is stored");

@@ -3,6 +3,7 @@
 
 mod common;
 
+use common::headers::{Ways, all_were_there};
 use common::play::{self, Ends, Tally};
 use common::{
     Arrival, SaneBoth, answer_of, cases, is_whole_run, key, length, maybe_long, other_length, record_of, same, text,
@@ -41,9 +42,11 @@ fn messages_both_ways() {
         }
     });
     if is_whole_run() {
-        let Tally { numbers, forged } = tally;
+        let Tally { numbers, forged, ways, accepted } = tally;
         assert!(forged > 10_000, "{forged} forged arrivals");
-        assert!(numbers[0] > 5_000 && [6, 7, 8].iter().all(|number| numbers[*number] > 100), "{numbers:?}");
+        assert!(accepted.iter().all(|sort| *sort > 5_000), "without and for an envelope: {accepted:?}");
+        all_were_there(&ways, 100);
+        assert!(numbers[0] > 5_000 && [1, 6, 7, 8].iter().all(|number| numbers[*number] > 100), "{numbers:?}");
     }
 }
 
@@ -56,10 +59,17 @@ fn every_pair_of_edges() {
 
 #[test]
 fn any_record() {
-    let mut numbers = [0; 12];
-    cases("any_record", |random| numbers[play::call_on_any_record::<SaneRecord>(random) as usize] += 1);
+    // By the record's openness, and by number.
+    let (mut numbers, mut ways) = ([[0; 12]; 2], Ways::default());
+    cases("any_record", |random| {
+        let (number, open) = play::call_on_any_record::<SaneRecord>(random, &mut ways);
+        numbers[usize::from(open)][number as usize] += 1;
+    });
     if is_whole_run() {
-        assert!([0, 5, 6, 7, 8, 9, 11].iter().all(|number| numbers[*number] > 10), "{numbers:?}");
+        let [closed, open] = numbers;
+        assert!([0, 1, 6, 7, 8, 9, 11].iter().all(|number| open[*number] > 10), "{open:?}");
+        assert!(closed[1] > 10 && closed[5] > 100 && closed[1] + closed[5] == closed.iter().sum(), "{closed:?}");
+        all_were_there(&ways, 10);
     }
 }
 
@@ -98,41 +108,45 @@ impl End {
         assert!(same(&self.both.library, &record_of(&self.ledger.record())), "the history gives another record");
     }
 
-    /// Wraps some message, with lengths that are refused now and then, and gives what travels.
-    fn wrap(&mut self, random: &mut Random, numbers: &mut [u64; 12]) -> Option<Arrival> {
+    /// Wraps some message, with a header or lengths that are refused now and then, and gives what travels.
+    fn wrap(&mut self, random: &mut Random, tally: &mut Tally) -> Option<Arrival> {
         let (metadata, message) = (text(random), text(random));
         let (metadata, message) = (maybe_long(random, &metadata, 30), maybe_long(random, &message, 30));
+        let envelope = play::any_envelope(random);
+        let header = play::any_header::<SaneRecord>(random, envelope, &metadata, &message, &mut tally.ways);
         let (room, tag_length) = (other_length(random, message.len(), 8), other_length(random, 16, 12));
         let (mut out, mut tag) = (random.bytes(room), random.bytes(tag_length));
         let (mut out_too, mut tag_too) = (out.clone(), tag.clone());
-        let answer = self.both.wrap(&metadata, &message, &mut out, &mut tag);
-        assert_eq!(answer, answer_of(self.ledger.wrap(&metadata, &message, &mut out_too, &mut tag_too)));
+        let answer = self.both.wrap_for(header.as_deref(), &metadata, &message, &mut out, &mut tag);
+        let by_history = self.ledger.wrap_for(header.as_deref(), &metadata, &message, &mut out_too, &mut tag_too);
+        assert_eq!(answer, answer_of(by_history));
         assert!(out == out_too && tag == tag_too, "the history gives other buffers");
         self.check();
-        numbers[answer.number as usize] += 1;
         out.truncate(message.len());
-        (answer.number == 0).then_some(Arrival { metadata, cryptogram: out, tag, message })
+        let accepted = tally.take(header.as_deref(), answer);
+        accepted.then_some(Arrival { header, metadata, cryptogram: out, tag, message })
     }
 
     /// Unwraps an arrival, now and then damaged or with a buffer of another length, and gives whether it was accepted.
-    fn unwrap(&mut self, random: &mut Random, arrival: &Arrival, numbers: &mut [u64; 12]) -> bool {
-        let handed = if random.once_in(3) { arrival.damaged(random) } else { arrival.clone() };
+    fn unwrap(&mut self, random: &mut Random, arrival: &Arrival, tally: &mut Tally) -> bool {
+        let is_damaged = random.once_in(3);
+        let handed = if is_damaged { arrival.damaged(random, b'N', &mut tally.ways) } else { arrival.clone() };
         let room = other_length(random, handed.cryptogram.len(), 8);
         let mut out = random.bytes(room);
         let mut out_too = out.clone();
-        let Arrival { metadata, cryptogram, tag, .. } = &handed;
-        let answer = self.both.unwrap(metadata, cryptogram, tag, &mut out);
-        assert_eq!(answer, answer_of(self.ledger.unwrap(metadata, cryptogram, tag, &mut out_too)));
+        let Arrival { header, metadata, cryptogram, tag, .. } = &handed;
+        let answer = self.both.unwrap_for(header.as_deref(), metadata, cryptogram, tag, &mut out);
+        let by_history = self.ledger.unwrap_for(header.as_deref(), metadata, cryptogram, tag, &mut out_too);
+        assert_eq!(answer, answer_of(by_history));
         assert!(out == out_too, "the history gives another buffer");
         self.check();
-        numbers[answer.number as usize] += 1;
-        answer.number == 0
+        tally.take(header.as_deref(), answer)
     }
 }
 
 #[test]
 fn lists_against_the_full_history() {
-    let (mut wraps, mut unwraps) = ([0; 12], [0; 12]);
+    let (mut wraps, mut unwraps) = (Tally::default(), Tally::default());
     cases("lists_against_the_full_history", |random| {
         let (key, nonce) = (key(random), text(random));
         let mut ends = [(); 2].map(|()| End::start(random, &key, &nonce));
@@ -154,8 +168,10 @@ fn lists_against_the_full_history() {
         }
     });
     if is_whole_run() {
-        assert!([0, 6, 7, 8].iter().all(|number| wraps[*number] > 100), "wraps: {wraps:?}");
-        assert!([0, 8, 11].iter().all(|number| unwraps[*number] > 100), "unwraps: {unwraps:?}");
+        assert!([0, 1, 6, 7, 8].iter().all(|number| wraps.numbers[*number] > 100), "wraps: {:?}", wraps.numbers);
+        assert!([0, 1, 8, 11].iter().all(|number| unwraps.numbers[*number] > 100), "unwraps: {:?}", unwraps.numbers);
+        assert!(unwraps.accepted.iter().all(|sort| *sort > 1_000), "{:?}", unwraps.accepted);
+        all_were_there(&unwraps.ways, 20);
     }
 }
 

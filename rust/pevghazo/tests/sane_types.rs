@@ -1,8 +1,8 @@
 //! The safe type of a session in SANE: its start, refusals, stored bytes, envelopes, and what is shown.
 
 use pevghazo::{
-    Arrival, BadBytes, INDEX_MAX, KEY_MAX, KEY_MIN, NONCE_MAX, Number, Plain, Refusal, SANE_TAG_LENGTH, SaneSession,
-    Session, TEXT_MAX, Table, Wrapped, raw,
+    Arrival, BadBytes, INDEX_MAX, KEY_MAX, KEY_MIN, Letter, NONCE_MAX, Number, Plain, Refusal, SANE_TAG_LENGTH,
+    SaneSession, Session, TEXT_MAX, Table, Wrapped, envelope, raw,
 };
 
 const KEY: &[u8] = b"a key for the tests here";
@@ -190,7 +190,8 @@ fn stored_bytes_are_checked() {
     assert_eq!((session.index(), session.toggle(), session.is_open()), (0x0003_0201, true, true));
 }
 
-/// Sealing is wrapping and writing, opening is reading and unwrapping, and the first check that is met is the one that is named.
+/// Sealing is writing the header, wrapping for it and writing the envelope; opening is reading and unwrapping; and the first check
+/// that is met is the one that is named.
 #[test]
 fn envelopes_of_a_session() {
     let (mut here, mut there, mut by_hand) = (start(), start(), start());
@@ -198,9 +199,9 @@ fn envelopes_of_a_session() {
         let message = vec![length as u8 ^ 0x55; length];
         let plain = Plain { metadata: b"size C", message: &message };
         let sealed = here.seal(group, &plain).unwrap();
-        let wrapped = by_hand.wrap(&plain).unwrap();
-        let header = format!("N,{group},6,{length},size C");
-        assert_eq!(sealed.envelope, [header.as_bytes(), &wrapped.cryptogram, &wrapped.tag].concat());
+        let header = format!("N,{group},6,{length},").into_bytes();
+        let wrapped = by_hand.wrap_envelope(&header, &plain).unwrap();
+        assert_eq!(sealed.envelope, [&header, &b"size C"[..], &wrapped.cryptogram, &wrapped.tag].concat());
         let followed = [&sealed.envelope[..], b"more"].concat();
         let opened = there.open(&followed).unwrap();
         assert_eq!((opened.group, opened.metadata, opened.count), (group, &b"size C"[..], wrapped.count));
@@ -221,7 +222,7 @@ fn envelopes_of_a_session() {
     assert_eq!(*here.to_bytes(), *before, "refusals leave the session");
 }
 
-/// An envelope of the other mode gets 7 at an open session, also at one with the same key, and alters nothing.
+/// An envelope of the other mode gets 1, also at a session with the same key, and alters nothing.
 #[test]
 fn envelopes_of_the_other_mode() {
     let (mut sane, mut sanse) = (start(), Session::start(KEY).unwrap().0);
@@ -231,21 +232,48 @@ fn envelopes_of_the_other_mode() {
     let block = Plain { metadata: b"size C", message: b"12001-12100" };
     let (n, s) = (sane.seal(7, &block).unwrap().envelope, sanse.seal(7, &block).unwrap().envelope);
     let before = (sane.to_bytes(), sanse.to_bytes(), office.to_bytes());
-    assert_eq!(sane.open(&s).unwrap_err(), refused(Number::BadTagLength));
-    assert_eq!(sanse.open(&n).unwrap_err(), refused(Number::BadTagLength));
-    assert_eq!(office.open(&n).unwrap_err(), refused(Number::BadTagLength));
+    assert_eq!(sane.open(&s).unwrap_err(), refused(Number::BadHeader));
+    assert_eq!(sanse.open(&n).unwrap_err(), refused(Number::BadHeader));
+    assert_eq!(office.open(&n).unwrap_err(), refused(Number::BadHeader));
     assert_eq!((&*sane.to_bytes(), &*sanse.to_bytes()), (&*before.0, &*before.1));
     assert_eq!(*office.to_bytes(), *before.2, "neither a session nor a count");
-    // A session that is not open says so first, as the library's checks are ordered.
-    assert_eq!(SaneSession::from_bytes(&[0; 102]).unwrap().open(&s).unwrap_err(), refused(Number::NotOpen));
-    assert_eq!(Session::from_bytes(&[0; 102]).unwrap().open(&n).unwrap_err(), refused(Number::NotOpen));
+    // Also at one that is not open: the header is looked at first.
+    assert_eq!(SaneSession::from_bytes(&[0; 102]).unwrap().open(&s).unwrap_err(), refused(Number::BadHeader));
+    assert_eq!(Session::from_bytes(&[0; 102]).unwrap().open(&n).unwrap_err(), refused(Number::BadHeader));
     let other = sane.seal(8, &block).unwrap().envelope;
-    assert_eq!(office.open(&other).unwrap_err(), refused(Number::NotOpen));
+    assert_eq!(office.open(&other).unwrap_err(), refused(Number::BadHeader));
     // The letters swapped, with a tag of the length that goes with each: taken for what it is, and refused.
     let as_s = [b"S", &n[1..], &[0; 16]].concat();
     assert_eq!(sanse.open(&as_s).unwrap_err().number, Number::WrongTag);
     let as_n = [b"N", &s[1..s.len() - 16]].concat();
     assert_eq!(sane.open(&as_n).unwrap_err().number, Number::WrongTag);
+}
+
+/// Two groups with one key and one nonce, and an envelope whose group digit was altered on the way; and one that was sealed as
+/// versions before 0.8 did, without the header under the tag.
+#[test]
+fn envelopes_with_another_header() {
+    let (mut here, mut there) = (start(), start());
+    let block = Plain { metadata: b"size C", message: b"12001-12100" };
+    let sealed = here.seal(8, &block).unwrap();
+    let mut readdressed = sealed.envelope.clone();
+    readdressed[2] = b'9';
+    let wrong = Refusal { number: Number::WrongTag, count: sealed.count };
+    assert_eq!(there.open(&readdressed).unwrap_err(), wrong);
+    assert_eq!(there.unwrap_envelope(&envelope::read(&readdressed).unwrap()).unwrap_err(), wrong);
+    assert_eq!(there.open(&sealed.envelope).unwrap().message, block.message);
+
+    for header in [&b""[..], b"N,7,6,12,", b"S,7,6,11,", b"N,7,6,11,,"] {
+        assert_eq!(here.wrap_envelope(header, &block).unwrap_err(), refused(Number::BadHeader));
+    }
+    let (mut out, mut tag) = ([0xAA; 12], [0xBB; SANE_TAG_LENGTH]);
+    let answer = here.wrap_envelope_to(b"N,7,6,11,", &block, &mut out[..10], &mut tag);
+    assert_eq!((answer, out, tag), (Err(refused(Number::NoRoom)), [0xAA; 12], [0xBB; SANE_TAG_LENGTH]));
+    let old = here.wrap(&block).unwrap();
+    let bytes = envelope::write(Letter::N, 7, b"size C", &old.cryptogram, &old.tag).unwrap();
+    let arrived = envelope::read(&bytes).unwrap();
+    assert_eq!(there.unwrap_envelope_to(&arrived, &mut out).unwrap_err().number, Number::WrongTag);
+    assert_eq!(there.unwrap(&arrived.arrival().unwrap()).unwrap().message, block.message);
 }
 
 #[test]

@@ -3,6 +3,7 @@
 
 mod common;
 
+use common::headers::{Ways, all_were_there};
 use common::play::{self, Ends, Tally};
 use common::{Both, cases, is_whole_run, key};
 use pevghazo::raw::Record;
@@ -33,9 +34,11 @@ fn messages_both_ways() {
         }
     });
     if is_whole_run() {
-        let Tally { numbers, forged } = tally;
+        let Tally { numbers, forged, ways, accepted } = tally;
         assert!(forged > 10_000, "{forged} forged arrivals");
-        assert!(numbers[0] > 5_000 && [6, 7, 8].iter().all(|number| numbers[*number] > 100), "{numbers:?}");
+        assert!(accepted.iter().all(|sort| *sort > 5_000), "without and for an envelope: {accepted:?}");
+        all_were_there(&ways, 100);
+        assert!(numbers[0] > 5_000 && [1, 6, 7, 8].iter().all(|number| numbers[*number] > 100), "{numbers:?}");
         assert!([0, 8, 12].iter().all(|number| codes[*number] > 1_000), "codes: {codes:?}");
     }
 }
@@ -60,10 +63,17 @@ fn every_length_of_a_key() {
 
 #[test]
 fn any_record() {
-    let mut numbers = [0; 12];
-    cases("any_record", |random| numbers[play::call_on_any_record::<Record>(random) as usize] += 1);
+    // By the record's openness, and by number.
+    let (mut numbers, mut ways) = ([[0; 12]; 2], Ways::default());
+    cases("any_record", |random| {
+        let (number, open) = play::call_on_any_record::<Record>(random, &mut ways);
+        numbers[usize::from(open)][number as usize] += 1;
+    });
     if is_whole_run() {
-        assert!([0, 5, 6, 7, 8, 9, 11].iter().all(|number| numbers[*number] > 10), "{numbers:?}");
+        let [closed, open] = numbers;
+        assert!([0, 1, 6, 7, 8, 9, 11].iter().all(|number| open[*number] > 10), "{open:?}");
+        assert!(closed[1] > 10 && closed[5] > 100 && closed[1] + closed[5] == closed.iter().sum(), "{closed:?}");
+        all_were_there(&ways, 10);
     }
 }
 

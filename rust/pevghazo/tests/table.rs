@@ -3,6 +3,8 @@
 
 mod common;
 
+use common::headers::{Ways, header, maybe_misfit};
+use common::play::{any_envelope, next_arrival};
 use common::tables::{Tables, any_number, any_record, group_record_of, same_group};
 use common::{Arrival, Both, Library, cases, copy, is_whole_run, key, maybe_long, other_length, record_of, same, text};
 use pevghazo::raw::{self, Answer, GroupRecord, Record};
@@ -52,30 +54,70 @@ fn any_opening(random: &mut Random, tables: &mut Tables, group: u32) -> Answer {
     tables.open_group(group, &random.bytes(length))
 }
 
+/// The header of a call for a group with these lengths, mostly that of the group; or none, for a call without an envelope.
+fn any_header(random: &mut Random, group: u32, (a, m): (usize, usize), ways: &mut Ways) -> Option<Vec<u8>> {
+    let other = any_envelope(random)?;
+    let named = if random.once_in(8) { other } else { group };
+    Some(maybe_misfit(random, ways, 8, header(b'S', named, a, m), (a, m)))
+}
+
 /// Wraps for a group, now and then with texts or buffers of other lengths.
-fn any_wrap(random: &mut Random, tables: &mut Tables, group: u32) -> Answer {
+fn any_wrap(random: &mut Random, tables: &mut Tables, group: u32, ways: &mut Ways) -> (Option<Vec<u8>>, Answer) {
     let (metadata, message) = (text(random), text(random));
-    set_numbers(random, tables, group, count(metadata.len(), message.len()));
     let (a, m) = (maybe_long(random, &metadata, 20), maybe_long(random, &message, 20));
+    let header = any_header(random, group, (a.len(), m.len()), ways);
+    let string = header.as_ref().map_or(0, Vec::len) + metadata.len();
+    set_numbers(random, tables, group, count(string, message.len()));
     let (room, tag_length) = (other_length(random, m.len(), 10), other_length(random, 32, 12));
-    tables.wrap(group, &a, &m, &mut random.bytes(room), &mut random.bytes(tag_length))
+    let (mut out, mut tag) = (random.bytes(room), random.bytes(tag_length));
+    let answer = tables.wrap_for(group, header.as_deref(), &a, &m, &mut out, &mut tag);
+    (header, answer)
 }
 
 /// Unwraps for a group what its session takes, or something that is damaged.
-fn any_unwrap(random: &mut Random, tables: &mut Tables, group: u32) -> Answer {
+fn any_unwrap(random: &mut Random, tables: &mut Tables, group: u32, ways: &mut Ways) -> (Option<Vec<u8>>, Answer) {
     let (metadata, message) = (text(random), text(random));
-    set_numbers(random, tables, group, count(metadata.len(), message.len()));
+    let whole = any_envelope(random).map(|_| header(b'S', group.min(31), metadata.len(), message.len()));
     let record = tables.reference.records.get(group as usize);
     let session = record.map_or(Session::CLOSED, |record| record.session.clone());
-    let (mut cryptogram, mut tag) = (vec![0; message.len()], vec![0; 32]);
-    Session { index: 0, open: true, ..session }.wrap(&metadata, &message, &mut cryptogram, &mut tag).unwrap();
-    tag.truncate(other_length(random, 32, 12));
-    let arrival = Arrival { metadata, cryptogram, tag, message };
-    let bad = if random.once_in(3) { arrival.damaged(random) } else { arrival.clone() };
+    let mut arrival = next_arrival(&session, whole, metadata, message);
+    let (string, length) = arrival.lengths();
+    set_numbers(random, tables, group, count(string, length));
+    arrival.tag.truncate(other_length(random, 32, 12));
+    let bad = if random.once_in(3) { arrival.damaged(random, b'S', ways) } else { arrival.clone() };
     let room = other_length(random, arrival.message.len(), 10);
-    let answer = tables.unwrap(group, &bad.metadata, &bad.cryptogram, &bad.tag, &mut random.bytes(room));
+    let Arrival { header, metadata, cryptogram, tag, .. } = &bad;
+    let mut out = random.bytes(room);
+    let answer = tables.unwrap_for(group, header.as_deref(), metadata, cryptogram, tag, &mut out);
     assert!(answer.number != 0 || bad.travels_as(&arrival));
-    answer
+    (bad.header, answer)
+}
+
+/// What calls that wrap or unwrap for a group were answered, by number: without an envelope, and for one; and the ways in which
+/// headers were others.
+#[derive(Default)]
+struct Tally {
+    numbers: [[u64; 13]; 2],
+    ways: Ways,
+}
+
+impl Tally {
+    /// Wraps or unwraps for a group.
+    fn call(&mut self, random: &mut Random, tables: &mut Tables, group: u32) {
+        let call = if random.once_in(2) { any_wrap } else { any_unwrap };
+        let (header, answer) = call(random, tables, group, &mut self.ways);
+        self.numbers[usize::from(header.is_some())][answer.number as usize] += 1;
+    }
+
+    /// Every number of such calls has been there, 1 for envelopes alone and 6 without one alone.
+    fn check(&self) {
+        let [without, with] = self.numbers;
+        assert!([0, 3, 5, 6, 7, 8, 9, 10, 11].iter().all(|number| without[*number] >= 20), "{without:?}");
+        assert!([0, 1, 3, 5, 7, 8, 9, 10, 11].iter().all(|number| with[*number] >= 20), "{with:?}");
+        assert_eq!((without[1], with[6]), (0, 0));
+        assert!([without, with].iter().all(|numbers| numbers[10] >= 100 && numbers[11] >= 50), "{without:?} {with:?}");
+        assert!(self.ways.iter().all(|times| *times >= 10), "{:?}", self.ways);
+    }
 }
 
 /// The nearly-full question at some marks; the last answer's number.
@@ -91,7 +133,7 @@ fn any_question(random: &mut Random, tables: &Tables) -> u32 {
 /// Some calls on any table, most of them for one group, with starts of a day in between.
 #[test]
 fn any_table_and_any_numbers() {
-    let mut numbers = [0; 13];
+    let (mut numbers, mut tally) = ([0; 13], Tally::default());
     cases("any_table_and_any_numbers", |random| {
         let records = (0..any_size(random)).map(|_| any_record(random)).collect();
         let mut tables = Tables::of(Table { records, allowance: any_number(random) });
@@ -104,8 +146,10 @@ fn any_table_and_any_numbers() {
                     continue;
                 }
                 1 | 2 => any_opening(random, &mut tables, group).number,
-                3..6 => any_wrap(random, &mut tables, group).number,
-                6..10 => any_unwrap(random, &mut tables, group).number,
+                3..10 => {
+                    tally.call(random, &mut tables, group);
+                    continue;
+                }
                 10 if !tables.records.is_empty() => tables.code(random, group as usize % tables.records.len()).number,
                 _ => any_question(random, &tables),
             };
@@ -113,8 +157,8 @@ fn any_table_and_any_numbers() {
         }
     });
     if is_whole_run() {
-        assert!((3..13).chain([0]).all(|number| numbers[number] >= 20), "{numbers:?}");
-        assert!(numbers[10] >= 300 && numbers[11] >= 100, "{numbers:?}");
+        assert!([0, 3, 4, 5, 8, 10, 12].iter().all(|number| numbers[*number] >= 20), "{numbers:?}");
+        tally.check();
     }
 }
 
@@ -238,6 +282,7 @@ struct Season {
     accepted: u32,
     refused: u32,
     poor: u32,
+    ways: Ways,
 }
 
 /// Up to 199 bytes.
@@ -267,37 +312,45 @@ impl Season {
         self.groups[place] = Some(lone);
     }
 
-    /// A message goes out to the group, and so does a forged one, unless the group's allowance does not cover it.
+    /// A message goes out to the group, in an envelope or without one, and so does a forged one, unless the group's allowance does
+    /// not cover it.
     fn send_out(&mut self, random: &mut Random, group: u32, lone: &mut Both) -> bool {
         let (metadata, message) = (short(random), short(random));
+        let header = any_envelope(random).map(|_| header(b'S', group, metadata.len(), message.len()));
         let (mut out, mut tag) = (random.bytes(message.len()), random.bytes(32));
-        if self.office.wrap(group, &metadata, &message, &mut out, &mut tag).number == 10 {
+        let answer = self.office.wrap_for(group, header.as_deref(), &metadata, &message, &mut out, &mut tag);
+        if answer.number == 10 {
             self.poor += 1;
             return false;
         }
-        let sent = Arrival { metadata, cryptogram: out, tag, message };
-        let forged = sent.damaged(random);
+        assert_eq!(answer.number, 0);
+        let sent = Arrival { header, metadata, cryptogram: out, tag, message };
+        let forged = sent.damaged(random, b'S', &mut self.ways);
         if !forged.travels_as(&sent) {
+            let expected = if forged.header_fits(b'S') { 11 } else { 1 };
             let mut out = random.bytes(forged.cryptogram.len());
-            assert_eq!(lone.unwrap(&forged.metadata, &forged.cryptogram, &forged.tag, &mut out).number, 11);
+            assert_eq!(unwrap_at(lone, &forged, &mut out).number, expected);
             self.refused += 1;
         }
         let mut back = random.bytes(sent.message.len());
-        assert_eq!(lone.unwrap(&sent.metadata, &sent.cryptogram, &sent.tag, &mut back).number, 0);
+        assert_eq!(unwrap_at(lone, &sent, &mut back).number, 0);
         assert!(back == sent.message);
         self.accepted += 1;
         true
     }
 
-    /// A message goes back to the office, in an envelope whose header may be damaged on the way, and then once more.
+    /// A message goes back to the office, in an envelope whose header may be damaged on the way, and then once more. It was wrapped
+    /// for the envelope, or without one.
     fn send_back(&mut self, random: &mut Random, group: u32, lone: &mut Both) -> bool {
         let before = copy(&lone.library);
         let (metadata, message) = (short(random), short(random));
+        let header = any_envelope(random).map(|_| header(b'S', group, metadata.len(), message.len()));
+        let header = header.as_deref();
         let (mut out, mut tag) = (random.bytes(message.len()), random.bytes(32));
-        assert_eq!(lone.wrap(&metadata, &message, &mut out, &mut tag).number, 0);
-        self.damaged_header(random, group, &metadata, &out, &tag);
+        assert_eq!(lone.wrap_for(header, &metadata, &message, &mut out, &mut tag).number, 0);
+        self.damaged_header(random, group, header.is_some(), [&metadata, &out, &tag]);
         let mut back = random.bytes(message.len());
-        let answer = self.office.unwrap(group, &metadata, &out, &tag, &mut back);
+        let answer = self.office.unwrap_for(group, header, &metadata, &out, &tag, &mut back);
         if answer.number == 10 {
             // The group takes it back, as nobody has opened it: tests may.
             lone.reference = before.reference();
@@ -307,14 +360,16 @@ impl Season {
         }
         assert!(answer.number == 0 && back == message);
         self.accepted += 1;
-        let repeated = self.office.unwrap(group, &metadata, &out, &tag, &mut back);
+        let repeated = self.office.unwrap_for(group, header, &metadata, &out, &tag, &mut back);
         assert!([10, 11].contains(&repeated.number));
         self.refused += 1;
         true
     }
 
-    /// The envelope with another byte in its header is no envelope, or the office refuses it.
-    fn damaged_header(&mut self, random: &mut Random, group: u32, metadata: &[u8], cryptogram: &[u8], tag: &[u8]) {
+    /// The envelope with another byte in its header is no envelope, or the office refuses it, whether it unwraps for the envelope or
+    /// without it.
+    fn damaged_header(&mut self, random: &mut Random, group: u32, for_envelope: bool, parts: [&[u8]; 3]) {
+        let [metadata, cryptogram, tag] = parts;
         let mut bytes = vec![0; 17 + metadata.len() + cryptogram.len() + 32];
         let len = envelope::write(b'S', group, metadata, cryptogram, tag, &mut bytes).unwrap();
         bytes.truncate(len);
@@ -327,12 +382,24 @@ impl Season {
         }
         let Ok(parts) = envelope::read(&damaged) else { return };
         let mut out = random.bytes(parts.cryptogram.len());
-        let answer = self.office.unwrap(parts.group, parts.metadata, parts.cryptogram, parts.tag, &mut out);
-        // The other letter goes with a shorter tag.
-        let expected = if parts.letter == b'N' { &[7][..] } else { &[5, 10, 11] };
+        let envelope::Parts { group, metadata, cryptogram, tag, .. } = parts;
+        let header = for_envelope.then_some(parts.header);
+        let answer = self.office.unwrap_for(group, header, metadata, cryptogram, tag, &mut out);
+        // The other letter is not the call's, and goes with a shorter tag.
+        let expected = match (parts.letter, for_envelope) {
+            (b'N', true) => &[1][..],
+            (b'N', false) => &[7],
+            _ => &[5, 10, 11],
+        };
         assert!(expected.contains(&answer.number), "{answer:?}");
         self.refused += 1;
     }
+}
+
+/// Hands an arrival to a lone session.
+fn unwrap_at(lone: &mut Both, arrival: &Arrival, out: &mut [u8]) -> Answer {
+    let Arrival { header, metadata, cryptogram, tag, .. } = arrival;
+    lone.unwrap_for(header.as_deref(), metadata, cryptogram, tag, out)
 }
 
 /// The office and its groups, for some days.
@@ -340,8 +407,8 @@ impl Season {
 fn an_office_and_its_groups() {
     let (mut accepted, mut refused, mut poor) = (0, 0, 0);
     cases("an_office_and_its_groups", |random| {
-        let groups = (0..32).map(|_| None).collect();
-        let mut season = Season { office: Tables::of(Table::new()), groups, accepted: 0, refused: 0, poor: 0 };
+        let (groups, ways) = ((0..32).map(|_| None).collect(), Ways::default());
+        let mut season = Season { office: Tables::of(Table::new()), groups, accepted: 0, refused: 0, poor: 0, ways };
         for _ in 0..12 {
             let group = if random.once_in(3) { random.below(32) } else { random.below(4) };
             if random.once_in(8) {

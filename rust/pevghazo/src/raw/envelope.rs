@@ -53,7 +53,7 @@ unsafe extern "C" {
         out: *mut u8,
         out_len: usize,
     ) -> Written;
-    fn pevghazo_write_header(
+    pub(super) fn pevghazo_write_header(
         letter: u8,
         group: u32,
         metadata_len: usize,

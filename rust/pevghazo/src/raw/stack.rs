@@ -49,8 +49,10 @@ fn clear_registers() {}
 #[cfg(test)]
 mod tests {
     use super::*;
-    use crate::raw::{GroupRecord, Record, SaneRecord, codes, sane, session, table};
-    use crate::{CODE_LENGTH, GROUPS, KEY_MAX, NONCE_MAX, PACKET_MAX, SANE_TAG_LENGTH, TAG_LENGTH, TEXT_MAX};
+    use crate::raw::{GroupRecord, Record, SaneRecord, codes, envelope, sane, session, table};
+    use crate::{
+        CODE_LENGTH, GROUPS, HEADER_MAX, KEY_MAX, NONCE_MAX, PACKET_MAX, SANE_TAG_LENGTH, TAG_LENGTH, TEXT_MAX,
+    };
     use std::fs::File;
     use std::os::unix::fs::FileExt;
 
@@ -86,6 +88,8 @@ mod tests {
     }
 
     const N: usize = TEXT_MAX;
+    const GROUP: u32 = 31;
+    const CALLS: usize = 18;
 
     /// What the calls work on, at its longest.
     struct Arguments {
@@ -112,26 +116,60 @@ mod tests {
         }
 
         /// One of the library's functions itself, without the clearing, and its number. Each third call unwraps what was not
-        /// wrapped so; the last one is never refused, and gives the allowance.
+        /// wrapped so; the start of a day is never refused, and gives the allowance.
         fn call(&mut self, call: usize) -> u32 {
             let (k, t, s, a) = (self.key.as_ptr(), self.text.as_ptr(), &mut self.lone, self.table.as_mut_ptr());
             let (out, tag, n) = (self.out.as_mut_ptr(), self.tag.as_mut_ptr(), &mut self.sane);
+            const T: usize = TAG_LENGTH;
+            const ALL: u32 = u32::MAX;
             // SAFETY: pointers and lengths are those of the fields.
             unsafe {
                 match call {
                     0 => session::pevghazo_start(s, k, KEY_MAX).number,
-                    1 => session::pevghazo_wrap(s, t, N, t, N, out, N, tag, TAG_LENGTH).number,
-                    2 => session::pevghazo_unwrap(s, t, N, t, N, tag, TAG_LENGTH, out, N).number,
-                    3 => table::pevghazo_open_group(a, GROUPS, 7, u32::MAX, k, KEY_MAX).number,
-                    4 => table::pevghazo_wrap_group(a, GROUPS, 7, u32::MAX, t, N, t, N, out, N, tag, TAG_LENGTH).number,
-                    5 => {
-                        table::pevghazo_unwrap_group(a, GROUPS, 7, u32::MAX, t, N, t, N, tag, TAG_LENGTH, out, N).number
-                    }
+                    1 => session::pevghazo_wrap(s, t, N, t, N, out, N, tag, T).number,
+                    2 => session::pevghazo_unwrap(s, t, N, t, N, tag, T, out, N).number,
+                    3 => table::pevghazo_open_group(a, GROUPS, GROUP, ALL, k, KEY_MAX).number,
+                    4 => table::pevghazo_wrap_group(a, GROUPS, GROUP, ALL, t, N, t, N, out, N, tag, T).number,
+                    5 => table::pevghazo_unwrap_group(a, GROUPS, GROUP, ALL, t, N, t, N, tag, T, out, N).number,
                     6 => sane::pevghazo_sane_start(n, k, KEY_MAX, t, NONCE_MAX, tag, SANE_TAG_LENGTH).number,
                     7 => sane::pevghazo_sane_wrap(n, t, N, t, N, out, N, tag, SANE_TAG_LENGTH).number,
                     8 => sane::pevghazo_sane_unwrap(n, t, N, t, N, tag, SANE_TAG_LENGTH, out, N).number,
                     9 => codes::pevghazo_code(s, PACKET_MAX, out, CODE_LENGTH).number,
-                    _ => table::pevghazo_start_day(a, GROUPS, 0),
+                    12 => table::pevghazo_start_day(a, GROUPS, 0),
+                    _ => self.call_for_envelope(call),
+                }
+            }
+        }
+
+        /// The same of the calls for an envelope with the longest header.
+        fn call_for_envelope(&mut self, call: usize) -> u32 {
+            let (t, s, a) = (self.text.as_ptr(), &mut self.lone, self.table.as_mut_ptr());
+            let (out, tag, n) = (self.out.as_mut_ptr(), self.tag.as_mut_ptr(), &mut self.sane);
+            let [h, sane_h] = [b"S,31,16384,16384,", b"N,31,16384,16384,"].map(|header| header.as_ptr());
+            const H: usize = HEADER_MAX;
+            const T: usize = TAG_LENGTH;
+            const ALL: u32 = u32::MAX;
+            // SAFETY: as above.
+            unsafe {
+                match call {
+                    10 => session::pevghazo_wrap_envelope(s, h, H, t, N, t, N, out, N, tag, T).number,
+                    11 => session::pevghazo_unwrap_envelope(s, h, H, t, N, t, N, tag, T, out, N).number,
+                    13 => {
+                        table::pevghazo_wrap_envelope_group(a, GROUPS, GROUP, ALL, h, H, t, N, t, N, out, N, tag, T)
+                            .number
+                    }
+                    14 => {
+                        table::pevghazo_unwrap_envelope_group(a, GROUPS, GROUP, ALL, h, H, t, N, t, N, tag, T, out, N)
+                            .number
+                    }
+                    16 => {
+                        sane::pevghazo_sane_wrap_envelope(n, sane_h, H, t, N, t, N, out, N, tag, SANE_TAG_LENGTH).number
+                    }
+                    17 => {
+                        sane::pevghazo_sane_unwrap_envelope(n, sane_h, H, t, N, t, N, tag, SANE_TAG_LENGTH, out, N)
+                            .number
+                    }
+                    _ => envelope::pevghazo_write_header(b'S', GROUP, N, N, out, H).number,
                 }
             }
         }
@@ -142,7 +180,7 @@ mod tests {
         let mut arguments = Arguments::new();
         let mut deepest = 0;
         // The first turn may look up functions of the C library.
-        for call in (0..11).chain(0..11) {
+        for call in (0..CALLS).chain(0..CALLS) {
             let depth = depth(&mut || assert_eq!(arguments.call(call), if call % 3 == 2 { 11 } else { 0 }));
             println!("call {call}: {depth} bytes of stack");
             deepest = deepest.max(depth);

@@ -7,7 +7,7 @@ use pevghazo_reference::random::Random;
 use pevghazo_reference::refusal::Refusal;
 use pevghazo_reference::sane::Sane;
 use pevghazo_reference::sanse::Sanse;
-use pevghazo_reference::session::{Mode, Record as Reference, SaneSession, Session};
+use pevghazo_reference::session::{Header, Mode, Record as Reference, SaneSession, Session};
 
 use super::{other_length, packet};
 
@@ -22,16 +22,40 @@ pub trait Library: Sized {
     /// The reference's record with the content of this one. Only tests look at it.
     fn reference(&self) -> Reference<Self::Mode>;
 
-    /// Wraps.
-    fn wrap(&mut self, metadata: &[u8], message: &[u8], out: &mut [u8], tag: &mut [u8]) -> Answer;
+    /// Wraps, for the envelope with this header or without one.
+    fn wrap_for(
+        &mut self,
+        header: Header<'_>,
+        metadata: &[u8],
+        message: &[u8],
+        out: &mut [u8],
+        tag: &mut [u8],
+    ) -> Answer;
 
-    /// Unwraps.
-    fn unwrap(&mut self, metadata: &[u8], cryptogram: &[u8], tag: &[u8], out: &mut [u8]) -> Answer;
+    /// Unwraps, for the envelope with this header or without one.
+    fn unwrap_for(
+        &mut self,
+        header: Header<'_>,
+        metadata: &[u8],
+        cryptogram: &[u8],
+        tag: &[u8],
+        out: &mut [u8],
+    ) -> Answer;
+
+    /// Wraps without an envelope.
+    fn wrap(&mut self, metadata: &[u8], message: &[u8], out: &mut [u8], tag: &mut [u8]) -> Answer {
+        self.wrap_for(None, metadata, message, out, tag)
+    }
+
+    /// Unwraps without an envelope.
+    fn unwrap(&mut self, metadata: &[u8], cryptogram: &[u8], tag: &[u8], out: &mut [u8]) -> Answer {
+        self.unwrap_for(None, metadata, cryptogram, tag, out)
+    }
 }
 
 /// The two kinds of records have the same fields.
 macro_rules! library {
-    ($record:ident, $mode:ty, $wrap:path, $unwrap:path) => {
+    ($record:ident, $mode:ty, [$wrap:path, $unwrap:path], [$wrap_envelope:path, $unwrap_envelope:path]) => {
         impl Library for $record {
             type Mode = $mode;
 
@@ -56,19 +80,25 @@ macro_rules! library {
                 }
             }
 
-            fn wrap(&mut self, metadata: &[u8], message: &[u8], out: &mut [u8], tag: &mut [u8]) -> Answer {
-                $wrap(self, metadata, message, out, tag)
+            fn wrap_for(&mut self, header: Header<'_>, a: &[u8], m: &[u8], out: &mut [u8], tag: &mut [u8]) -> Answer {
+                match header {
+                    Some(header) => $wrap_envelope(self, header, a, m, out, tag),
+                    None => $wrap(self, a, m, out, tag),
+                }
             }
 
-            fn unwrap(&mut self, metadata: &[u8], cryptogram: &[u8], tag: &[u8], out: &mut [u8]) -> Answer {
-                $unwrap(self, metadata, cryptogram, tag, out)
+            fn unwrap_for(&mut self, header: Header<'_>, a: &[u8], c: &[u8], tag: &[u8], out: &mut [u8]) -> Answer {
+                match header {
+                    Some(header) => $unwrap_envelope(self, header, a, c, tag, out),
+                    None => $unwrap(self, a, c, tag, out),
+                }
             }
         }
     };
 }
 
-library!(Record, Sanse, raw::wrap, raw::unwrap);
-library!(SaneRecord, Sane, raw::sane_wrap, raw::sane_unwrap);
+library!(Record, Sanse, [raw::wrap, raw::unwrap], [raw::wrap_envelope, raw::unwrap_envelope]);
+library!(SaneRecord, Sane, [raw::sane_wrap, raw::sane_unwrap], [raw::sane_wrap_envelope, raw::sane_unwrap_envelope]);
 
 /// A second record with the same content. Only tests do this.
 pub fn copy<R: Library>(record: &R) -> R {
@@ -138,11 +168,23 @@ impl<R: Library> BothOf<R> {
         assert_eq!(library, *reference, "index, toggle, open");
     }
 
-    /// Wraps into these buffers.
+    /// Wraps into these buffers, without an envelope.
     pub fn wrap(&mut self, metadata: &[u8], message: &[u8], out: &mut [u8], tag: &mut [u8]) -> Answer {
+        self.wrap_for(None, metadata, message, out, tag)
+    }
+
+    /// Wraps into these buffers, for the envelope with this header or without one.
+    pub fn wrap_for(
+        &mut self,
+        header: Header<'_>,
+        metadata: &[u8],
+        message: &[u8],
+        out: &mut [u8],
+        tag: &mut [u8],
+    ) -> Answer {
         let (mut out_too, mut tag_too) = (out.to_vec(), tag.to_vec());
-        let given = self.library.wrap(metadata, message, out, tag);
-        let answer = self.reference.wrap(metadata, message, &mut out_too, &mut tag_too);
+        let given = self.library.wrap_for(header, metadata, message, out, tag);
+        let answer = self.reference.wrap_for(header, metadata, message, &mut out_too, &mut tag_too);
         assert_eq!(given, answer_of(answer), "wrap");
         assert!(out == out_too, "wrap: the output buffers differ");
         assert!(tag == tag_too, "wrap: the tag buffers differ");
@@ -150,11 +192,23 @@ impl<R: Library> BothOf<R> {
         given
     }
 
-    /// Unwraps into this buffer.
+    /// Unwraps into this buffer, without an envelope.
     pub fn unwrap(&mut self, metadata: &[u8], cryptogram: &[u8], tag: &[u8], out: &mut [u8]) -> Answer {
+        self.unwrap_for(None, metadata, cryptogram, tag, out)
+    }
+
+    /// Unwraps into this buffer, for the envelope with this header or without one.
+    pub fn unwrap_for(
+        &mut self,
+        header: Header<'_>,
+        metadata: &[u8],
+        cryptogram: &[u8],
+        tag: &[u8],
+        out: &mut [u8],
+    ) -> Answer {
         let mut out_too = out.to_vec();
-        let given = self.library.unwrap(metadata, cryptogram, tag, out);
-        let answer = self.reference.unwrap(metadata, cryptogram, tag, &mut out_too);
+        let given = self.library.unwrap_for(header, metadata, cryptogram, tag, out);
+        let answer = self.reference.unwrap_for(header, metadata, cryptogram, tag, &mut out_too);
         assert_eq!(given, answer_of(answer), "unwrap");
         assert!(out == out_too, "unwrap: the output buffers differ");
         self.check();

@@ -5,12 +5,15 @@
 #![allow(dead_code, unused_imports)]
 
 mod both;
+pub mod headers;
 pub mod play;
 pub mod pools;
 pub mod tables;
 
 pub use both::{Both, BothOf, Library, SaneBoth, answer_of, any_session, copy, record_of, same};
+use headers::{ADDED, ANOTHER_GROUP, DROPPED, Ways, group_of, header, misfit};
 use pevghazo_reference::random::Random;
+use pevghazo_reference::session::metadata_string;
 
 /// The lengths at which something changes.
 pub const EDGES: [usize; 10] = [0, 1, 47, 48, 49, 95, 96, 97, 16_383, 16_384];
@@ -130,9 +133,10 @@ pub fn damaged(random: &mut Random, bytes: &[u8]) -> Vec<u8> {
     bad
 }
 
-/// What travels, with the message that it should give.
+/// What travels, for an envelope with this header or without one, with the message that it should give.
 #[derive(Clone, Debug, PartialEq, Eq)]
 pub struct Arrival {
+    pub header: Option<Vec<u8>>,
     pub metadata: Vec<u8>,
     pub cryptogram: Vec<u8>,
     pub tag: Vec<u8>,
@@ -142,11 +146,55 @@ pub struct Arrival {
 impl Arrival {
     /// Whether the two travel as the same bytes.
     pub fn travels_as(&self, other: &Arrival) -> bool {
-        (&self.metadata, &self.cryptogram, &self.tag) == (&other.metadata, &other.cryptogram, &other.tag)
+        self.header == other.header
+            && (&self.metadata, &self.cryptogram, &self.tag) == (&other.metadata, &other.cryptogram, &other.tag)
     }
 
-    /// The arrival with one kind of damage; it may be none for empty parts.
-    pub fn damaged(&self, random: &mut Random) -> Arrival {
+    /// Whether there is no header, or one that fits a lone session of this letter.
+    pub fn header_fits(&self, letter: u8) -> bool {
+        let lengths = (self.metadata.len(), self.cryptogram.len());
+        self.header.as_ref().is_none_or(|header| headers::fits(header, letter, lengths.0, lengths.1))
+    }
+
+    /// The lengths of its metadata string and of its cryptogram.
+    pub fn lengths(&self) -> (usize, usize) {
+        (metadata_string(self.header.as_deref(), &self.metadata).len(), self.cryptogram.len())
+    }
+
+    /// The arrival at a session of this letter with one kind of damage; it may be none for empty parts. Where its lengths are
+    /// others then, a header mostly goes with them.
+    pub fn damaged(&self, random: &mut Random, letter: u8, ways: &mut Ways) -> Arrival {
+        if random.once_in(4) {
+            return self.with_another_header(random, letter, ways);
+        }
+        let mut bad = self.damaged_part(random);
+        if let Some(whole) = &self.header
+            && !random.once_in(4)
+        {
+            bad.header = Some(header(letter, group_of(whole), bad.metadata.len(), bad.cryptogram.len()));
+        }
+        bad
+    }
+
+    /// The arrival with something else in the place of its header, or of none.
+    fn with_another_header(&self, random: &mut Random, letter: u8, ways: &mut Ways) -> Arrival {
+        let (a, c, group) = (self.metadata.len(), self.cryptogram.len(), random.below(32) as u32);
+        let fitting = Some(header(letter, group, a, c));
+        let (way, header) = match (&self.header, random.below(4)) {
+            (Some(_), 0) => (DROPPED, None),
+            (Some(_), 1) => (ANOTHER_GROUP, fitting),
+            (None, 0 | 1) => (ADDED, fitting),
+            _ => {
+                let (way, bytes) = misfit(random, letter, group, a, c);
+                (way, Some(bytes))
+            }
+        };
+        ways[way] += u64::from(header != self.header);
+        Arrival { header, ..self.clone() }
+    }
+
+    /// The arrival with damage in its metadata, its cryptogram or its tag.
+    fn damaged_part(&self, random: &mut Random) -> Arrival {
         let mut bad = self.clone();
         match random.below(12) {
             0 | 1 => bad.tag = damaged(random, &self.tag),

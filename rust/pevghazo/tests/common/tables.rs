@@ -3,6 +3,7 @@
 use pevghazo::raw::{self, Answer, Found, GroupRecord};
 use pevghazo_reference::random::Random;
 use pevghazo_reference::refusal::Number;
+use pevghazo_reference::session::Header;
 use pevghazo_reference::table::{GroupRecord as Reference, Table};
 
 use super::{answer_of, any_session, other_length, packet, record_of, same};
@@ -49,6 +50,36 @@ pub fn any_record(random: &mut Random) -> Reference {
     Reference { session: any_session(random), count: any_number(random) }
 }
 
+/// Wraps for a group with the library, for the envelope with this header or without one.
+pub fn wrap_group(
+    table: &mut [GroupRecord],
+    group: u32,
+    allowance: u32,
+    header: Header<'_>,
+    [metadata, message]: [&[u8]; 2],
+    [out, tag]: [&mut [u8]; 2],
+) -> Answer {
+    match header {
+        Some(header) => raw::wrap_envelope_group(table, group, allowance, header, metadata, message, out, tag),
+        None => raw::wrap_group(table, group, allowance, metadata, message, out, tag),
+    }
+}
+
+/// Unwraps for a group with the library, for the envelope with this header or without one.
+pub fn unwrap_group(
+    table: &mut [GroupRecord],
+    group: u32,
+    allowance: u32,
+    header: Header<'_>,
+    [metadata, cryptogram, tag]: [&[u8]; 3],
+    out: &mut [u8],
+) -> Answer {
+    match header {
+        Some(header) => raw::unwrap_envelope_group(table, group, allowance, header, metadata, cryptogram, tag, out),
+        None => raw::unwrap_group(table, group, allowance, metadata, cryptogram, tag, out),
+    }
+}
+
 impl Tables {
     /// The same table on both sides.
     pub fn of(reference: Table) -> Tables {
@@ -93,17 +124,44 @@ impl Tables {
     }
 
     pub fn wrap(&mut self, group: u32, metadata: &[u8], message: &[u8], out: &mut [u8], tag: &mut [u8]) -> Answer {
+        self.wrap_for(group, None, metadata, message, out, tag)
+    }
+
+    /// Wraps for the envelope with this header, or without one.
+    pub fn wrap_for(
+        &mut self,
+        group: u32,
+        header: Header<'_>,
+        metadata: &[u8],
+        message: &[u8],
+        out: &mut [u8],
+        tag: &mut [u8],
+    ) -> Answer {
         let (mut out_too, mut tag_too) = (out.to_vec(), tag.to_vec());
-        let given = raw::wrap_group(&mut self.records, group, self.allowance, metadata, message, out, tag);
-        let answer = self.reference.wrap(group, metadata, message, &mut out_too, &mut tag_too);
+        let given =
+            wrap_group(&mut self.records, group, self.allowance, header, [metadata, message], [&mut *out, &mut *tag]);
+        let answer = self.reference.wrap_for(group, header, metadata, message, &mut out_too, &mut tag_too);
         assert!(out == out_too && tag == tag_too, "wrap: the buffers differ");
         self.check(given, answer_of(answer))
     }
 
     pub fn unwrap(&mut self, group: u32, metadata: &[u8], cryptogram: &[u8], tag: &[u8], out: &mut [u8]) -> Answer {
+        self.unwrap_for(group, None, metadata, cryptogram, tag, out)
+    }
+
+    /// Unwraps for the envelope with this header, or without one.
+    pub fn unwrap_for(
+        &mut self,
+        group: u32,
+        header: Header<'_>,
+        metadata: &[u8],
+        cryptogram: &[u8],
+        tag: &[u8],
+        out: &mut [u8],
+    ) -> Answer {
         let mut out_too = out.to_vec();
-        let given = raw::unwrap_group(&mut self.records, group, self.allowance, metadata, cryptogram, tag, out);
-        let answer = self.reference.unwrap(group, metadata, cryptogram, tag, &mut out_too);
+        let given = unwrap_group(&mut self.records, group, self.allowance, header, [metadata, cryptogram, tag], out);
+        let answer = self.reference.unwrap_for(group, header, metadata, cryptogram, tag, &mut out_too);
         assert!(out == out_too, "unwrap: the buffers differ");
         self.check(given, answer_of(answer))
     }
