@@ -11,19 +11,24 @@
 void rust_start(pevghazo_session *s, const uint8_t *key, size_t n);
 bool rust_wrap(pevghazo_session *s, const uint8_t *metadata, size_t a, const uint8_t *message, size_t m, uint8_t *out, uint8_t *tag);
 bool rust_unwrap(pevghazo_session *s, const uint8_t *metadata, size_t a, const uint8_t *cryptogram, size_t m, const uint8_t *tag, uint8_t *out);
+uint32_t rust_wrap_envelope(pevghazo_session *s, const uint8_t *header, size_t h, const uint8_t *metadata, size_t a, const uint8_t *message, size_t m,
+                            uint8_t *out, uint8_t *tag);
+uint32_t rust_unwrap_envelope(pevghazo_session *s, const uint8_t *header, size_t h, const uint8_t *metadata, size_t a, const uint8_t *cryptogram,
+                              size_t m, const uint8_t *tag, uint8_t *out);
 uint32_t rust_count(size_t a, size_t m);
 
-/* Of metadata, messages and nonces; SANE's keystream is the output from byte 16 on, so that its blocks begin and end 16 bytes earlier. */
-static const size_t lengths[] = {0, 1, 31, 32, 33, 47, 48, 49, 79, 80, 81, 95, 96, 97, PEVGHAZO_TEXT_MAX - 1, PEVGHAZO_TEXT_MAX};
+/* Of metadata, messages and nonces. SANE's keystream is the output from byte 16 on, so that its blocks begin and end 16 bytes earlier. A header beside
+ * short texts has 10 or 11 bytes, so that the first block of header and metadata ends with 36 or 37 bytes of these. */
+static const size_t lengths[] = {0, 1, 31, 32, 33, 36, 37, 38, 47, 48, 49, 79, 80, 81, 95, 96, 97, PEVGHAZO_TEXT_MAX - 1, PEVGHAZO_TEXT_MAX};
 enum { LENGTHS = sizeof lengths / sizeof lengths[0] };
 
 /* The buffers of a call: a row each, its length, and the same of the other side. Where they stand between, each kind's addresses go by steps of its
  * own, so that they differ from the others'; a record's are multiples of 4, and a pool's of 8. */
-enum { RECORD, KEY, NONCE, METADATA, INPUT, OUTPUT, TAG, POOL, LINE, BUFFERS };
-static const int steps[BUFFERS] = {4, 1, 3, 5, 7, 9, 11, 8, 13};
-static const char *const otherwise[BUFFERS] = {"another record", "the key was altered", "the nonce was altered", "the metadata were altered",
-                                               "the message or cryptogram was altered", "another output", "another tag", "another pool",
-                                               "the line was altered"};
+enum { RECORD, KEY, NONCE, HEADER, METADATA, INPUT, OUTPUT, TAG, POOL, LINE, BUFFERS };
+static const int steps[BUFFERS] = {4, 1, 3, 15, 5, 7, 9, 11, 8, 13};
+static const char *const otherwise[BUFFERS] = {"another record", "the key was altered", "the nonce was altered", "the header was altered",
+                                               "the metadata were altered", "the message or cryptogram was altered", "another output",
+                                               "another tag", "another pool", "the line was altered"};
 static row rows[BUFFERS];
 static size_t n[BUFFERS];
 static _Alignas(16) uint8_t other[BUFFERS][PEVGHAZO_TEXT_MAX];
@@ -38,19 +43,51 @@ static unsigned calls;
 
 /* ---- the calls */
 
-/* Those of a lone session, of a group of a table and of a session in SANE, three each; a packet's code; the start of a day; the nearly-full
- * question, by a mark that no index is above, so that every record is read; and those of a pool, which are asked for a ring that it does not have. */
+/* Those of a lone session, of a group of a table and of a session in SANE, five each; a packet's code; a header; the start of a day; the
+ * nearly-full question, by a mark that no index is above, so that every record is read; and those of a pool, which are asked for a ring that it does
+ * not have. */
 enum { LONE, GROUP, SANE, KINDS };
-enum { START, WRAP, UNWRAP, OPEN_GROUP, WRAP_GROUP, UNWRAP_GROUP, SANE_START, SANE_WRAP, SANE_UNWRAP, CODE, DAY, QUESTION,
-       ADD, HOLDS, RINGS, CALLS, OF_A_KIND = 3 };
-static const char *const names[CALLS] = {"start", "wrap", "unwrap", "open a group", "wrap for a group", "unwrap for a group",
-                                         "start in SANE", "wrap in SANE", "unwrap in SANE", "code", "start of a day", "nearly-full question",
+enum { START, WRAP, UNWRAP, WRAP_ENVELOPE, UNWRAP_ENVELOPE, OPEN_GROUP, WRAP_GROUP, UNWRAP_GROUP, WRAP_ENVELOPE_GROUP, UNWRAP_ENVELOPE_GROUP,
+       SANE_START, SANE_WRAP, SANE_UNWRAP, SANE_WRAP_ENVELOPE, SANE_UNWRAP_ENVELOPE, CODE, WRITE_HEADER, DAY, QUESTION,
+       ADD, HOLDS, RINGS, CALLS, OF_A_KIND = 5 };
+static const char *const names[CALLS] = {"start", "wrap", "unwrap", "wrap for an envelope", "unwrap for an envelope", "open a group",
+                                         "wrap for a group", "unwrap for a group", "wrap for a group's envelope", "unwrap for a group's envelope",
+                                         "start in SANE", "wrap in SANE", "unwrap in SANE", "wrap for an envelope in SANE",
+                                         "unwrap for an envelope in SANE", "code", "write a header", "start of a day", "nearly-full question",
                                          "add a line", "whether a ring is held", "rings"};
-static const uint32_t group = 7, allowance = UINT32_MAX;
+static const uint32_t group = 17, allowance = UINT32_MAX;
 
 /* Whether a call's records are those of a table, and how many there are then. */
 static bool in_table(int call) { return call / OF_A_KIND == GROUP || call == DAY || call == QUESTION; }
 static size_t table_len(void) { return n[RECORD] / IN_TABLE; }
+
+/* The number that the library gives, of the calls for an envelope and of the writing of a header. */
+static uint32_t called_for_envelope(int call, uint8_t *const b[BUFFERS]) {
+    pevghazo_session *session = (void *)b[RECORD];
+    pevghazo_record *table = (void *)b[RECORD];
+    pevghazo_sane_session *sane = (void *)b[RECORD];
+    switch (call) {
+    case WRAP_ENVELOPE:
+        return pevghazo_wrap_envelope(session, b[HEADER], n[HEADER], b[METADATA], n[METADATA], b[INPUT], n[INPUT], b[OUTPUT], n[OUTPUT], b[TAG],
+                                      n[TAG]).number;
+    case UNWRAP_ENVELOPE:
+        return pevghazo_unwrap_envelope(session, b[HEADER], n[HEADER], b[METADATA], n[METADATA], b[INPUT], n[INPUT], b[TAG], n[TAG], b[OUTPUT],
+                                        n[OUTPUT]).number;
+    case WRAP_ENVELOPE_GROUP:
+        return pevghazo_wrap_envelope_group(table, table_len(), group, allowance, b[HEADER], n[HEADER], b[METADATA], n[METADATA], b[INPUT],
+                                            n[INPUT], b[OUTPUT], n[OUTPUT], b[TAG], n[TAG]).number;
+    case UNWRAP_ENVELOPE_GROUP:
+        return pevghazo_unwrap_envelope_group(table, table_len(), group, allowance, b[HEADER], n[HEADER], b[METADATA], n[METADATA], b[INPUT],
+                                              n[INPUT], b[TAG], n[TAG], b[OUTPUT], n[OUTPUT]).number;
+    case SANE_WRAP_ENVELOPE:
+        return pevghazo_sane_wrap_envelope(sane, b[HEADER], n[HEADER], b[METADATA], n[METADATA], b[INPUT], n[INPUT], b[OUTPUT], n[OUTPUT],
+                                           b[TAG], n[TAG]).number;
+    case SANE_UNWRAP_ENVELOPE:
+        return pevghazo_sane_unwrap_envelope(sane, b[HEADER], n[HEADER], b[METADATA], n[METADATA], b[INPUT], n[INPUT], b[TAG], n[TAG],
+                                             b[OUTPUT], n[OUTPUT]).number;
+    default: return pevghazo_write_header(PEVGHAZO_LETTER_S, group, n[METADATA], n[INPUT], b[OUTPUT], n[OUTPUT]).number;
+    }
+}
 
 /* The number that the library gives. */
 static uint32_t called(int call, uint8_t *const b[BUFFERS]) {
@@ -78,7 +115,8 @@ static uint32_t called(int call, uint8_t *const b[BUFFERS]) {
     case SANE_WRAP: return pevghazo_sane_wrap(sane, b[METADATA], n[METADATA], b[INPUT], n[INPUT], b[OUTPUT], n[OUTPUT], b[TAG], n[TAG]).number;
     case SANE_UNWRAP:
         return pevghazo_sane_unwrap(sane, b[METADATA], n[METADATA], b[INPUT], n[INPUT], b[TAG], n[TAG], b[OUTPUT], n[OUTPUT]).number;
-    default: return pevghazo_code(session, packet, b[OUTPUT], n[OUTPUT]).number;
+    case CODE: return pevghazo_code(session, packet, b[OUTPUT], n[OUTPUT]).number;
+    default: return called_for_envelope(call, b);
     }
 }
 
@@ -87,8 +125,8 @@ static pevghazo_record *other_record(size_t i) { return (pevghazo_record *)(void
 
 /* The same on the other side, but for what a table counts. */
 static uint32_t expected(int call) {
-    uint8_t *const b[BUFFERS] = {other[RECORD], other[KEY], other[NONCE], other[METADATA], other[INPUT], other[OUTPUT], other[TAG], other[POOL],
-                                other[LINE]};
+    uint8_t *const b[BUFFERS] = {other[RECORD], other[KEY], other[NONCE], other[HEADER], other[METADATA], other[INPUT], other[OUTPUT], other[TAG],
+                                other[POOL], other[LINE]};
     pevghazo_session *session = in_table(call) ? &other_record(group)->session : (void *)b[RECORD];
     switch (call) {
     case START:
@@ -100,15 +138,25 @@ static uint32_t expected(int call) {
     case UNWRAP:
     case UNWRAP_GROUP:
         return rust_unwrap(session, b[METADATA], n[METADATA], b[INPUT], n[INPUT], b[TAG], b[OUTPUT]) ? PEVGHAZO_ACCEPTED : PEVGHAZO_WRONG_TAG;
+    case WRAP_ENVELOPE:
+    case WRAP_ENVELOPE_GROUP:
+        return rust_wrap_envelope(session, b[HEADER], n[HEADER], b[METADATA], n[METADATA], b[INPUT], n[INPUT], b[OUTPUT], b[TAG]);
+    case UNWRAP_ENVELOPE:
+    case UNWRAP_ENVELOPE_GROUP:
+        return rust_unwrap_envelope(session, b[HEADER], n[HEADER], b[METADATA], n[METADATA], b[INPUT], n[INPUT], b[TAG], b[OUTPUT]);
     case DAY: return PEVGHAZO_ACCEPTED;
     default: return called(call, b);
     }
 }
 
-/* What a table counts on the other side: the call's permutations in its group, a wrong tag's too, and 0 in every record where a day begins. */
-static void expected_counts(int call) {
+/* What a table counts on the other side: the call's permutations in its group, a wrong tag's too but no refused header's, and 0 in every record
+ * where a day begins. */
+static void expected_counts(int call, uint32_t number) {
+    const bool for_envelope = call == WRAP_ENVELOPE_GROUP || call == UNWRAP_ENVELOPE_GROUP;
+    const size_t header = for_envelope ? n[HEADER] : 0;
     if (call == OPEN_GROUP) other_record(group)->count += 1;
-    if (call == WRAP_GROUP || call == UNWRAP_GROUP) other_record(group)->count += rust_count(n[METADATA], n[INPUT]);
+    if (call == WRAP_GROUP || call == UNWRAP_GROUP || (for_envelope && number != PEVGHAZO_BAD_HEADER))
+        other_record(group)->count += rust_count(header + n[METADATA], n[INPUT]);
     for (size_t i = 0; call == DAY && i < table_len(); i++) other_record(i)->count = 0;
 }
 
@@ -116,14 +164,15 @@ static void expected_counts(int call) {
 static void both(int call, uint32_t number) {
     const size_t step = in_table(call) ? IN_TABLE : ONE_SESSION;
     uint8_t *b[BUFFERS];
-    snprintf(doing, sizeof doing, "%s, lengths %zu (records), %zu (key), %zu (nonce), %zu (metadata), %zu (message), %zu (line), %s (place %d)",
-             names[call], n[RECORD], n[KEY], n[NONCE], n[METADATA], n[INPUT], n[LINE], place_name(where), where);
+    snprintf(doing, sizeof doing,
+             "%s, lengths %zu (records), %zu (key), %zu (nonce), %zu (header), %zu (metadata), %zu (message), %zu (line), %s (place %d)",
+             names[call], n[RECORD], n[KEY], n[NONCE], n[HEADER], n[METADATA], n[INPUT], n[LINE], place_name(where), where);
     for (int i = 0; i < BUFFERS; i++) {
         lay(&rows[i], where, steps[i], other[i], n[i]);
         b[i] = rows[i].at;
     }
     if (expected(call) != number) fail("another number on the other side");
-    expected_counts(call);
+    expected_counts(call, number);
     for (int i = KEY; i <= INPUT; i++) holds(&rows[i], other[i], otherwise[i]);
     if (called(call, b) != number) fail("another number");
     for (size_t i = FIELDS; i < n[RECORD]; i += step) memcpy(&other[RECORD][i], b[RECORD] + i, ONE_SESSION - FIELDS);
@@ -152,8 +201,9 @@ static void starts(int kind) {
     }
 }
 
-/* Wraps a message; the end that has the record of before then refuses it with a wrong tag, and takes it with the right one. */
-static void message(int kind, size_t a, size_t m) {
+/* Wraps a message by this call of a kind; the end that has the record of before then refuses it with a wrong tag, and takes it with the right one,
+ * by that call. */
+static void message(int kind, int wrap, int unwrap, size_t a, size_t m) {
     static uint8_t before[PEVGHAZO_TEXT_MAX], sent[PEVGHAZO_TEXT_MAX];
     uint8_t *wrong = &other[TAG][calls % n[TAG]];
     fill(METADATA, a);
@@ -161,15 +211,49 @@ static void message(int kind, size_t a, size_t m) {
     fill(OUTPUT, m);
     memcpy(before, other[RECORD], n[RECORD]);
     memcpy(sent, other[INPUT], m);
-    both(OF_A_KIND * kind + WRAP, PEVGHAZO_ACCEPTED);
+    both(OF_A_KIND * kind + wrap, PEVGHAZO_ACCEPTED);
     memcpy(other[RECORD], before, n[RECORD]);
     memcpy(other[INPUT], other[OUTPUT], m);
     *wrong ^= 1;
-    both(OF_A_KIND * kind + UNWRAP, PEVGHAZO_WRONG_TAG);
+    both(OF_A_KIND * kind + unwrap, PEVGHAZO_WRONG_TAG);
     *wrong ^= 1;
     fill(OUTPUT, m);
-    both(OF_A_KIND * kind + UNWRAP, PEVGHAZO_ACCEPTED);
+    both(OF_A_KIND * kind + unwrap, PEVGHAZO_ACCEPTED);
     if (memcmp(other[OUTPUT], sent, m) != 0) fail("another message comes back");
+}
+
+/* A header with this letter for texts of these lengths. */
+static void put_header(char letter, size_t a, size_t m) {
+    char text[PEVGHAZO_HEADER_MAX + 1];
+    n[HEADER] = (size_t)snprintf(text, sizeof text, "%c,%u,%zu,%zu,", letter, group, a, m);
+    memcpy(other[HEADER], text, n[HEADER]);
+}
+
+/* The same for an envelope, whose header is written into a buffer of just its length, too. */
+static void message_in_envelope(int kind, size_t a, size_t m) {
+    put_header(kind == SANE ? PEVGHAZO_LETTER_N : PEVGHAZO_LETTER_S, a, m);
+    message(kind, WRAP_ENVELOPE, UNWRAP_ENVELOPE, a, m);
+    if (kind == SANE) return;
+    fill(OUTPUT, n[HEADER]);
+    both(WRITE_HEADER, PEVGHAZO_ACCEPTED);
+    if (memcmp(other[OUTPUT], other[HEADER], n[HEADER]) != 0) fail("another header is written");
+}
+
+/* Every part of a header from its start on, and one with a byte more, is refused; nothing behind it is read. */
+static void refused_headers(int kind) {
+    const size_t whole = PEVGHAZO_HEADER_MAX;
+    fill(METADATA, PEVGHAZO_TEXT_MAX);
+    fill(INPUT, PEVGHAZO_TEXT_MAX);
+    fill(OUTPUT, PEVGHAZO_TEXT_MAX);
+    for (size_t length = 0; length <= whole + 1; length++) {
+        put_header(kind == SANE ? PEVGHAZO_LETTER_N : PEVGHAZO_LETTER_S, n[METADATA], n[INPUT]);
+        if (n[HEADER] != whole) fail("this is not the longest header");
+        if (length == whole) continue;
+        other[HEADER][whole] = ',';
+        n[HEADER] = length;
+        both(OF_A_KIND * kind + WRAP_ENVELOPE, PEVGHAZO_BAD_HEADER);
+        both(OF_A_KIND * kind + UNWRAP_ENVELOPE, PEVGHAZO_BAD_HEADER);
+    }
 }
 
 /* A packet's code; a group's is that of its session. */
@@ -183,9 +267,11 @@ static void session(int kind) {
     starts(kind);
     for (int i = 0; i < LENGTHS; i++)
         for (int j = 0; j < LENGTHS; j++) {
-            message(kind, lengths[i], lengths[j]);
+            message(kind, WRAP, UNWRAP, lengths[i], lengths[j]);
+            message_in_envelope(kind, lengths[i], lengths[j]);
             if (kind == LONE) code();
         }
+    refused_headers(kind);
 }
 
 /* A day over a run of so many records, of any content, and the question. */

@@ -2,14 +2,14 @@
  *
  * Valgrind's memcheck follows every bit that was never set, and reports a branch or an address that depends on one. Here the secrets are
  * marked so: the key, the lanes of a record, and the message, before they are handed to the library. Start, wrap, codes, the start of a day and
- * the nearly-full question must give no report.
+ * the nearly-full question must give no report, and neither must a call that is refused for its header.
  * Unwrap may give one, once in a call: its verdict on the tag, which everybody may know. tests/constant_time.sh runs this for lone sessions, for a
- * group of a table and for sessions in SANE, and checks that all these reports come from one branch. The lengths go up to the limit of
- * 16,384 bytes. A second argument N plants a leak in every wrap of a message of more than N bytes, and 'early' and N a comparison that ends at
- * the first difference in every unwrap of one; they must be seen.
+ * group of a table and for sessions in SANE, without an envelope and for one, and checks that all these reports come from one branch. The lengths
+ * go up to the limit of 16,384 bytes. A second argument N plants a leak in every wrap of a message of more than N bytes, and 'early' and N a
+ * comparison that ends at the first difference in every unwrap of one; they must be seen.
  *
  * A record's index, toggle and openness, a group's count, the allowance and all lengths are no secrets: anybody who sees the messages can count
- * them. Metadata, cryptograms, tags and nonces travel in the clear, and packets are numbered in the open. */
+ * them. Headers, metadata, cryptograms, tags and nonces travel in the clear, and packets are numbered in the open. */
 #include <pevghazo.h>
 #include <stdio.h>
 #include <stdlib.h>
@@ -28,10 +28,11 @@ static const size_t lengths[] = {0, 1, 16, 32, 33, 47, 48, 49, 95, 96, 97, 200, 
 static const size_t long_lengths[] = {1025, 5000, 16320, LONGEST - 1, LONGEST};
 enum { LENGTHS = sizeof lengths / sizeof lengths[0], LONG_LENGTHS = sizeof long_lengths / sizeof long_lengths[0] };
 
-/* Whose calls are made: those of a lone session, of a group of a table, or of a session in SANE. */
-enum { LONE, GROUP, SANE, KINDS };
-static const char *const kinds[KINDS] = {"lone", "group", "sane"};
+/* Whose calls are made: those of a lone session, of a group of a table, or of a session in SANE; and whether for an envelope. */
+enum { LONE, GROUP, SANE, KINDS, WORDS = 2 * KINDS };
+static const char *const words[WORDS] = {"lone", "group", "sane", "lone-envelope", "group-envelope", "sane-envelope"};
 static int kind;
+static bool for_envelope;
 
 static const char *doing = "";
 static unsigned verdicts, calls;
@@ -124,6 +125,17 @@ static void numbers_are_public(void) {
 
 static uint8_t metadata[ROOM], message[ROOM], cryptogram[ROOM], tag[PEVGHAZO_TAG_LENGTH], back[ROOM];
 
+/* The header of a call for an envelope. */
+static uint8_t header[PEVGHAZO_HEADER_MAX];
+static size_t header_len;
+
+static void put_header(size_t a, size_t m) {
+    const uint8_t letter = kind == SANE ? PEVGHAZO_LETTER_N : PEVGHAZO_LETTER_S;
+    const pevghazo_written written = pevghazo_write_header(letter, group, a, m, header, sizeof header);
+    if (written.number != PEVGHAZO_ACCEPTED) fail("the header is refused");
+    header_len = written.len;
+}
+
 /* A nonce is used in SANE alone, and is no secret. */
 static pevghazo_answer call_start(const uint8_t *key, size_t key_len, size_t nonce_len) {
     switch (kind) {
@@ -133,7 +145,31 @@ static pevghazo_answer call_start(const uint8_t *key, size_t key_len, size_t non
     }
 }
 
+/* The same two for an envelope. */
+static pevghazo_answer wrap_envelope(size_t a, size_t m) {
+    switch (kind) {
+    case LONE:
+        return pevghazo_wrap_envelope(&table[group].session, header, header_len, metadata, a, message, m, cryptogram, ROOM, tag, tag_len());
+    case GROUP:
+        return pevghazo_wrap_envelope_group(table, PEVGHAZO_GROUPS, group, allowance, header, header_len, metadata, a, message, m, cryptogram,
+                                            ROOM, tag, tag_len());
+    default: return pevghazo_sane_wrap_envelope(&sane, header, header_len, metadata, a, message, m, cryptogram, ROOM, tag, tag_len());
+    }
+}
+
+static pevghazo_answer unwrap_envelope(size_t a, size_t m, const uint8_t *arrived) {
+    switch (kind) {
+    case LONE:
+        return pevghazo_unwrap_envelope(&table[group].session, header, header_len, metadata, a, cryptogram, m, arrived, tag_len(), back, ROOM);
+    case GROUP:
+        return pevghazo_unwrap_envelope_group(table, PEVGHAZO_GROUPS, group, allowance, header, header_len, metadata, a, cryptogram, m, arrived,
+                                              tag_len(), back, ROOM);
+    default: return pevghazo_sane_unwrap_envelope(&sane, header, header_len, metadata, a, cryptogram, m, arrived, tag_len(), back, ROOM);
+    }
+}
+
 static pevghazo_answer call_wrap(size_t a, size_t m) {
+    if (for_envelope) return wrap_envelope(a, m);
     switch (kind) {
     case LONE: return pevghazo_wrap(&table[group].session, metadata, a, message, m, cryptogram, ROOM, tag, tag_len());
     case GROUP:
@@ -143,6 +179,7 @@ static pevghazo_answer call_wrap(size_t a, size_t m) {
 }
 
 static pevghazo_answer call_unwrap(size_t a, size_t m, const uint8_t *arrived) {
+    if (for_envelope) return unwrap_envelope(a, m, arrived);
     switch (kind) {
     case LONE: return pevghazo_unwrap(&table[group].session, metadata, a, cryptogram, m, arrived, tag_len(), back, ROOM);
     case GROUP:
@@ -210,6 +247,38 @@ static void unwrap(size_t a, size_t m, unsigned wrong) {
     if (wrong >= RIGHT) is_secret(back, m, "the message does not depend on the session");
     reveal(back, sizeof back);
     if (wrong >= RIGHT && memcmp(back, message, m) != 0) fail("the message does not come back");
+}
+
+/* A call for an envelope that is refused for its header depends on no secret, either: neither its answer nor a byte that it leaves. */
+static void refused_header(size_t a, size_t m) {
+    hide_lanes();
+    hide(message, m);
+    hide(cryptogram, m);
+    memset(back, 0, sizeof back);
+    reports();
+    const pevghazo_answer answers[2] = {wrap_envelope(a, m), unwrap_envelope(a, m, tag)};
+    no_report();
+    is_public(answers, sizeof answers, "an answer depends on a secret");
+    numbers_are_public();
+    is_public(back, sizeof back, "the output buffer depends on a secret");
+    is_public(tag, tag_len(), "the tag depends on a secret");
+    if (answers[0].number != PEVGHAZO_BAD_HEADER || answers[1].number != PEVGHAZO_BAD_HEADER) fail("the number is not the expected one");
+    reveal(message, m);
+    reveal(cryptogram, m);
+}
+
+/* One byte of the header altered, cut off or left out, and texts of another length than it says. */
+static void refused_headers(void) {
+    doing = "a header that is refused";
+    for (size_t i = 0; i < PEVGHAZO_HEADER_MAX; i++) {
+        put_header(6, 100);
+        if (i < header_len) header[i] ^= 0x40;
+        if (i >= header_len) header_len = PEVGHAZO_HEADER_MAX - 1 - i;
+        refused_header(6, 100);
+    }
+    put_header(6, 100);
+    refused_header(7, 100);
+    refused_header(6, 99);
 }
 
 /* Storing and loading, plain C beside the proved library. */
@@ -318,6 +387,7 @@ static void message_of(size_t a, size_t m) {
     reveal(record(), RECORD);
     memcpy(before, record(), RECORD);
     doing = text;
+    if (for_envelope) put_header(a, m);
     snprintf(text, sizeof text, "wrap, %zu and %zu bytes", a, m);
     wrap(a, m);
     snprintf(text, sizeof text, "unwrap, %zu and %zu bytes", a, m);
@@ -353,8 +423,10 @@ static void starts(void) {
 
 int main(int argc, char **argv) {
     const bool early = argc == 4 && strcmp(argv[2], "early") == 0;
-    for (kind = LONE; kind < KINDS && (argc < 2 || strcmp(argv[1], kinds[kind]) != 0);) kind++;
-    if (!RUNNING_ON_VALGRIND || kind == KINDS || argc > 4 || (argc == 4 && !early)) {
+    int word = 0;
+    while (word < WORDS && (argc < 2 || strcmp(argv[1], words[word]) != 0)) word++;
+    kind = word % KINDS, for_envelope = word >= KINDS;
+    if (!RUNNING_ON_VALGRIND || word == WORDS || argc > 4 || (argc == 4 && !early)) {
         fprintf(stderr, "constant time: run tests/constant_time.sh, which runs this under valgrind for each kind of session\n");
         return 2;
     }
@@ -366,6 +438,7 @@ int main(int argc, char **argv) {
     if (kind != SANE) code(0, PEVGHAZO_CODE_LENGTH, PEVGHAZO_NO_CODE);
     store_and_load();
     messages();
+    if (for_envelope) refused_headers();
     if (kind != SANE) codes();
     if (kind == GROUP) runs();
     printf("constant time, %s: %u calls, %u verdicts on tags seen, nothing else\n", argv[1], calls, verdicts);

@@ -1,6 +1,6 @@
 #!/usr/bin/env bash
-# Runs tests/constant_time.c under valgrind, for lone sessions, for a group and for sessions in SANE. It fails where a branch or an address depends
-# on a secret, but for the verdict on the tag, which is a single branch. Leaks planted in long messages only must be seen, too. Then the same
+# Runs tests/constant_time.c under valgrind, for lone sessions, for a group and for sessions in SANE, without an envelope and for one. It fails where a
+# branch or an address depends on a secret, but for the verdict on the tag, which is a single branch. Leaks planted in long messages only must be seen, too. Then the same
 # for what the Rust crate adds: how it compares codes, and its type of sessions in SANE (rust/pevghazo/examples/constant_time.rs).
 set -eu
 cd "$(dirname "$0")/.."
@@ -22,7 +22,7 @@ followed() { # LOG PROGRAM WORDS ..
 }
 run() { followed "$1" "$out/constant_time" "${@:2}"; } # LOG WORDS ..
 # Leaks made on purpose in messages above a length: a branch while they are wrapped, a comparison with an early end while they are unwrapped.
-for who in lone sane; do
+for who in lone sane lone-envelope sane-envelope; do
   for leak in "wrap 1024" "wrap 16383" "unwrap early 1024" "unwrap early 16383"; do
     if run "$out/planted" $who ${leak#* } >"$out/said" 2>&1; then fail "$who: a leak was not seen: $leak"; fi
     grep -q ": ${leak%% *}, .* bytes: a branch or an address depends on a secret" "$out/said" || {
@@ -31,7 +31,7 @@ for who in lone sane; do
     }
   done
 done
-for who in lone group sane; do
+for who in lone group sane lone-envelope group-envelope sane-envelope; do
   run "$out/$who" "$who" || {
     tail -n 3 "$out/$who" >&2
     fail "failed; all reports are in $out/$who, the last one is the one that it stopped at"

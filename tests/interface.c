@@ -97,7 +97,21 @@ static void same_code(const pevghazo_session *office, const pevghazo_session *gr
     check("the two codes", (uint32_t)memcmp(here, there, sizeof here), 0);
 }
 
-/* A message from the office to a group, in an envelope, and an answer. */
+/* The group unwraps what arrived in an envelope once, and a second time it is refused. */
+static void opened_once(pevghazo_session *group, const uint8_t *envelope, pevghazo_parts parts) {
+    const uint32_t expected[2] = {PEVGHAZO_ACCEPTED, PEVGHAZO_WRONG_TAG};
+    uint8_t out[sizeof message];
+    for (int i = 0; i < 2; i++) {
+        pevghazo_answer answer = pevghazo_unwrap_envelope(group, envelope, parts.metadata, envelope + parts.metadata, parts.cryptogram - parts.metadata,
+                                                          envelope + parts.cryptogram, parts.tag - parts.cryptogram, envelope + parts.tag,
+                                                          parts.place - parts.tag, out, sizeof out);
+        check("unwrapping the message", answer.number, expected[i]);
+        check("the count of unwrapping", answer.count, 7);
+        if (i == 0) check("the message", (uint32_t)memcmp(out, message, message_len), 0);
+    }
+}
+
+/* A message from the office to a group, in an envelope, and an answer without one. */
 static void both_ways(void) {
     static pevghazo_record office[PEVGHAZO_GROUPS]; /* all zero: closed sessions, before the first day */
     static pevghazo_session group;
@@ -107,9 +121,11 @@ static void both_ways(void) {
     check("the allowance", allowance, 1000);
     pevghazo_answer opened = pevghazo_open_group(office, PEVGHAZO_GROUPS, 7, allowance, key, key_len);
     check("opening a group", opened.number, PEVGHAZO_ACCEPTED);
-    uint8_t cryptogram[sizeof message], tag[PEVGHAZO_TAG_LENGTH];
-    pevghazo_answer wrapped = pevghazo_wrap_group(office, PEVGHAZO_GROUPS, 7, allowance, metadata, metadata_len, message, message_len, cryptogram,
-                                                  sizeof cryptogram, tag, sizeof tag);
+    uint8_t header[PEVGHAZO_HEADER_MAX], cryptogram[sizeof message], tag[PEVGHAZO_TAG_LENGTH], out[sizeof message];
+    pevghazo_written headed = pevghazo_write_header(PEVGHAZO_LETTER_S, 7, metadata_len, message_len, header, sizeof header);
+    check("writing a header", headed.number, PEVGHAZO_ACCEPTED);
+    pevghazo_answer wrapped = pevghazo_wrap_envelope_group(office, PEVGHAZO_GROUPS, 7, allowance, header, headed.len, metadata, metadata_len, message,
+                                                           message_len, cryptogram, sizeof cryptogram, tag, sizeof tag);
     check("wrapping", wrapped.number, PEVGHAZO_ACCEPTED);
     check("the count of wrapping", wrapped.count, 7);
     check("the group's count", office[7].count, 8);
@@ -128,17 +144,8 @@ static void both_ways(void) {
     check("reading half an envelope", half.number, PEVGHAZO_TOO_FEW_BYTES);
     check("its letter", half.letter, 0);
 
-    /* The group unwraps it once, and a second time it is refused. */
-    uint8_t out[sizeof message];
     check("starting", pevghazo_start(&group, key, key_len).number, PEVGHAZO_ACCEPTED);
-    const uint32_t expected[2] = {PEVGHAZO_ACCEPTED, PEVGHAZO_WRONG_TAG};
-    for (int i = 0; i < 2; i++) {
-        pevghazo_answer answer = pevghazo_unwrap(&group, envelope + parts.metadata, parts.cryptogram - parts.metadata, envelope + parts.cryptogram,
-                                                 parts.tag - parts.cryptogram, envelope + parts.tag, parts.place - parts.tag, out, sizeof out);
-        check("unwrapping the message", answer.number, expected[i]);
-        check("the count of unwrapping", answer.count, 7);
-        if (i == 0) check("the message", (uint32_t)memcmp(out, message, message_len), 0);
-    }
+    opened_once(&group, envelope, parts);
     same_code(&office[7].session, &group, 12);
 
     /* The group answers, and the office asks which group is nearly full. */

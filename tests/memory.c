@@ -14,7 +14,7 @@ static pevghazo_record office[PEVGHAZO_GROUPS];
 static pevghazo_session lone;
 static pevghazo_sane_session sane;
 static const uint8_t key[] = "a key for the memory's test", metadata[] = "size C";
-static uint8_t message[300], out[300], tag[PEVGHAZO_TAG_LENGTH], sane_tag[PEVGHAZO_SANE_TAG_LENGTH];
+static uint8_t message[300], out[300], tag[PEVGHAZO_TAG_LENGTH], sane_tag[PEVGHAZO_SANE_TAG_LENGTH], header[PEVGHAZO_HEADER_MAX];
 
 static void fail(const char *what, const char *when) {
     fprintf(stderr, "memory: %s: %s\n", when, what);
@@ -39,9 +39,30 @@ __attribute__((noinline)) static unsigned lanes_below(const uint32_t acc[12], co
 }
 
 /* The calls that leave something behind; and the start of a day, which may leave nothing. */
-enum { START, WRAP, UNWRAP, CODE, OPEN_GROUP, WRAP_GROUP, UNWRAP_GROUP, SANE_START, SANE_WRAP, SANE_UNWRAP, CALLS, DAY = CALLS };
-static const char *const names[] = {"start", "wrap", "unwrap", "code", "open a group", "wrap for a group", "unwrap for a group",
-                                    "start in SANE", "wrap in SANE", "unwrap in SANE", "start of a day"};
+enum { START, WRAP, UNWRAP, WRAP_ENVELOPE, UNWRAP_ENVELOPE, CODE,
+       OPEN_GROUP, WRAP_GROUP, UNWRAP_GROUP, WRAP_ENVELOPE_GROUP, UNWRAP_ENVELOPE_GROUP,
+       SANE_START, SANE_WRAP, SANE_UNWRAP, SANE_WRAP_ENVELOPE, SANE_UNWRAP_ENVELOPE, CALLS, DAY = CALLS };
+static const char *const names[] = {"start", "wrap", "unwrap", "wrap for an envelope", "unwrap for an envelope", "code",
+                                    "open a group", "wrap for a group", "unwrap for a group", "wrap for a group's envelope",
+                                    "unwrap for a group's envelope", "start in SANE", "wrap in SANE", "unwrap in SANE",
+                                    "wrap for an envelope in SANE", "unwrap for an envelope in SANE", "start of a day"};
+
+static uint32_t call_for_envelope(int which, size_t n) {
+    const uint32_t allowance = UINT32_MAX;
+    const uint8_t letter = which < SANE_START ? PEVGHAZO_LETTER_S : PEVGHAZO_LETTER_N;
+    const size_t h = pevghazo_write_header(letter, 7, sizeof metadata, n, header, sizeof header).len, a = sizeof metadata;
+    switch (which) {
+    case WRAP_ENVELOPE: return pevghazo_wrap_envelope(&lone, header, h, metadata, a, message, n, out, n, tag, sizeof tag).number;
+    case UNWRAP_ENVELOPE: return pevghazo_unwrap_envelope(&lone, header, h, metadata, a, out, n, tag, sizeof tag, message, n).number;
+    case WRAP_ENVELOPE_GROUP:
+        return pevghazo_wrap_envelope_group(office, PEVGHAZO_GROUPS, 7, allowance, header, h, metadata, a, message, n, out, n, tag, sizeof tag).number;
+    case UNWRAP_ENVELOPE_GROUP:
+        return pevghazo_unwrap_envelope_group(office, PEVGHAZO_GROUPS, 7, allowance, header, h, metadata, a, out, n, tag, sizeof tag, message, n).number;
+    case SANE_WRAP_ENVELOPE:
+        return pevghazo_sane_wrap_envelope(&sane, header, h, metadata, a, message, n, out, n, sane_tag, sizeof sane_tag).number;
+    default: return pevghazo_sane_unwrap_envelope(&sane, header, h, metadata, a, out, n, sane_tag, sizeof sane_tag, message, n).number;
+    }
+}
 
 static uint32_t call(int which, size_t n) {
     const uint32_t allowance = UINT32_MAX;
@@ -58,7 +79,8 @@ static uint32_t call(int which, size_t n) {
     case SANE_START: return pevghazo_sane_start(&sane, key, sizeof key, message, n, sane_tag, sizeof sane_tag).number;
     case SANE_WRAP: return pevghazo_sane_wrap(&sane, metadata, sizeof metadata, message, n, out, n, sane_tag, sizeof sane_tag).number;
     case DAY: return pevghazo_start_day(office, PEVGHAZO_GROUPS, 0);
-    default: return pevghazo_sane_unwrap(&sane, metadata, sizeof metadata, out, n, sane_tag, sizeof sane_tag, message, n).number;
+    case SANE_UNWRAP: return pevghazo_sane_unwrap(&sane, metadata, sizeof metadata, out, n, sane_tag, sizeof sane_tag, message, n).number;
+    default: return call_for_envelope(which, n);
     }
 }
 
@@ -76,7 +98,7 @@ static unsigned lanes_of(int which) {
 }
 
 static void on_the_stack(int which, size_t n) {
-    (void)called(which, n, 0);
+    if (called(which, n, 0) == PEVGHAZO_BAD_HEADER) fail("the header is refused", names[which]);
     if (lanes_of(which) == 0) fail("no lane is found on the stack, so this test sees nothing", names[which]);
     (void)called(which, n, 1);
     if (lanes_of(which) != 0) fail("lanes are left on the stack", names[which]);

@@ -9,7 +9,7 @@
 #include <sys/mman.h>
 #include <unistd.h>
 
-char doing[200] = "begin";
+char doing[240] = "begin";
 static const char *name;
 
 void fail(const char *what) {

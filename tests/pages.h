@@ -15,7 +15,7 @@ enum { BEHIND, BEFORE, BETWEEN, ADDRESSES = 16, PLACES = BETWEEN + ADDRESSES };
 const char *place_name(int where);
 
 /* What a test is doing, and its end where that fails. */
-extern char doing[200];
+extern char doing[240];
 _Noreturn void fail(const char *what);
 
 /* Test data: splitmix64. */

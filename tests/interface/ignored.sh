@@ -6,6 +6,11 @@ for call in 'pevghazo_start(s, a, 16)' 'pevghazo_wrap(s, a, 9, b, 9, c, 9, a, 32
   'pevghazo_sane_start(n, a, 16, b, 9, c, 16)' 'pevghazo_sane_wrap(n, a, 9, b, 9, c, 9, a, 16)' \
   'pevghazo_sane_unwrap(n, a, 9, b, 9, c, 16, a, 9)' 'pevghazo_store_session(s, a, 102)' 'pevghazo_load_session(s, a, 102)' \
   'pevghazo_store_sane_session(n, a, 102)' 'pevghazo_load_sane_session(n, a, 102)' \
+  'pevghazo_wrap_envelope(s, b, 9, a, 9, b, 9, c, 9, a, 32)' 'pevghazo_unwrap_envelope(s, b, 9, a, 9, b, 9, c, 32, a, 9)' \
+  'pevghazo_wrap_envelope_group(t, 32, 0, 9, b, 9, a, 9, b, 9, c, 9, a, 32)' \
+  'pevghazo_unwrap_envelope_group(t, 32, 0, 9, b, 9, a, 9, b, 9, c, 32, a, 9)' \
+  'pevghazo_sane_wrap_envelope(n, b, 9, a, 9, b, 9, c, 9, a, 16)' 'pevghazo_sane_unwrap_envelope(n, b, 9, a, 9, b, 9, c, 16, a, 9)' \
+  'pevghazo_write_header(0, 0, 9, 9, a, 17)' \
   'pevghazo_pool_add(p, a, 25)' 'pevghazo_pool_holds(p, 67, 1)' 'pevghazo_pool_rings(p)'; do
   for compiler in "gcc -x c -std=c89" "gcc -x c -std=c17" "clang -x c -std=c89" "g++ -x c++ -std=c++98" "g++ -x c++ -std=c++17"; do
     has ${compiler%% *} || continue

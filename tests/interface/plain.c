@@ -85,28 +85,39 @@ static void comes_back(void) {
           && back.index == session.index && back.toggle == session.toggle && back.opened == session.opened);
 }
 
+/* The header of an envelope to group 7 with the message, which the Rust program seals, too. */
+static size_t header_of(uint8_t letter, uint8_t *header) {
+    const pevghazo_written written = pevghazo_write_header(letter, 7, sizeof metadata - 1, sizeof message - 1, header, PEVGHAZO_HEADER_MAX);
+    check("writing a header is refused", written.number == PEVGHAZO_ACCEPTED);
+    return written.len;
+}
+
 /* A session in SANE, with either toggle. */
 static void sane_sessions(void) {
-    static uint8_t out[sizeof message], tag[PEVGHAZO_SANE_TAG_LENGTH];
+    static uint8_t header[PEVGHAZO_HEADER_MAX], out[sizeof message], tag[PEVGHAZO_SANE_TAG_LENGTH];
+    const size_t header_len = header_of(PEVGHAZO_LETTER_N, header);
     check("starting in SANE is refused",
           pevghazo_sane_start(&sane_session, key, sizeof key - 1, metadata, sizeof metadata - 1, tag, sizeof tag).number == PEVGHAZO_ACCEPTED);
     sane_comes_back();
     check("wrapping in SANE is refused",
-          pevghazo_sane_wrap(&sane_session, metadata, sizeof metadata - 1, message, sizeof message - 1, out, sizeof out, tag, sizeof tag).number
+          pevghazo_sane_wrap_envelope(&sane_session, header, header_len, metadata, sizeof metadata - 1, message, sizeof message - 1, out, sizeof out,
+                                      tag, sizeof tag).number
               == PEVGHAZO_ACCEPTED);
     sane_comes_back();
 }
 
 static void sessions(void) {
     static const uint8_t zeros[PEVGHAZO_SESSION_BYTES];
-    static uint8_t longer[300], out[sizeof message], tag[PEVGHAZO_TAG_LENGTH];
+    static uint8_t longer[300], header[PEVGHAZO_HEADER_MAX], out[sizeof message], tag[PEVGHAZO_TAG_LENGTH];
+    const size_t header_len = header_of(PEVGHAZO_LETTER_S, header);
     pevghazo_session back;
     unsigned value;
     size_t i;
     check("starting is refused", pevghazo_start(&session, key, sizeof key - 1).number == PEVGHAZO_ACCEPTED);
     comes_back();
     check("wrapping is refused",
-          pevghazo_wrap(&session, metadata, sizeof metadata - 1, message, sizeof message - 1, out, sizeof out, tag, sizeof tag).number
+          pevghazo_wrap_envelope(&session, header, header_len, metadata, sizeof metadata - 1, message, sizeof message - 1, out, sizeof out, tag,
+                                 sizeof tag).number
               == PEVGHAZO_ACCEPTED);
     comes_back();
     check("a closed session is refused", pevghazo_load_session(&back, zeros, sizeof zeros) == PEVGHAZO_ACCEPTED && !back.opened);

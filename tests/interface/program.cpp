@@ -1,4 +1,4 @@
-// A message from an office to a group and back, a packet's code at both ends, and a pool, in C++ with the installed library.
+// A message from an office to a group, as it is and in an envelope, a packet's code at both ends, and a pool, in C++ with the installed library.
 #include <cstring>
 #include <iostream>
 #include <pevghazo.h>
@@ -42,6 +42,37 @@ class session {
         return out;
     }
 
+    // The envelope of a message for a group, with its header under the tag.
+    bytes seal(std::uint32_t group, const bytes &metadata, const bytes &message) {
+        bytes header(PEVGHAZO_HEADER_MAX), out(message.size() + 1), tag(PEVGHAZO_TAG_LENGTH);
+        const auto headed = pevghazo_write_header(PEVGHAZO_LETTER_S, group, metadata.size(), message.size(), header.data(), header.size());
+        if (headed.number != PEVGHAZO_ACCEPTED) throw headed.number;
+        const auto answer = pevghazo_wrap_envelope(&record, header.data(), headed.len, metadata.data(), metadata.size(), message.data(),
+                                                   message.size(), out.data(), out.size(), tag.data(), tag.size());
+        pevghazo_wipe_stack();
+        if (answer.number != PEVGHAZO_ACCEPTED) throw answer.number;
+        bytes envelope(headed.len + metadata.size() + message.size() + tag.size());
+        const auto written = pevghazo_write_envelope(PEVGHAZO_LETTER_S, group, metadata.data(), metadata.size(), out.data(), message.size(),
+                                                     tag.data(), tag.size(), envelope.data(), envelope.size());
+        if (written.number != PEVGHAZO_ACCEPTED) throw written.number;
+        return envelope;
+    }
+
+    // The message of an envelope.
+    bytes open(const bytes &envelope) {
+        const auto parts = pevghazo_read_envelope(envelope.data(), envelope.size());
+        if (parts.number != PEVGHAZO_ACCEPTED) throw parts.number;
+        const std::uint8_t *at = envelope.data();
+        bytes out(parts.tag - parts.cryptogram + 1);
+        const auto answer = pevghazo_unwrap_envelope(&record, at, parts.metadata, at + parts.metadata, parts.cryptogram - parts.metadata,
+                                                     at + parts.cryptogram, parts.tag - parts.cryptogram, at + parts.tag, parts.place - parts.tag,
+                                                     out.data(), out.size());
+        pevghazo_wipe_stack();
+        if (answer.number != PEVGHAZO_ACCEPTED) throw answer.number;
+        out.pop_back();
+        return out;
+    }
+
     bytes code(std::uint32_t packet) const {
         bytes out(PEVGHAZO_CODE_LENGTH);
         const auto answer = pevghazo_code(&record, packet, out.data(), out.size());
@@ -54,6 +85,16 @@ class session {
     pevghazo_session record{};
 };
 
+// The number that an envelope is refused by, or 0.
+std::uint32_t refused(session &at, const bytes &envelope) {
+    try {
+        (void)at.open(envelope);
+        return PEVGHAZO_ACCEPTED;
+    } catch (std::uint32_t number) {
+        return number;
+    }
+}
+
 } // namespace
 
 int main() {
@@ -63,6 +104,12 @@ int main() {
     const bytes cryptogram = office.wrap(metadata, message, tag);
     if (group.unwrap(metadata, cryptogram, tag) != message) return 1;
     if (group.code(12) != office.code(12) || group.code(12) == group.code(13)) return 1;
+    const bytes envelope = office.seal(7, metadata, message);
+    bytes readdressed = envelope;
+    readdressed.at(2) = '8';
+    if (refused(group, readdressed) != PEVGHAZO_WRONG_TAG || group.open(envelope) != message) return 1;
+    readdressed.at(0) = 'F';
+    if (refused(group, readdressed) != PEVGHAZO_BAD_HEADER) return 1;
     const bytes line = of("7,C,12001,12100,20250304\n");
     pevghazo_pool pool{};
     if (pevghazo_pool_add(&pool, line.data(), line.size()) != PEVGHAZO_ACCEPTED) return 1;

@@ -1,7 +1,7 @@
 //! A program outside the repository, over the installed library: prints the sentences of the numbers, and the stored bytes and codes of
 //! sessions of either mode, which must be those that the C functions give.
 
-use pevghazo::{BadBytes, Number, PACKET_MAX, Plain, Pool, Refusal, SaneSession, Secret, Session, Size, Table};
+use pevghazo::{BadBytes, Letter, Number, PACKET_MAX, Plain, Pool, Refusal, SaneSession, Secret, Session, Size, Table, envelope};
 
 fn digits(bytes: &Secret) -> String {
     bytes.iter().map(|byte| format!("{byte:02x}")).collect()
@@ -15,7 +15,12 @@ fn main() -> Result<(), Refusal> {
     office.start_day(100);
     office.open_group(7, key)?;
     let sealed = office.seal(7, &plain)?;
-    assert_eq!(session.open(&sealed.envelope)?.message, plain.message);
+    let mut readdressed = sealed.envelope.clone();
+    readdressed[2] = b'8';
+    assert_eq!(session.open(&readdressed).unwrap_err().number, Number::WrongTag);
+    let arrived = envelope::read(&sealed.envelope)?;
+    assert_eq!(arrived.header, envelope::write_header(Letter::S, 7, &plain)?);
+    assert_eq!(session.unwrap_envelope(&arrived)?.message, plain.message);
     let (mut here, tag, _) = SaneSession::start(key, b"size C")?;
     let (mut there, same_tag, _) = SaneSession::start(key, b"size C")?;
     let sealed = here.seal(7, &plain)?;

@@ -56,9 +56,12 @@ static void refused_start(uint32_t number, size_t a_key_len, size_t nonce_len, s
 /* A message from one end to the other, in an envelope with the letter N; a record in SANSE with the same key does not take it. */
 static void in_an_envelope(pevghazo_sane_session *from, pevghazo_sane_session *to) {
     static pevghazo_session other;
-    uint8_t cryptogram[sizeof message], out[sizeof message], tag[PEVGHAZO_SANE_TAG_LENGTH];
+    uint8_t header[PEVGHAZO_HEADER_MAX], cryptogram[sizeof message], out[sizeof message], tag[PEVGHAZO_SANE_TAG_LENGTH];
     uint8_t envelope[PEVGHAZO_HEADER_MAX + sizeof metadata + sizeof message + PEVGHAZO_SANE_TAG_LENGTH];
-    pevghazo_answer wrapped = pevghazo_sane_wrap(from, metadata, metadata_len, message, message_len, cryptogram, sizeof cryptogram, tag, sizeof tag);
+    pevghazo_written headed = pevghazo_write_header(PEVGHAZO_LETTER_N, 7, metadata_len, message_len, header, sizeof header);
+    check("writing a header", headed.number, PEVGHAZO_ACCEPTED);
+    pevghazo_answer wrapped = pevghazo_sane_wrap_envelope(from, header, headed.len, metadata, metadata_len, message, message_len, cryptogram,
+                                                          sizeof cryptogram, tag, sizeof tag);
     check("wrapping", wrapped.number, PEVGHAZO_ACCEPTED);
     check("the count of wrapping", wrapped.count, 6);
     check("writing with another letter",
@@ -76,13 +79,16 @@ static void in_an_envelope(pevghazo_sane_session *from, pevghazo_sane_session *t
     check("its letter", parts.letter, PEVGHAZO_LETTER_N);
     check("the bytes of its tag", (uint32_t)(parts.place - parts.tag), PEVGHAZO_SANE_TAG_LENGTH);
 
-    const uint8_t *m = envelope + parts.metadata, *c = envelope + parts.cryptogram, *t = envelope + parts.tag;
-    const size_t m_len = parts.cryptogram - parts.metadata, c_len = parts.tag - parts.cryptogram, t_len = parts.place - parts.tag;
+    const uint8_t *h = envelope, *m = envelope + parts.metadata, *c = envelope + parts.cryptogram, *t = envelope + parts.tag;
+    const size_t h_len = parts.metadata, m_len = parts.cryptogram - parts.metadata, c_len = parts.tag - parts.cryptogram, t_len = parts.place - parts.tag;
     check("starting in SANSE", pevghazo_start(&other, key, key_len).number, PEVGHAZO_ACCEPTED);
-    check("unwrapping in SANSE", pevghazo_unwrap(&other, m, m_len, c, c_len, t, t_len, out, sizeof out).number, PEVGHAZO_BAD_TAG_LENGTH);
-    check("unwrapping", pevghazo_sane_unwrap(to, m, m_len, c, c_len, t, t_len, out, sizeof out).number, PEVGHAZO_ACCEPTED);
+    check("unwrapping in SANSE", pevghazo_unwrap_envelope(&other, h, h_len, m, m_len, c, c_len, t, t_len, out, sizeof out).number, PEVGHAZO_BAD_HEADER);
+    check("unwrapping in SANSE without its header", pevghazo_unwrap(&other, m, m_len, c, c_len, t, t_len, out, sizeof out).number,
+          PEVGHAZO_BAD_TAG_LENGTH);
+    check("unwrapping without its header", pevghazo_sane_unwrap(to, m, m_len, c, c_len, t, t_len, out, sizeof out).number, PEVGHAZO_WRONG_TAG);
+    check("unwrapping", pevghazo_sane_unwrap_envelope(to, h, h_len, m, m_len, c, c_len, t, t_len, out, sizeof out).number, PEVGHAZO_ACCEPTED);
     same("the message", out, message, message_len);
-    pevghazo_answer again = pevghazo_sane_unwrap(to, m, m_len, c, c_len, t, t_len, out, sizeof out);
+    pevghazo_answer again = pevghazo_sane_unwrap_envelope(to, h, h_len, m, m_len, c, c_len, t, t_len, out, sizeof out);
     check("unwrapping it again", again.number, PEVGHAZO_WRONG_TAG);
     check("its count", again.count, wrapped.count);
     for (size_t i = 0; i < message_len; i++) check("a byte of a refused message", out[i], 0);

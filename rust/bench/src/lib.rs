@@ -5,6 +5,7 @@
 use std::slice::{from_raw_parts, from_raw_parts_mut};
 
 use pevghazo_reference::deck::Deck;
+use pevghazo_reference::refusal::Refusal;
 use pevghazo_reference::sanse::count;
 use pevghazo_reference::session::Session;
 use pevghazo_reference::xoodoo::{BLOCK, State, XOOFFF_ROUNDS, inverse};
@@ -98,7 +99,64 @@ pub unsafe extern "C" fn rust_unwrap(
     answer.is_ok()
 }
 
-/// The permutations of a call with metadata and message of these lengths, which a table adds to the group's count.
+/// Wraps `message` for the envelope with this header, and gives the number.
+///
+/// # Safety
+///
+/// As for [`rust_wrap`].
+#[unsafe(no_mangle)]
+pub unsafe extern "C" fn rust_wrap_envelope(
+    session: &mut Record,
+    header: *const u8,
+    header_len: usize,
+    metadata: *const u8,
+    metadata_len: usize,
+    message: *const u8,
+    message_len: usize,
+    out: *mut u8,
+    tag: &mut [u8; 32],
+) -> u32 {
+    let (header, metadata) = unsafe { (from_raw_parts(header, header_len), from_raw_parts(metadata, metadata_len)) };
+    let (message, out) = unsafe { (from_raw_parts(message, message_len), from_raw_parts_mut(out, message_len)) };
+    let mut here = session.session();
+    let answer = here.wrap_for(Some(header), metadata, message, out, tag);
+    session.set(here);
+    number(answer)
+}
+
+/// Unwraps `cryptogram`, which arrived in the envelope with this header, and gives the number.
+///
+/// # Safety
+///
+/// As for [`rust_unwrap`].
+#[unsafe(no_mangle)]
+pub unsafe extern "C" fn rust_unwrap_envelope(
+    session: &mut Record,
+    header: *const u8,
+    header_len: usize,
+    metadata: *const u8,
+    metadata_len: usize,
+    cryptogram: *const u8,
+    cryptogram_len: usize,
+    tag: &[u8; 32],
+    out: *mut u8,
+) -> u32 {
+    let (header, metadata) = unsafe { (from_raw_parts(header, header_len), from_raw_parts(metadata, metadata_len)) };
+    let cryptogram = unsafe { from_raw_parts(cryptogram, cryptogram_len) };
+    let out = unsafe { from_raw_parts_mut(out, cryptogram_len) };
+    let mut here = session.session();
+    let answer = here.unwrap_for(Some(header), metadata, cryptogram, tag, out);
+    session.set(here);
+    number(answer)
+}
+
+/// An answer's number: 0 where it is accepted.
+fn number(answer: Result<u32, Refusal>) -> u32 {
+    answer.map_or_else(|refusal| refusal.number.number().into(), |_| 0)
+}
+
+/// The permutations of a call with metadata, or header and metadata, and a message of these lengths, which a table adds to the
+/// group's count.
 #[unsafe(no_mangle)]
 pub extern "C" fn rust_count(metadata_len: usize, message_len: usize) -> u32 {
     count(metadata_len, message_len)

@@ -1,5 +1,5 @@
 //! Constant time: does a branch or an address of comparing two codes depend on one of them? And does one depend on the key or
-//! the message where a session of either mode is started, wraps, is stored, loaded and dropped?
+//! the message where a session of either mode is started, wraps, seals, is stored, loaded and dropped?
 //!
 //! `tests/constant_time.sh` runs this under valgrind's memcheck, which follows every bit that was never set and reports a branch
 //! or an address that depends on one. The secrets are marked so here. Unwrapping, whose verdict everybody may know, is looked at
@@ -8,7 +8,7 @@
 use std::hint::black_box;
 use std::process::exit;
 
-use pevghazo::{Code, Plain, SaneSession, Session};
+use pevghazo::{Code, Plain, SaneSession, Session, envelope};
 
 /// The requests to valgrind, as `valgrind.h` and `memcheck.h` number them.
 mod request {
@@ -97,12 +97,29 @@ fn main() {
         |session| Session::from_bytes(&session.to_bytes()).expect("its own bytes"),
     );
     sessions(
+        "a session in SANSE that seals",
+        |key| Session::start(key).expect("a good key").0,
+        |session, plain| cryptogram(&session.seal(7, plain).expect("there is room").envelope),
+        |session| Session::from_bytes(&session.to_bytes()).expect("its own bytes"),
+    );
+    sessions(
         "a session in SANE",
         |key| SaneSession::start(key, b"41").expect("a good key").0,
         |session, plain| session.wrap(plain).expect("there is room").cryptogram,
         |session| SaneSession::from_bytes(&session.to_bytes()).expect("its own bytes"),
     );
+    sessions(
+        "a session in SANE that seals",
+        |key| SaneSession::start(key, b"41").expect("a good key").0,
+        |session, plain| cryptogram(&session.seal(7, plain).expect("there is room").envelope),
+        |session| SaneSession::from_bytes(&session.to_bytes()).expect("its own bytes"),
+    );
     println!("constant time, comparing codes and the types of sessions: nothing seen");
+}
+
+/// The cryptogram in an envelope.
+fn cryptogram(bytes: &[u8]) -> Vec<u8> {
+    envelope::read(bytes).expect("an envelope").cryptogram.to_vec()
 }
 
 /// Sessions of a type, from start to end, with key and message as secrets.
