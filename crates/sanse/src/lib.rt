@@ -159,8 +159,8 @@ pub fn wrap_string(
     tag: &mut [u8],
 ) -> CallResult
     requires { ⌜ length (now head) ≤ 17 ⌝ }
-    ensures { λ r. ⌜ callResult r (now (out .exit)) (now (tag .exit))
-        ≡ wrapFrom5 sanse incremental (stateOf s) (handedFor (now (head .entry)) (now (metadata .entry)) (now (message .entry)) (now (out .entry)) (now (tag .entry))) ⌝ }
+    ensures { λ r. ⌜ callResult r
+        (now (out .exit)) (now (tag .exit)) ≡ wrapFrom5 sanse incremental (stateOf s) (handedFor (now (head .entry)) (now (metadata .entry)) (now (message .entry)) (now (out .entry)) (now (tag .entry))) ⌝ }
 {
     let d = deck_of(s);
     let e = s.toggle;
@@ -196,8 +196,8 @@ pub fn unwrap_string(
     out: &mut [u8],
 ) -> CallResult
     requires { ⌜ length (now head) ≤ 17 ⌝ }
-    ensures { λ r. ⌜ callResult r (now (out .exit)) (now (tag .entry))
-        ≡ unwrapFrom5 sanse incremental (stateOf s) (handedFor (now (head .entry)) (now (metadata .entry)) (now (cryptogram .entry)) (now (out .entry)) (now (tag .entry))) ⌝ }
+    ensures { λ r. ⌜ callResult r
+        (now (out .exit)) (now (tag .entry)) ≡ unwrapFrom5 sanse incremental (stateOf s) (handedFor (now (head .entry)) (now (metadata .entry)) (now (cryptogram .entry)) (now (out .entry)) (now (tag .entry))) ⌝ }
 {
     let n = cryptogram.len();
     let d = deck_of(s);
@@ -274,8 +274,8 @@ pub fn wrap_envelope(
     out: &mut [u8],
     tag: &mut [u8],
 ) -> CallResult
-    ensures { λ r. ⌜ callResult r (now (out .exit)) (now (tag .exit))
-        ≡ wrapAt sanse incremental (stateOf s) (handedFor (now (header .entry)) (now (metadata .entry)) (now (message .entry)) (now (out .entry)) (now (tag .entry))) ⌝ }
+    ensures { λ r. ⌜ callResult r
+        (now (out .exit)) (now (tag .exit)) ≡ wrapAt sanse incremental (stateOf s) (handedFor (now (header .entry)) (now (metadata .entry)) (now (message .entry)) (now (out .entry)) (now (tag .entry))) ⌝ }
 {
     if !headers::fits(LETTER_S, header, metadata.len(), message.len()) {
         let d = deck_of(s);
@@ -294,8 +294,8 @@ pub fn unwrap_envelope(
     tag: &[u8],
     out: &mut [u8],
 ) -> CallResult
-    ensures { λ r. ⌜ callResult r (now (out .exit)) (now (tag .entry))
-        ≡ unwrapAt sanse incremental (stateOf s) (handedFor (now (header .entry)) (now (metadata .entry)) (now (cryptogram .entry)) (now (out .entry)) (now (tag .entry))) ⌝ }
+    ensures { λ r. ⌜ callResult r
+        (now (out .exit)) (now (tag .entry)) ≡ unwrapAt sanse incremental (stateOf s) (handedFor (now (header .entry)) (now (metadata .entry)) (now (cryptogram .entry)) (now (out .entry)) (now (tag .entry))) ⌝ }
 {
     if !headers::fits(LETTER_S, header, metadata.len(), cryptogram.len()) {
         let d = deck_of(s);
