@@ -71,15 +71,7 @@ fn start_check(keylen: usize, noncelen: usize, taglen: usize) -> u32
 }
 
 // The first of the checks 5 to 9 that is met, or 0: 9 by the length of A's string, 6 by that of the metadata.
-fn check(
-    opened: bool,
-    index: u32,
-    string: usize,
-    a: usize,
-    m: usize,
-    tag: usize,
-    out: usize,
-) -> u32
+fn check(opened: bool, index: u32, string: usize, a: usize, m: usize, tag: usize, out: usize) -> u32
     ensures { λ r. ⌜ r ≡ firstCheck opened (index + growth string m) 16 a m tag out ⌝ }
 {
     let after = steps::index_after(index, string, m);
@@ -191,7 +183,8 @@ pub fn wrap_string(
     let d = deck_of(s);
     let e = s.toggle;
     let a = metadata.len();
-    let number = check(s.opened, s.index, head.len() + a, a, n, tag.len(), out.len());
+    let string = head.len() + a;
+    let number = check(s.opened, s.index, string, a, n, tag.len(), out.len());
     if number != 0 {
         return result(number, 0, d, e, s.opened);
     }
@@ -221,7 +214,8 @@ pub fn unwrap_string(
     let d = deck_of(s);
     let e = s.toggle;
     let a = metadata.len();
-    let number = check(s.opened, s.index, head.len() + a, a, n, tag.len(), out.len());
+    let string = head.len() + a;
+    let number = check(s.opened, s.index, string, a, n, tag.len(), out.len());
     if number != 0 {
         return result(number, 0, d, e, s.opened);
     }

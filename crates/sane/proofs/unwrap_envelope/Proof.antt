@@ -1,4 +1,4 @@
--- `sane::unwrap_envelope` meets its contract. Assumes nothing.
+-- `sane::unwrap_envelope` meets its contract: check 1, and then A is the header's bytes and the metadata. Assumes nothing.
 use mathlib.Core.Path.{_≡_, sym, ap, _∙_}
 use mathlib.Core.Bool.{true}
 use lib.ListN.{length}
@@ -16,37 +16,34 @@ use Rattle.sane.specs.Session.{stateOf, callResult, handedFor}
 use Rattle.sane.proofs.unwrap_envelope.Statement.{statement}
 use Rattle.sane.proofs.unwrap_envelope.Tie as tie
 
--- from a place back to an earlier one: the entry; where the header fits
 abbrev entry : tie.After-fits2 → tie.Start
 entry c = c .before .before .before .before .before .before
 
-abbrev passed : tie.After-unwrap-string → tie.Else1
-passed c = c .before .before
-
--- what the call was handed beside the record; its header
+-- what the call is handed
 abbrev input : tie.After-fits2 → CallInput
 input c = let a = entry c .args in handedFor (now (a .header)) (now (a .metadata)) (now (a .cryptogram)) (now (a .out)) (now (a .tag))
 
-fitted : (c : tie.Else1) → (let i = input (c .before) in fits letterN (length (i .metadata)) (length (i .text)) (now (entry (c .before) .args .header)) ≡ true)
-fitted c = sym (c .before .fits2 .ensures) ∙ not-false (c .before .fits2 .result) (c .if1 .left)
+-- where check 1 is not met, the header is the call's
+right : (c : tie.Else1) → (let a = entry (c .before) .args in fits letterN (length (now (a .metadata))) (length (now (a .cryptogram))) (now (a .header)) ≡ true)
+right c = sym (c .before .fits2 .ensures) ∙ not-false _ (c .if1 .left)
 
 returns : tie.Need-returns
 returns c =
-    let d = c .before in
-    let q = d .before .before in
+    let q = c .before .before .before in
     ap (λ (r : SaneResult). callResult r (input q .out) (input q .tag)) (c .result .ensures)
-    ∙ unfitted-unwrap sane (stateOf (entry q .args .s)) (input q) (d .deck-of .result) (d .deck-of .ensures) 
-    (sym (q .fits2 .ensures) ∙ not-true (q .fits2 .result) (d .before .if1 .taken))
+    ∙ unfitted-unwrap sane (stateOf (entry q .args .s)) (input q) (c .before .deck-of .result) (c .before .deck-of .ensures)
+    (sym (q .fits2 .ensures) ∙ not-true _ (c .before .before .if1 .taken))
 
 unwrap-string-requires : tie.Need-unwrap-string-requires
-unwrap-string-requires c κs = fits-short _ _ _ _ (fitted (c .before))
+unwrap-string-requires c κs = fits-short letterN _ _ _ (right (c .before))
 
 returns-2 : tie.Need-returns-2
 returns-2 c =
-    let r = c .before .before in
-    let q = passed r in
-    r .unwrap-string .ensures ∙ fitted-unwrap sane (stateOf (entry (q .before) .args .s)) (input (q .before)) (fitted q)
+    let q = c .before .before in
+    let o = q .before .before in
+    q .unwrap-string .ensures ∙ fitted-unwrap sane (stateOf (entry (o .before) .args .s)) (input (o .before)) (right o)
 
 pub unwrap-envelope-spec : {M : Type 1} → statement M
 unwrap-envelope-spec =
-    tie.close (tie.spec (λ c κs. search needs) (λ c κs. search needs) (λ c κs. search needs) returns unwrap-string-requires (λ c. search needs) returns-2)
+    tie.close
+    (tie.spec (λ c κs. search needs) (λ c κs. search needs) (λ c κs. search needs) returns unwrap-string-requires (λ c. search needs) returns-2)
