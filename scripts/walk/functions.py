@@ -21,26 +21,27 @@ def session(mode, function, params, core_args, gives, says, uses):
     )
 
 
+def call(mode, crate, rule, says, params, envelope):
+    """Wrap or unwrap of a mode, by its rule; for an envelope it is handed the header's bytes too, before the metadata."""
+    if envelope:
+        params = [('header', 'bytes')] + params
+    text = 'message' if rule == 'wrap' else 'cryptogram'
+    tag = 'tag′' if rule == 'wrap' else 'tag'
+    handed = 'handedFor header' if envelope else 'handed'
+    return session(
+        mode, f'{rule}_envelope' if envelope else rule, params, ['s'] + [name for name, _ in params],
+        f'callResult r out′ {tag} ≡ {rule}At {mode} incremental (stateOf h) ({handed} metadata {text} out tag)',
+        f'{says} s ({handed} metadata {text} out tag) res s′ out′ {tag}',
+        f'''use Rattle.modes.specs.Mode.{{{mode}, incremental}}
+use Rattle.modes.specs.Rules.{{{rule}At}}
+use Rattle.{mode}.specs.Session.{{stateOf, callResult, {handed.split()[0]}}}
+use Rattle.{crate}.specs.Lent.{{{says}}}''')
+
+
 def calls(mode, crate):
-    """Wrap and unwrap of a mode."""
-    return [
-        session(
-            mode, 'wrap', WRAP, ['s'] + [name for name, _ in WRAP],
-            f'callResult r out′ tag′ ≡ wrapAt {mode} incremental (stateOf h) (handed metadata message out tag)',
-            'Wrapped s (handed metadata message out tag) res s′ out′ tag′',
-            f'''use Rattle.modes.specs.Mode.{{{mode}, incremental}}
-use Rattle.modes.specs.Rules.{{wrapAt}}
-use Rattle.{mode}.specs.Session.{{stateOf, callResult, handed}}
-use Rattle.{crate}.specs.Lent.{{Wrapped}}'''),
-        session(
-            mode, 'unwrap', UNWRAP, ['s'] + [name for name, _ in UNWRAP],
-            f'callResult r out′ tag ≡ unwrapAt {mode} incremental (stateOf h) (handed metadata cryptogram out tag)',
-            'Unwrapped s (handed metadata cryptogram out tag) res s′ out′ tag',
-            f'''use Rattle.modes.specs.Mode.{{{mode}, incremental}}
-use Rattle.modes.specs.Rules.{{unwrapAt}}
-use Rattle.{mode}.specs.Session.{{stateOf, callResult, handed}}
-use Rattle.{crate}.specs.Lent.{{Unwrapped}}'''),
-    ]
+    """Wrap and unwrap of a mode, without an envelope and for one."""
+    return [call(mode, crate, rule, says, params, envelope)
+            for envelope in (False, True) for rule, says, params in (('wrap', 'Wrapped', WRAP), ('unwrap', 'Unwrapped', UNWRAP))]
 
 
 SESSION = [
