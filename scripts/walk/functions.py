@@ -101,9 +101,9 @@ use Rattle.office.specs.Table.{noGroup, refused3, openGroupAt, zeroRecor
         'wrap_group', 'wrap', WRAP,
         'groupResult r out′ tag′ ≡ wrapOnDay allowance (recordOf h) (handed metadata message out tag)',
         'tableResult res table′ out′ tag′ ≡ wrapGroupAt allowance (tableOf table) g (handed metadata message out tag)',
-        ('call', '(wrapAt sanse incremental) allowance (handed (x-metadata .now) (x-message .now) (x-out .now) (x-tag .now))'),
+        ('bare', '(wrapFrom5 sanse incremental) allowance (handed (x-metadata .now) (x-message .now) (x-out .now) (x-tag .now)) refl'),
         '''use Rattle.modes.specs.Mode.{sanse, incremental}
-use Rattle.modes.specs.Rules.{wrapAt}
+use Rattle.modes.specs.Rules.{wrapFrom5}
 use Rattle.sanse.specs.Session.{handed}
 use Rattle.groups.specs.Groups.{wrapOnDay, recordOf, groupResult}
 use Rattle.office.specs.Table.{noGroup, refused3, wrapGroupAt, zeroRecord, tableOf, tableResult}'''),
@@ -111,9 +111,9 @@ use Rattle.office.specs.Table.{noGroup, refused3, wrapGroupAt, zeroRecor
         'unwrap_group', 'unwrap', UNWRAP,
         'groupResult r out′ tag ≡ unwrapOnDay allowance (recordOf h) (handed metadata cryptogram out tag)',
         'tableResult res table′ out′ tag ≡ unwrapGroupAt allowance (tableOf table) g (handed metadata cryptogram out tag)',
-        ('call', '(unwrapAt sanse incremental) allowance (handed (x-metadata .now) (x-cryptogram .now) (x-out .now) (x-tag .now))'),
+        ('bare', '(unwrapFrom5 sanse incremental) allowance (handed (x-metadata .now) (x-cryptogram .now) (x-out .now) (x-tag .now)) refl'),
         '''use Rattle.modes.specs.Mode.{sanse, incremental}
-use Rattle.modes.specs.Rules.{unwrapAt}
+use Rattle.modes.specs.Rules.{unwrapFrom5}
 use Rattle.sanse.specs.Session.{handed}
 use Rattle.groups.specs.Groups.{unwrapOnDay, recordOf, groupResult}
 use Rattle.office.specs.Table.{noGroup, refused3, unwrapGroupAt, zeroRecord, tableOf, tableResult}'''),
