@@ -7,8 +7,8 @@ mod common;
 use common::headers::all_were_there;
 use common::play::{self, Tally};
 use common::{
-    Arrival, Both, Library, PACKETS, answer_of, any_session, cases, copy, is_whole_run, key, maybe_long, other_length,
-    packet, record_of, same, text,
+    Arrival, Both, Library, PACKETS, answer_of, any_session, cases, copy, is_whole_run, key, least_times, maybe_long,
+    other_length, packet, record_of, same, text,
 };
 use pevghazo::raw::{self, Answer, Record};
 use pevghazo_reference::deck::xoofff;
@@ -140,10 +140,18 @@ fn lists_with_and_without_codes() {
         }
     });
     if is_whole_run() {
-        assert!([0, 1, 6, 7, 8].iter().all(|number| wraps.numbers[*number] > 100), "wraps: {:?}", wraps.numbers);
-        assert!([0, 1, 8, 11].iter().all(|number| unwraps.numbers[*number] > 100), "unwraps: {:?}", unwraps.numbers);
-        assert!(unwraps.accepted.iter().all(|sort| *sort > 1_000), "{:?}", unwraps.accepted);
-        all_were_there(&unwraps.ways, 20);
+        assert!(
+            [0, 1, 6, 7, 8].iter().all(|number| wraps.numbers[*number] > least_times()),
+            "wraps: {:?}",
+            wraps.numbers
+        );
+        assert!(
+            [0, 1, 8, 11].iter().all(|number| unwraps.numbers[*number] > least_times()),
+            "unwraps: {:?}",
+            unwraps.numbers
+        );
+        assert!(unwraps.accepted.iter().all(|sort| *sort > 10 * least_times()), "{:?}", unwraps.accepted);
+        all_were_there(&unwraps.ways, least_times() / 5);
         assert!([0, 8, 12].iter().all(|number| codes[*number] > 1_000), "codes: {codes:?}");
     }
 }

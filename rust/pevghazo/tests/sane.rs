@@ -6,7 +6,8 @@ mod common;
 use common::headers::{Ways, all_were_there};
 use common::play::{self, Ends, Tally};
 use common::{
-    Arrival, SaneBoth, answer_of, cases, is_whole_run, key, length, maybe_long, other_length, record_of, same, text,
+    Arrival, SaneBoth, answer_of, cases, is_whole_run, key, least_times, length, maybe_long, other_length, record_of,
+    same, text,
 };
 use pevghazo::raw::{Answer, SaneRecord};
 use pevghazo_reference::deck::xoofff;
@@ -44,8 +45,8 @@ fn messages_both_ways() {
     if is_whole_run() {
         let Tally { numbers, forged, ways, accepted } = tally;
         assert!(forged > 10_000, "{forged} forged arrivals");
-        assert!(accepted.iter().all(|sort| *sort > 5_000), "without and for an envelope: {accepted:?}");
-        all_were_there(&ways, 100);
+        assert!(accepted.iter().all(|sort| *sort > 10 * least_times()), "without and for an envelope: {accepted:?}");
+        all_were_there(&ways, least_times());
         assert!(numbers[0] > 5_000 && [1, 6, 7, 8].iter().all(|number| numbers[*number] > 100), "{numbers:?}");
     }
 }
@@ -69,7 +70,7 @@ fn any_record() {
         let [closed, open] = numbers;
         assert!([0, 1, 6, 7, 8, 9, 11].iter().all(|number| open[*number] > 10), "{open:?}");
         assert!(closed[1] > 10 && closed[5] > 100 && closed[1] + closed[5] == closed.iter().sum(), "{closed:?}");
-        all_were_there(&ways, 10);
+        all_were_there(&ways, least_times() / 10);
     }
 }
 
@@ -168,10 +169,18 @@ fn lists_against_the_full_history() {
         }
     });
     if is_whole_run() {
-        assert!([0, 1, 6, 7, 8].iter().all(|number| wraps.numbers[*number] > 100), "wraps: {:?}", wraps.numbers);
-        assert!([0, 1, 8, 11].iter().all(|number| unwraps.numbers[*number] > 100), "unwraps: {:?}", unwraps.numbers);
-        assert!(unwraps.accepted.iter().all(|sort| *sort > 1_000), "{:?}", unwraps.accepted);
-        all_were_there(&unwraps.ways, 20);
+        assert!(
+            [0, 1, 6, 7, 8].iter().all(|number| wraps.numbers[*number] > least_times()),
+            "wraps: {:?}",
+            wraps.numbers
+        );
+        assert!(
+            [0, 1, 8, 11].iter().all(|number| unwraps.numbers[*number] > least_times()),
+            "unwraps: {:?}",
+            unwraps.numbers
+        );
+        assert!(unwraps.accepted.iter().all(|sort| *sort > 10 * least_times()), "{:?}", unwraps.accepted);
+        all_were_there(&unwraps.ways, least_times() / 5);
     }
 }
 
