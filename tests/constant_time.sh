@@ -1,7 +1,7 @@
 #!/usr/bin/env bash
-# Runs tests/constant_time.c under valgrind, for lone sessions, for a group and for sessions in SANE, without an envelope and for one. It fails where a
-# branch or an address depends on a secret, but for the verdict on the tag, which is a single branch. Leaks planted in long messages only must be seen, too. Then the same
-# for what the Rust crate adds: how it compares codes, and its type of sessions in SANE (rust/pevghazo/examples/constant_time.rs).
+# Runs tests/constant_time.c under valgrind, for lone sessions, for a group and for sessions in SANE, without an envelope and for one. It fails where
+# a branch or an address depends on a secret, but for the verdict on the tag, which is a single branch. Leaks planted in long messages only must be
+# seen, too. Then the same for what the Rust crate adds: how it compares codes, and its types of sessions (rust/pevghazo/examples/constant_time.rs).
 set -eu
 cd "$(dirname "$0")/.."
 lib=${PEVGHAZO_LIB_DIR:-target/staticlib}

@@ -102,16 +102,32 @@ static void opened_once(pevghazo_session *group, const uint8_t *envelope, pevgha
     const uint32_t expected[2] = {PEVGHAZO_ACCEPTED, PEVGHAZO_WRONG_TAG};
     uint8_t out[sizeof message];
     for (int i = 0; i < 2; i++) {
-        pevghazo_answer answer = pevghazo_unwrap_envelope(group, envelope, parts.metadata, envelope + parts.metadata, parts.cryptogram - parts.metadata,
-                                                          envelope + parts.cryptogram, parts.tag - parts.cryptogram, envelope + parts.tag,
-                                                          parts.place - parts.tag, out, sizeof out);
+        pevghazo_answer answer = pevghazo_unwrap_envelope(group, envelope, parts.metadata, envelope + parts.metadata,
+                                                          parts.cryptogram - parts.metadata, envelope + parts.cryptogram,
+                                                          parts.tag - parts.cryptogram, envelope + parts.tag, parts.place - parts.tag, out,
+                                                          sizeof out);
         check("unwrapping the message", answer.number, expected[i]);
         check("the count of unwrapping", answer.count, 7);
         if (i == 0) check("the message", (uint32_t)memcmp(out, message, message_len), 0);
     }
 }
 
-/* A message from the office to a group, in an envelope, and an answer without one. */
+/* The group answers without an envelope, and the office asks which group is nearly full. */
+static void answered(pevghazo_record *office, pevghazo_session *group, uint32_t allowance) {
+    uint8_t out[sizeof message], tag[PEVGHAZO_TAG_LENGTH];
+    pevghazo_answer back = pevghazo_wrap(group, metadata, metadata_len, message, 0, out, sizeof out, tag, sizeof tag);
+    check("wrapping an answer", back.number, PEVGHAZO_ACCEPTED);
+    pevghazo_answer arrived = pevghazo_unwrap_group(office, PEVGHAZO_GROUPS, 7, allowance, metadata, metadata_len, out, 0, tag, sizeof tag, out,
+                                                    sizeof out);
+    check("unwrapping the answer", arrived.number, PEVGHAZO_ACCEPTED);
+    check("the group's count after it", office[7].count, 11);
+    check("the ends' sessions", (uint32_t)memcmp(office[7].session.acc, group->acc, sizeof group->acc), 0);
+    pevghazo_found full = pevghazo_nearly_full(office, PEVGHAZO_GROUPS, 5);
+    check("the nearly-full question", full.number, PEVGHAZO_ACCEPTED);
+    check("the group that is nearly full", full.found ? full.group : 99, 7);
+}
+
+/* A message from the office to a group, in an envelope, and an answer. */
 static void both_ways(void) {
     static pevghazo_record office[PEVGHAZO_GROUPS]; /* all zero: closed sessions, before the first day */
     static pevghazo_session group;
@@ -121,7 +137,7 @@ static void both_ways(void) {
     check("the allowance", allowance, 1000);
     pevghazo_answer opened = pevghazo_open_group(office, PEVGHAZO_GROUPS, 7, allowance, key, key_len);
     check("opening a group", opened.number, PEVGHAZO_ACCEPTED);
-    uint8_t header[PEVGHAZO_HEADER_MAX], cryptogram[sizeof message], tag[PEVGHAZO_TAG_LENGTH], out[sizeof message];
+    uint8_t header[PEVGHAZO_HEADER_MAX], cryptogram[sizeof message], tag[PEVGHAZO_TAG_LENGTH];
     pevghazo_written headed = pevghazo_write_header(PEVGHAZO_LETTER_S, 7, metadata_len, message_len, header, sizeof header);
     check("writing a header", headed.number, PEVGHAZO_ACCEPTED);
     pevghazo_answer wrapped = pevghazo_wrap_envelope_group(office, PEVGHAZO_GROUPS, 7, allowance, header, headed.len, metadata, metadata_len, message,
@@ -147,18 +163,7 @@ static void both_ways(void) {
     check("starting", pevghazo_start(&group, key, key_len).number, PEVGHAZO_ACCEPTED);
     opened_once(&group, envelope, parts);
     same_code(&office[7].session, &group, 12);
-
-    /* The group answers, and the office asks which group is nearly full. */
-    pevghazo_answer back = pevghazo_wrap(&group, metadata, metadata_len, message, 0, out, sizeof out, tag, sizeof tag);
-    check("wrapping an answer", back.number, PEVGHAZO_ACCEPTED);
-    pevghazo_answer arrived = pevghazo_unwrap_group(office, PEVGHAZO_GROUPS, 7, allowance, metadata, metadata_len, out, 0, tag, sizeof tag, out,
-                                                    sizeof out);
-    check("unwrapping the answer", arrived.number, PEVGHAZO_ACCEPTED);
-    check("the group's count after it", office[7].count, 11);
-    check("the ends' sessions", (uint32_t)memcmp(office[7].session.acc, group.acc, sizeof group.acc), 0);
-    pevghazo_found full = pevghazo_nearly_full(office, PEVGHAZO_GROUPS, 5);
-    check("the nearly-full question", full.number, PEVGHAZO_ACCEPTED);
-    check("the group that is nearly full", full.found ? full.group : 99, 7);
+    answered(office, &group, allowance);
 }
 
 int main(void) {

@@ -78,9 +78,9 @@ static uint32_t open_lone(pevghazo_session *session, const sealed *from) {
     const uint8_t *bytes = from->bytes;
     const pevghazo_parts *parts = &from->parts;
     uint8_t out[message_len] = {0};
-    const pevghazo_answer answer = pevghazo_unwrap_envelope(session, bytes, parts->metadata, bytes + parts->metadata, parts->cryptogram - parts->metadata,
-                                                            bytes + parts->cryptogram, parts->tag - parts->cryptogram, bytes + parts->tag,
-                                                            parts->place - parts->tag, out, sizeof out);
+    const pevghazo_answer answer = pevghazo_unwrap_envelope(
+        session, bytes, parts->metadata, bytes + parts->metadata, parts->cryptogram - parts->metadata, bytes + parts->cryptogram,
+        parts->tag - parts->cryptogram, bytes + parts->tag, parts->place - parts->tag, out, sizeof out);
     if (answer.number == PEVGHAZO_ACCEPTED) check("the message", memcmp(out, message, message_len) != 0, 0);
     return answer.number;
 }
@@ -133,7 +133,8 @@ static void sealed_before(void) {
 
 /* Headers that are not the call's get 1, before all else; nothing is altered. */
 static void other_headers(void) {
-    static const char *const others[] = {"", "S", "S,7,6,11", "S,7,6,11,,", " S,7,6,11,", "S,07,6,11,", "S,32,6,11,", "S,7,7,11,", "S,7,6,10,", "N,7,6,11,"};
+    static const char *const others[] = {"", "S", "S,7,6,11", "S,7,6,11,,", " S,7,6,11,", "S,07,6,11,", "S,32,6,11,", "S,7,7,11,", "S,7,6,10,",
+                                         "N,7,6,11,"};
     static pevghazo_session closed;
     static pevghazo_record short_table[PEVGHAZO_GROUPS - 1];
     uint8_t out[message_len], tag[PEVGHAZO_TAG_LENGTH], kept[PEVGHAZO_TAG_LENGTH];
@@ -145,8 +146,8 @@ static void other_headers(void) {
         pevghazo_answer answer = pevghazo_wrap_envelope(&closed, header, header_len, metadata, metadata_len, message, message_len, out, 0, tag, 1);
         check("another header", answer.number, PEVGHAZO_BAD_HEADER);
         check("its count", answer.count, 0);
-        answer = pevghazo_wrap_envelope_group(short_table, PEVGHAZO_GROUPS - 1, 7, 0, header, header_len, metadata, metadata_len, message, message_len,
-                                              out, 0, tag, 1);
+        answer = pevghazo_wrap_envelope_group(short_table, PEVGHAZO_GROUPS - 1, 7, 0, header, header_len, metadata, metadata_len, message,
+                                              message_len, out, 0, tag, 1);
         check("another header in a short table", answer.number, PEVGHAZO_BAD_HEADER);
         check("the tag buffer after it", memcmp(tag, kept, sizeof tag) != 0, 0);
     }
@@ -159,26 +160,31 @@ static void other_headers(void) {
           PEVGHAZO_BAD_GROUP);
 }
 
-/* The same message in SANE, there and with another group's digit. */
+/* Opens the message in SANE, with this header; by the number. */
+static uint32_t open_sane(pevghazo_sane_session *session, const uint8_t *header, size_t header_len, const uint8_t *cryptogram, const uint8_t *tag) {
+    uint8_t out[message_len] = {0};
+    const pevghazo_answer answer = pevghazo_sane_unwrap_envelope(session, header, header_len, metadata, metadata_len, cryptogram, message_len, tag,
+                                                                 PEVGHAZO_SANE_TAG_LENGTH, out, sizeof out);
+    if (answer.number == PEVGHAZO_ACCEPTED) check("the message", memcmp(out, message, message_len) != 0, 0);
+    return answer.number;
+}
+
+/* The same message in SANE, with the digit of another group, with the letter S, and as it was wrapped. */
 static void in_sane(void) {
     static pevghazo_sane_session here, there;
-    uint8_t header[PEVGHAZO_HEADER_MAX], other[PEVGHAZO_HEADER_MAX], cryptogram[message_len], out[message_len], tag[PEVGHAZO_SANE_TAG_LENGTH];
+    uint8_t header[PEVGHAZO_HEADER_MAX], other[PEVGHAZO_HEADER_MAX], cryptogram[message_len], tag[PEVGHAZO_SANE_TAG_LENGTH];
     check("starting in SANE", pevghazo_sane_start(&here, key, key_len, nonce, sizeof nonce, tag, sizeof tag).number, PEVGHAZO_ACCEPTED);
     there = here;
     const size_t header_len = header_of(PEVGHAZO_LETTER_N, 8, header);
     check("the other header", (uint32_t)header_of(PEVGHAZO_LETTER_N, 9, other), (uint32_t)header_len);
-    pevghazo_answer answer = pevghazo_sane_wrap_envelope(&here, header, header_len, metadata, metadata_len, message, message_len, cryptogram,
-                                                         sizeof cryptogram, tag, sizeof tag);
-    check("wrapping in SANE", answer.number, PEVGHAZO_ACCEPTED);
-    check("its count", answer.count, 6);
-    answer = pevghazo_sane_unwrap_envelope(&there, other, header_len, metadata, metadata_len, cryptogram, message_len, tag, sizeof tag, out, sizeof out);
-    check("another group's digit in SANE", answer.number, PEVGHAZO_WRONG_TAG);
+    const pevghazo_answer wrapped = pevghazo_sane_wrap_envelope(&here, header, header_len, metadata, metadata_len, message, message_len, cryptogram,
+                                                                sizeof cryptogram, tag, sizeof tag);
+    check("wrapping in SANE", wrapped.number, PEVGHAZO_ACCEPTED);
+    check("its count", wrapped.count, 6);
+    check("another group's digit in SANE", open_sane(&there, other, header_len, cryptogram, tag), PEVGHAZO_WRONG_TAG);
     other[0] = PEVGHAZO_LETTER_S;
-    answer = pevghazo_sane_unwrap_envelope(&there, other, header_len, metadata, metadata_len, cryptogram, message_len, tag, sizeof tag, out, sizeof out);
-    check("the letter S in SANE", answer.number, PEVGHAZO_BAD_HEADER);
-    answer = pevghazo_sane_unwrap_envelope(&there, header, header_len, metadata, metadata_len, cryptogram, message_len, tag, sizeof tag, out, sizeof out);
-    check("unwrapping in SANE", answer.number, PEVGHAZO_ACCEPTED);
-    check("the message", memcmp(out, message, message_len) != 0, 0);
+    check("the letter S in SANE", open_sane(&there, other, header_len, cryptogram, tag), PEVGHAZO_BAD_HEADER);
+    check("unwrapping in SANE", open_sane(&there, header, header_len, cryptogram, tag), PEVGHAZO_ACCEPTED);
 }
 
 int main(void) {
