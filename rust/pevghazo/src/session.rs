@@ -120,8 +120,8 @@ impl Session {
     }
 
     /// Wraps a message for the envelope with this header, which then stands under the tag before the metadata:
-    /// [`envelope::write_header`] gives it. Checks 1, 5 and 9; a header that breaks the layout, or whose letter or lengths are not those of
-    /// this call, gets 1. Any group is taken.
+    /// [`envelope::write_header`] gives it. Checks 1, 5 and 9; a header that breaks the layout, or whose letter or lengths are not
+    /// those of this call, gets 1. Any group is taken.
     pub fn wrap_envelope(&mut self, header: &[u8], plain: &Plain<'_>) -> Result<Wrapped, Refusal> {
         Wrapped::by(plain.message.len(), |out, tag| self.wrap_envelope_to(header, plain, out, tag))
     }
@@ -139,7 +139,8 @@ impl Session {
     }
 
     /// Unwraps an envelope that was [read](envelope::read), by its header, metadata, cryptogram and tag. Checks 1, 5, 9 and 11; an
-    /// envelope with the letter N, which is for a [`SaneSession`](crate::SaneSession), gets 1. Any group is taken, but the tag covers it.
+    /// envelope with the letter N, which is for a [`SaneSession`](crate::SaneSession), gets 1. Any group is taken, but the
+    /// tag covers it.
     pub fn unwrap_envelope(&mut self, envelope: &Envelope<'_>) -> Result<Unwrapped, Refusal> {
         Unwrapped::by(envelope.cryptogram.len(), |out| self.unwrap_envelope_to(envelope, out))
     }

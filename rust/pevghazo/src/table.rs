@@ -157,7 +157,8 @@ impl Table {
         given(raw::unwrap_group(&mut self.records[..], group, self.allowance, metadata, cryptogram, tag, out))
     }
 
-    /// [`Session::wrap_envelope`](crate::Session::wrap_envelope) for a group. Checks 1, 5, 9 and 10; a header of another group gets 1.
+    /// [`Session::wrap_envelope`](crate::Session::wrap_envelope) for a group. Checks 1, 5, 9 and 10; a header of another group
+    /// gets 1.
     pub fn wrap_envelope(&mut self, group: u32, header: &[u8], plain: &Plain<'_>) -> Result<Wrapped, Refusal> {
         Wrapped::by(plain.message.len(), |out, tag| self.wrap_envelope_to(group, header, plain, out, tag))
     }

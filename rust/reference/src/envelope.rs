@@ -129,8 +129,8 @@ pub fn write(
     put(&[&header, metadata, cryptogram, tag].concat(), buffer)
 }
 
-/// Writes the header alone of an envelope with these lengths of metadata and message, as [`write`] writes an envelope. Meets 1, 3,
-/// 6 and 8.
+/// Writes the header alone of an envelope with these lengths of metadata and message, as [`write()`] writes an envelope. Meets 1,
+/// 3, 6 and 8.
 pub fn write_header(
     letter: u8,
     group: u32,
