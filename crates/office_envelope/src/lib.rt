@@ -81,7 +81,15 @@ pub fn unwrap_envelope_group(
     if number != 0 {
         return refused(number);
     }
-    let r = groups::unwrap_string(table[group], allowance, header, metadata, cryptogram, tag, out);
+    let r = groups::unwrap_string(
+        table[group],
+        allowance,
+        header,
+        metadata,
+        cryptogram,
+        tag,
+        out,
+    );
     table[group] = r.left;
     Answer {
         number: r.number,
