@@ -44,6 +44,20 @@ StartByRules k starts = (key : List ℕ) (r : k .Result) → starts key r ↔ st
 pub rules-by-rules : (m : Mode) (k : Kind) → ByRules m (byRules k m)
 rules-by-rules m k = record { wraps = λ s i r out tag. (λ e. e, λ e. e); unwraps = λ s i r out tag. (λ e. e, λ e. e) }
 
+-- promises that are such are so of calls with any header, or none
+pub by-rules-under : {m : Mode} {k : Kind} {p : Promises k} → ByRules m p → (h : CallHeader) → ByRulesUnder m h p
+by-rules-under l h = record { wraps = λ s i. l .wraps s (withHeader h i); unwraps = λ s i. l .unwraps s (withHeader h i) }
+
+-- of calls of both sorts nothing is known but the promise of their own sort
+module _ {k : Kind} (p q : Promises k) (s : k .Record) (i : CallInput) (r : k .Result) (out tag : List ℕ) where
+  pub both-without : (bothSorts k p q .wraps s (withHeader bare i) r out tag ≡ p .wraps s (withHeader bare i) r out tag)
+      × (bothSorts k p q .unwraps s (withHeader bare i) r out tag ≡ p .unwraps s (withHeader bare i) r out tag)
+  both-without = (refl, refl)
+
+  pub both-for : (x : List ℕ) → (bothSorts k p q .wraps s (withHeader (under x) i) r out tag ≡ q .wraps s (withHeader (under x) i) r out tag)
+      × (bothSorts k p q .unwraps s (withHeader (under x) i) r out tag ≡ q .unwraps s (withHeader (under x) i) r out tag)
+  both-for x = (refl, refl)
+
 -- promises of which the first are so of calls without an envelope, and the second of calls for one, are such of calls of both sorts
 module _ {m : Mode} {k : Kind} {p q : Promises k} (a : ByRulesUnder m bare p) (b : (x : List ℕ) → ByRulesUnder m (under x) q) where
   both-wraps : (h : CallHeader) (s : k .Record) (i : CallInput) (r : k .Result) (out tag : List ℕ)

@@ -37,6 +37,10 @@ use Rattle.modes.proofs.SaneDemands.{sane-both-ways}
 
 -- ---- the string of A
 
+-- without an envelope
+bare-string : (i : CallInput) → stringA (withHeader bare i) ≡ i .metadata
+bare-string i = refl
+
 module _ {letter group : ℕ} {i : CallInput} (h : HeaderOf letter group i) where
   -- it begins with the header
   string-is : stringA i ≡ header letter group (length (i .metadata)) (length (i .text)) ++ i .metadata
@@ -83,7 +87,7 @@ pub strings-of : (letter : ℕ) → Known letter → Strings letter
 unfolding decimal decimalWithin
 strings-of letter known =
     record {
-      without = λ i. refl;
+      without = bare-string;
       bounds = λ group i h. string-bounds h;
       shortest = (0, addressed letter 0 (ofLengths 0 0), own-header (ofLengths 0 0) known (omega arith) (omega arith) (omega arith), length-append (header letter 0 0 0) [] ∙ omega (arith, header-length letter 0 0 0));
       longest = (

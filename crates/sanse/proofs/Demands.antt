@@ -77,7 +77,7 @@ module _ (p : Promises sanseKind) (s : Session) (i : CallInput) (r : CallResult)
 -- ---- the demands
 
 -- each promise is just the call's equation with the rules
-program : ByRules sanse promises
+pub program : ByRules sanse promises
 program =
     both-by-rules (record { wraps = wrap-is; unwraps = unwrap-is })
     (λ x. record { wraps = λ s i r out tag. wrap-envelope-is s i r out tag x; unwraps = λ s i r out tag. unwrap-envelope-is s i r out tag x })

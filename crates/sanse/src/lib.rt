@@ -203,15 +203,8 @@ pub fn unwrap_string(
     let d = deck_of(s);
     let e = s.toggle;
     let a = metadata.len();
-    let number = check(
-        s.opened,
-        s.index,
-        head.len() + a,
-        a,
-        n,
-        tag.len(),
-        out.len(),
-    );
+    let string = head.len() + a;
+    let number = check(s.opened, s.index, string, a, n, tag.len(), out.len());
     if number != 0 {
         return result(number, 0, d, e, s.opened);
     }
