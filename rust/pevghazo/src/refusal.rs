@@ -83,7 +83,7 @@ impl Number {
     /// A plain sentence for people.
     pub const fn sentence(self) -> &'static str {
         match self {
-            Number::BadHeader => "This is not an envelope: its header does not follow the layout.",
+            Number::BadHeader => "The envelope's header does not follow the layout, or is not the one of this call.",
             Number::TooFewBytes => "The envelope ends before all that its header announces.",
             Number::BadGroup => "There is no such group: groups are numbered 0 to 31.",
             Number::BadKey => "The key must have 16 to 47 bytes.",
