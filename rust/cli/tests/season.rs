@@ -13,8 +13,8 @@ fn text(seed: u32, length: usize) -> Vec<u8> {
     (0..length).map(|place| (place as u32).wrapping_mul(2_654_435_761).wrapping_add(seed).to_le_bytes()[2]).collect()
 }
 
-#[test]
-fn a_season_of_three_groups() {
+/// The office and three groups, on a day.
+fn three_groups() -> Folder {
     let folder = Folder::new();
     assert_eq!(folder.done("office --state office create"), "");
     assert_eq!(folder.done("office --state office show"), "day: allowance 0 for each group\nclosed: 32 of 32 groups\n");
@@ -24,51 +24,41 @@ fn a_season_of_three_groups() {
         folder.done(&format!("office --state office open-group --group {group} --key key"));
         folder.done(&format!("group --state group-{group} start --group {group} --key key"));
     }
-    let lengths = [(0, 0), (0, 1), (20, 48), (5, 0), (16_384, 16_384), (48, 47), (1, 500)];
-    // Of each group: the opening, and its messages.
-    let mut spent = 1;
-    let mut index = 0;
-    for (turn, (a, m)) in lengths.into_iter().enumerate() {
-        for group in GROUPS {
-            let (metadata, message) = (text(group, a), text(7 * group + turn as u32, m));
-            folder.write("metadata", &metadata);
-            folder.write("message", &message);
-            // In turn from the office to the group and back.
-            let (from, to) = if turn % 2 == 0 {
-                (format!("office --state office seal --group {group}"), format!("group --state group-{group} open"))
-            } else {
-                (format!("group --state group-{group} seal"), "office --state office open".to_string())
-            };
-            folder.done_anew(&format!("{from} --metadata metadata --message message --out envelope"));
-            folder.done_anew(&format!("{to} --in envelope --out opened --metadata-out opened-metadata"));
-            assert_eq!(folder.read("opened").unwrap(), message);
-            assert_eq!(folder.read("opened-metadata").unwrap(), metadata);
-        }
-        // With these lengths the header's second digit takes no further block.
-        let calls = GROUPS.map(|group| (count(group, a, m), growth(group, a, m)));
-        assert_eq!(calls, [calls[0]; 3]);
-        spent += calls[0].0;
-        index += calls[0].1;
-    }
+    folder
+}
+
+/// A message, in turn from the office to a group and back.
+fn delivered(folder: &Folder, turn: usize, group: u32, metadata: Vec<u8>, message: Vec<u8>) {
+    folder.write("metadata", &metadata);
+    folder.write("message", &message);
+    let (from, to) = if turn % 2 == 0 {
+        (format!("office --state office seal --group {group}"), format!("group --state group-{group} open"))
+    } else {
+        (format!("group --state group-{group} seal"), "office --state office open".to_string())
+    };
+    folder.done_anew(&format!("{from} --metadata metadata --message message --out envelope"));
+    folder.done_anew(&format!("{to} --in envelope --out opened --metadata-out opened-metadata"));
+    assert_eq!((folder.read("opened"), folder.read("opened-metadata")), (Some(message), Some(metadata)));
+}
+
+/// Both ends of each group show what it has spent, and its index.
+fn shown_at_both_ends(folder: &Folder, spent: [u32; 3], indices: [u32; 3]) {
     let shown = folder.done("office --state office show");
     let lines: Vec<&str> = shown.lines().collect();
-    assert_eq!(lines.len(), 5);
-    assert_eq!(lines[0], "day: allowance 100000 for each group");
-    let left = 100_000 - spent;
-    for (line, group) in lines[1..].iter().zip(GROUPS) {
-        let start = format!("group {group:2}: count {spent:6}, left {left:6}, index {index:7}, toggle 1, ");
-        assert!(line.starts_with(&start), "{line}");
+    assert_eq!((lines.len(), lines[0]), (5, "day: allowance 100000 for each group"));
+    for (place, group) in GROUPS.into_iter().enumerate() {
+        let (spent, index) = (spent[place], indices[place]);
+        let left = 100_000 - spent;
+        let start = format!("group {group:2}: count {spent:6}, left {left:6}, index {index:7}, toggle 0, ");
+        assert!(lines[1 + place].starts_with(&start), "{start}{shown}");
         let shown = folder.done(&format!("group --state group-{group} show"));
-        assert!(shown.starts_with(&format!("group {group:2}: open, index {index:7}, toggle 1, ")), "{shown}");
+        assert!(shown.starts_with(&format!("group {group:2}: open, index {index:7}, toggle 0, ")), "{shown}");
     }
     assert_eq!(lines[4], "closed: 29 of 32 groups");
+}
 
-    // Which group is nearly full: the lowest of the three, and none only where there is none.
-    assert_eq!(folder.done(&format!("office --state office nearly-full --mark {}", index - 1)), "0\n");
-    assert_eq!(folder.done(&format!("office --state office nearly-full --mark {} --all", index - 1)), "0\n9\n31\n");
-    assert_eq!(folder.done(&format!("office --state office nearly-full --mark {index}")), "none\n");
-
-    // Another day, and a session in the place of an old one.
+/// Another day, and a session in the place of an old one.
+fn another_day(folder: &Folder) {
     folder.done("office --state office day --allowance 28");
     folder.write("new-key", b"another key of this group");
     folder.fails(5, "office --state office open-group --group 9 --key new-key");
@@ -85,6 +75,33 @@ fn a_season_of_three_groups() {
     folder.fails(20, "office --state office seal --group 9 --message message --out another");
     assert!(shown.contains("\ngroup 31: count  0, left 28, index "), "{shown}");
     folder.done_anew("office --state office seal --group 31 --message message --out another");
+}
+
+#[test]
+fn a_season_of_three_groups() {
+    let folder = three_groups();
+    // With 38 bytes of metadata, the header's second digit takes a further block at group 31.
+    let lengths = [(0, 0), (0, 1), (20, 48), (5, 0), (16_384, 16_384), (48, 47), (38, 5), (1, 500)];
+    // Of each group: the opening, and its messages.
+    let (mut spent, mut indices) = ([1; 3], [0; 3]);
+    for (turn, (a, m)) in lengths.into_iter().enumerate() {
+        for (place, group) in GROUPS.into_iter().enumerate() {
+            delivered(&folder, turn, group, text(group, a), text(7 * group + turn as u32, m));
+            spent[place] += count(group, a, m);
+            indices[place] += growth(group, a, m);
+        }
+    }
+    shown_at_both_ends(&folder, spent, indices);
+    // Which groups are nearly full: all three, the one with the further block, or none.
+    let least = indices[0];
+    assert_eq!(indices, [least, least, least + 1]);
+    for (mark, lowest, all) in
+        [(least - 1, "0\n", "0\n9\n31\n"), (least, "31\n", "31\n"), (least + 1, "none\n", "none\n")]
+    {
+        let line = format!("office --state office nearly-full --mark {mark}");
+        assert_eq!([folder.done(&line), folder.done(&format!("{line} --all"))], [lowest, all]);
+    }
+    another_day(&folder);
 }
 
 #[test]

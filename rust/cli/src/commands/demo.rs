@@ -39,20 +39,7 @@ pub fn run(out: &mut dyn Write, run: Run) -> Result<(), Failure> {
         folder.office_sends(out, group, block)?;
     }
     label(&folder, out)?;
-    print(out, "\nThe groups return the numbers that they did not use:\n")?;
-    for (group, _, unused) in BLOCKS {
-        let envelope = folder.group_seals(group, unused)?;
-        if group == BLOCKS[0].0 {
-            print(out, &format!("  group {group:2}: an envelope of {envelope} bytes comes in, damaged in one bit:\n"))?;
-            folder.damage("from-4", "damaged")?;
-            folder.refused(out, &["office", "open", "--in", "damaged", "--out", "none"], "office.state")?;
-        }
-        let opened = folder.office_opens(group)?;
-        print(
-            out,
-            &format!("  group {group:2}: an envelope of {envelope} bytes comes in and is opened as {opened}\n"),
-        )?;
-    }
+    return_unused(&folder, out)?;
     misdirect(&folder, out)?;
     one_key(&folder, out)?;
     keep_busy(&folder, out)?;
@@ -98,6 +85,25 @@ fn label(folder: &Folder, out: &mut dyn Write) -> Result<(), Failure> {
     print(out, &format!("  the office checks the code of packet 0: {verdict}"))?;
     print(out, "  the same code on packet 1:\n")?;
     folder.refused(out, &check("1"), "office.state")
+}
+
+/// The groups return numbers; the first envelope comes in damaged, and then whole.
+fn return_unused(folder: &Folder, out: &mut dyn Write) -> Result<(), Failure> {
+    print(out, "\nThe groups return the numbers that they did not use:\n")?;
+    for (group, _, unused) in BLOCKS {
+        let envelope = folder.group_seals(group, unused)?;
+        if group == BLOCKS[0].0 {
+            print(out, &format!("  group {group:2}: an envelope of {envelope} bytes comes in, damaged in one bit:\n"))?;
+            folder.damage("from-4", "damaged")?;
+            folder.refused(out, &["office", "open", "--in", "damaged", "--out", "none"], "office.state")?;
+        }
+        let opened = folder.office_opens(group)?;
+        print(
+            out,
+            &format!("  group {group:2}: an envelope of {envelope} bytes comes in and is opened as {opened}\n"),
+        )?;
+    }
+    Ok(())
 }
 
 /// Arrivals in the wrong place are refused.
