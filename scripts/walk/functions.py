@@ -21,26 +21,27 @@ def session(mode, function, params, core_args, gives, says, uses):
     )
 
 
+def call(mode, crate, rule, says, params, envelope):
+    """Wrap or unwrap of a mode, by its rule; for an envelope it is handed the header's bytes too, before the metadata."""
+    if envelope:
+        params = [('header', 'bytes')] + params
+    text = 'message' if rule == 'wrap' else 'cryptogram'
+    tag = 'tag′' if rule == 'wrap' else 'tag'
+    handed = 'handedFor header' if envelope else 'handed'
+    return session(
+        mode, f'{rule}_envelope' if envelope else rule, params, ['s'] + [name for name, _ in params],
+        f'callResult r out′ {tag} ≡ {rule}At {mode} incremental (stateOf h) ({handed} metadata {text} out tag)',
+        f'{says} s ({handed} metadata {text} out tag) res s′ out′ {tag}',
+        f'''use Rattle.modes.specs.Mode.{{{mode}, incremental}}
+use Rattle.modes.specs.Rules.{{{rule}At}}
+use Rattle.{mode}.specs.Session.{{stateOf, callResult, {handed.split()[0]}}}
+use Rattle.{crate}.specs.Lent.{{{says}}}''')
+
+
 def calls(mode, crate):
-    """Wrap and unwrap of a mode."""
-    return [
-        session(
-            mode, 'wrap', WRAP, ['s'] + [name for name, _ in WRAP],
-            f'callResult r out′ tag′ ≡ wrapAt {mode} incremental (stateOf h) (handed metadata message out tag)',
-            'Wrapped s (handed metadata message out tag) res s′ out′ tag′',
-            f'''use Rattle.modes.specs.Mode.{{{mode}, incremental}}
-use Rattle.modes.specs.Rules.{{wrapAt}}
-use Rattle.{mode}.specs.Session.{{stateOf, callResult, handed}}
-use Rattle.{crate}.specs.Lent.{{Wrapped}}'''),
-        session(
-            mode, 'unwrap', UNWRAP, ['s'] + [name for name, _ in UNWRAP],
-            f'callResult r out′ tag ≡ unwrapAt {mode} incremental (stateOf h) (handed metadata cryptogram out tag)',
-            'Unwrapped s (handed metadata cryptogram out tag) res s′ out′ tag',
-            f'''use Rattle.modes.specs.Mode.{{{mode}, incremental}}
-use Rattle.modes.specs.Rules.{{unwrapAt}}
-use Rattle.{mode}.specs.Session.{{stateOf, callResult, handed}}
-use Rattle.{crate}.specs.Lent.{{Unwrapped}}'''),
-    ]
+    """Wrap and unwrap of a mode, without an envelope and for one."""
+    return [call(mode, crate, rule, says, params, envelope)
+            for envelope in (False, True) for rule, says, params in (('wrap', 'Wrapped', WRAP), ('unwrap', 'Unwrapped', UNWRAP))]
 
 
 SESSION = [
@@ -100,9 +101,9 @@ use Rattle.office.specs.Table.{noGroup, refused3, openGroupAt, zeroRecor
         'wrap_group', 'wrap', WRAP,
         'groupResult r out′ tag′ ≡ wrapOnDay allowance (recordOf h) (handed metadata message out tag)',
         'tableResult res table′ out′ tag′ ≡ wrapGroupAt allowance (tableOf table) g (handed metadata message out tag)',
-        ('call', '(wrapAt sanse incremental) allowance (handed (x-metadata .now) (x-message .now) (x-out .now) (x-tag .now))'),
+        ('bare', '(wrapFrom5 sanse incremental) allowance (handed (x-metadata .now) (x-message .now) (x-out .now) (x-tag .now)) refl'),
         '''use Rattle.modes.specs.Mode.{sanse, incremental}
-use Rattle.modes.specs.Rules.{wrapAt}
+use Rattle.modes.specs.Rules.{wrapFrom5}
 use Rattle.sanse.specs.Session.{handed}
 use Rattle.groups.specs.Groups.{wrapOnDay, recordOf, groupResult}
 use Rattle.office.specs.Table.{noGroup, refused3, wrapGroupAt, zeroRecord, tableOf, tableResult}'''),
@@ -110,13 +111,50 @@ use Rattle.office.specs.Table.{noGroup, refused3, wrapGroupAt, zeroRecor
         'unwrap_group', 'unwrap', UNWRAP,
         'groupResult r out′ tag ≡ unwrapOnDay allowance (recordOf h) (handed metadata cryptogram out tag)',
         'tableResult res table′ out′ tag ≡ unwrapGroupAt allowance (tableOf table) g (handed metadata cryptogram out tag)',
-        ('call', '(unwrapAt sanse incremental) allowance (handed (x-metadata .now) (x-cryptogram .now) (x-out .now) (x-tag .now))'),
+        ('bare', '(unwrapFrom5 sanse incremental) allowance (handed (x-metadata .now) (x-cryptogram .now) (x-out .now) (x-tag .now)) refl'),
         '''use Rattle.modes.specs.Mode.{sanse, incremental}
-use Rattle.modes.specs.Rules.{unwrapAt}
+use Rattle.modes.specs.Rules.{unwrapFrom5}
 use Rattle.sanse.specs.Session.{handed}
 use Rattle.groups.specs.Groups.{unwrapOnDay, recordOf, groupResult}
 use Rattle.office.specs.Table.{noGroup, refused3, unwrapGroupAt, zeroRecord, tableOf, tableResult}'''),
 ]
+
+# ---- the same for an envelope, whose header is checked with the group: office_envelope
+
+
+def office_envelope(rule, params, text, tag):
+    """Wrap or unwrap for a group and an envelope, by its rule; `text` is what is wrapped or unwrapped, `tag` the tag that the call leaves."""
+    handed = f'(handedFor (x-header .now) (x-metadata .now) (x-{text} .now) (x-out .now) (x-tag .now))'
+    first = f'(x-header .now) (length (x-metadata .now)) (length (x-{text} .now)) (length ys) g r-first-check e-first-check has'
+    law = f'({rule}From5 sanse incremental) allowance {handed} ys g'
+    params = [('header', 'bytes')] + params
+    return Lent(
+        path=f'office_envelope::{rule}_envelope_group', core=f'groups::{rule}_string', record='groups::Record', result='groups::GroupResult',
+        session=('left', 2), answer='session::Answer', answer_field=None, answer_parts=[('number', 0), ('count', 1)],
+        params=[('table', 'table'), ('g', 'usize'), ('allowance', 'u32')] + params, core_args=['table', 'allowance'] + [one for one, _ in params],
+        gives=f'groupResult r out′ {tag} ≡ {rule}OnDay allowance (recordOf h) (handedFor header metadata {text} out tag)',
+        says=f'tableResult res table′ out′ {tag} ≡ {rule}GroupAt allowance (tableOf table) g (handedFor header metadata {text} out tag)',
+        requires='length (x-header .now) ≤ 17', proof=f'(call-stored {law} (goes-on {first}) r e)',
+        uses=f'''use Rattle.envelope.specs.Layout.{{letterS}}
+use Rattle.headers.specs.Fits.{{fitsGroup}}
+use Rattle.modes.specs.Mode.{{sanse, incremental}}
+use Rattle.modes.specs.Rules.{{{rule}From5}}
+use Rattle.sanse.specs.Session.{{handedFor}}
+use Rattle.groups.specs.Groups.{{{rule}OnDay, recordOf, groupResult}}
+use Rattle.office.specs.Table.{{tableCheck, {rule}GroupAt, zeroRecord, tableOf, tableResult}}
+use Rattle.office.proofs.Laws.{{call-refused, call-stored}}
+use Rattle.office_envelope.proofs.Laws.{{some-met, goes-on, goes-inside, goes-fits, goes-short}}''',
+        environment='Rattle.session.proofs.Env',
+        small=[Small('office_envelope::first_check', 'u32', '{r} ≡ tableCheck (fitsGroup letterS {1} {3} {4} {2}) {0} {1}'),
+               Small('office_envelope::refused', 'session::Answer', '{r} ≡ record {{ number = {0}; count = 0 }}')],
+        table=Table(
+            index='g', record_size=108, past_end='zeroRecord', inside=f'goes-inside {first}', fits=f'goes-fits {first}',
+            refused=f'call-refused {law} r-first-check (sym e-first-check) (some-met r-first-check none) r-refused e-refused',
+            required=f'goes-short {first}'),
+    )
+
+
+OFFICE_ENVELOPE = [office_envelope('wrap', WRAP, 'message', 'tag′'), office_envelope('unwrap', UNWRAP, 'cryptogram', 'tag')]
 
 # ---- over a record that is lent to be read: codes
 
@@ -167,7 +205,9 @@ use Rattle.pool.specs.Pool.{runsOf}''',
 # ---- that hand all their parameters on: capi
 
 PASSING = (
-    [f'capi::c_session::pevghazo_{function}' for function in ('start', 'wrap', 'unwrap')] + ['capi::c_codes::pevghazo_code']
-    + [f'capi::c_sane::pevghazo_sane_{function}' for function in ('start', 'wrap', 'unwrap')]
-    + [f'capi::c_table::pevghazo_{function}' for function in ('start_day', 'open_group', 'wrap_group', 'unwrap_group')]
+    [f'capi::c_session::pevghazo_{function}' for function in ('start', 'wrap', 'unwrap', 'wrap_envelope', 'unwrap_envelope')]
+    + ['capi::c_codes::pevghazo_code']
+    + [f'capi::c_sane::pevghazo_sane_{function}' for function in ('start', 'wrap', 'unwrap', 'wrap_envelope', 'unwrap_envelope')]
+    + [f'capi::c_table::pevghazo_{function}'
+       for function in ('start_day', 'open_group', 'wrap_group', 'unwrap_group', 'wrap_envelope_group', 'unwrap_envelope_group')]
     + [f'capi::c_pool::pevghazo_pool_{function}' for function in ('add', 'holds', 'rings')])

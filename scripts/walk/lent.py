@@ -5,8 +5,9 @@ The shapes, beside other parameters:
     fn f(s: &S, ..) -> R           { core(*s, ..) }
     fn f(table: &mut [S], g: usize, ..) -> R
         { if test(table.len(), g) { return refusal(..); } let r = core(table[g], ..); table[g] = r.session; r.answer }
-`core` takes the record by value. R is a plain struct, and in the first two a number or a bool as well. `test` and `refusal` are small functions: of
-numbers, bools and plain structs.
+        { let n = number(table.len(), g, ..); if n != 0 { return refusal(n); } let r = core(table[g], ..); table[g] = r.session; r.answer }
+`core` takes the record by value. R is a plain struct, and in the first two a number or a bool as well. `test`, `number` and `refusal` are small
+functions: of numbers, bools, plain structs and slices that are read.
 
 Here are the configuration, `Lent`, and the terms that stand for the function's parameters; `lent_walk.py` has the walk itself, which follows
 the MIR, and `lent_file.py` the proof file around it.
@@ -25,7 +26,7 @@ DENOTED = {'bool': 'Bool', **{kind: 'ℕ' for kind in WIDTHS}}      # the values
 class Small:
     """A small function by value that is called beside the core."""
     path: str                        # crate::name
-    result: str                      # 'bool', or the path of a struct: the function's own result
+    result: str                      # 'bool', u8 .. usize, or the path of a struct: the function's own result
     ensures: str                     # its clause: {r} is its result, {0}, {1} .. its arguments
 
 
@@ -39,6 +40,7 @@ class Table:
     inside: str                      # the place is below the table's length
     fits: str                        # the byte at which the record begins is a usize
     refused: str                     # what f ensures, where the test refuses
+    required: str = ''               # what the core requires, where it does
 
 
 @dataclass
@@ -59,6 +61,7 @@ class Lent:
     says: str                        # what f ensures: res is the result; what the lent one and the buffers hold last has a prime
     proof: str                       # `says`, from e : `gives`
     environment: str                 # the module of `envAt`
+    requires: str = ''               # what the core requires of the same, if anything; for a table only
     small: list = field(default_factory=list)       # the small functions that it calls
     table: Optional[Table] = None
 
@@ -95,8 +98,9 @@ class Terms:
         self.new_record = f'(r .{config.session[0]})' if config.session else None
         self.answer = (f'(r .{config.answer_field[0]})' if config.answer_field else 'r' if not config.answer_parts else
                        '(record { ' + '; '.join(f'{name} = r .{name}' for name, _ in config.answer_parts) + ' })')
-        # the context at a way out
+        # the context at a way out: at the one that refuses, and at the last
         self.front = ([f'own-{self.lent}'] if self.table else [] if self.reads else ['obs', 'bor']) + [f'tok-{self.lent}']
+        self.refused_order = self.front + [f'own-{name}' for name in self.core_refs] + [f'tok-{name}' for name in self.core_refs]
         self.exit_order = self.front + [f'tok-{name}' for name in self.core_refs] + [f'fin-{name}' for name in self.core_buffers]
 
     # ---- names and terms
@@ -161,6 +165,18 @@ class Terms:
             return f'owned ! {kind} (Is {kind}) (uint-makes 𝓤 H A W w{WIDTHS[kind]}) {value} _ (refl, {known})'
         module = self.struct_module[name]
         return f'owned ! {module}.the-row (Is {module}.the-row) (LL.makes {module}.the-type {module}′.the-plain 𝓤 H A) {value} _ {known}'
+
+    def has(self, name):
+        """What a parameter owns."""
+        return f'‵ ({self.type_of(name)} .own {self.value(name)} ({self.machine(name)} ∷ []))'
+
+    def token(self, name):
+        """The token of a reference's lifetime."""
+        return f'‵ (flft {self.κ(name)} {self.q(name)})'
+
+    def tokens(self, names):
+        """Those of some references, as a contract has them."""
+        return ' ⊛ '.join([self.token(name) for name in names] + ['‵ ftrue'])
 
     def known(self, name):
         """That a plain parameter's value is one of its type."""

@@ -193,10 +193,10 @@ mach-{name} d = LL.tuple-val {self.struct_module[name]}.the-type {self.struct_mo
             return '‵ (T.the-row .own h (mach h ∷ []))'
         name = label[4:]
         if label.startswith('tok-'):
-            return f'‵ (flft {self.κ(name)} {self.q(name)})'
+            return self.token(name)
         if label.startswith('fin-'):
             return f'‵ (finally u8 (x-{name} .name) last-{name})'
-        return f'‵ ({self.type_of(name)} .own {self.value(name)} ({self.machine(name)} ∷ []))'
+        return self.has(name)
 
     def says_at(self, result, lent, buffers):
         """`Says`, at an answer and at what the lent one and the buffers hold last."""
@@ -239,7 +239,7 @@ mach-{name} d = LL.tuple-val {self.struct_module[name]}.the-type {self.struct_mo
         """The way out of a table that refuses: the slices were not passed on, so that what says a buffer's last contents is made of its borrow."""
         if not self.table:
             return ''
-        labels = self.front + [f'own-{name}' for name in self.core_refs] + [f'tok-{name}' for name in self.core_refs]
+        labels = self.refused_order
         context, steps = Context(labels), ''
         for name in self.core_buffers:
             coded = f'(x-{name} .name) (codedHoleys u8 .code (heres u8 (x-{name} .now)))'
@@ -258,46 +258,61 @@ mach-{name} d = LL.tuple-val {self.struct_module[name]}.the-type {self.struct_mo
       qed W ({items}) ∵ {steps}by ! ({exits})
 '''
 
+    def hands(self, context, arguments, slices):
+        """The steps that make what a function is handed of what is held: of each argument the label of an item, or what makes it; `owned`, which is
+        nothing at first, and the tokens of the slices are held."""
+        steps = ''
+        for label, made in reversed(arguments):
+            steps += (context.move(label, 'owned') if label else context.move('owned') + context.push('one', made)) + context.join('owned')
+        steps += context.push('tokens', 'nothing !')
+        for name in reversed(slices):
+            steps += context.move(f'tok-{name}', 'tokens') + context.join('tokens', 'join')
+        return steps + context.move('tokens', 'owned') + context.join('all', 'join')
+
     def goes_core(self):
         """What the core is handed, and that it is what the core asks."""
         arguments = self.config.core_args
         labels = (['own'] if self.lent in arguments else []) + [f'own-{name}' for name in self.core_refs] + [f'tok-{name}' for name in self.core_refs]
         context = Context(labels)
         steps = context.push('owned', 'nothing !')
-        for name in reversed(arguments):
-            if name in self.plain:
-                steps += context.move('owned') + context.push('one', self.owns(self.kind[name], name, self.known(name), name)) + context.join('owned')
-            else:
-                steps += context.move('own' if name == self.lent else f'own-{name}', 'owned') + context.join('owned')
-        steps += context.push('tokens', 'nothing !')
-        for name in reversed(self.core_refs):
-            steps += context.move(f'tok-{name}', 'tokens') + context.join('tokens', 'join')
-        steps += context.move('tokens', 'owned') + context.join('all', 'join') + 'frame ! $ done !'
+        steps += self.hands(context, [(None, self.owns(self.kind[name], name, self.known(name), name)) if name in self.plain else
+                                      ('own' if name == self.lent else f'own-{name}', None) for name in arguments], self.core_refs)
         items = list_of(self.item(label) for label in labels)
         lifetimes, shares = tuple_of([self.κ(name) for name in self.core_refs]), tuple_of([self.q(name) for name in self.core_refs])
         machines = tuple_of(['mach h ∷ []' if name == self.lent else f'{self.machine(name)} ∷ []' for name in arguments])
+        asks, given, steps = (f'{self.config.requires} → ', ' required', f'says ! required $ {steps}done !') if self.config.requires else ('', '', f'{steps}frame ! $ done !')
         return f'''
   -- the core is called: of the record a copy, the slices at their own lifetimes, shares and names
   abbrev to-core : Core 𝓤 H A at-mem run .Ghost
   to-core = (({lifetimes}, {shares}, tt, {self.core_values()}, {machines}), tt)
 
-  goes-core : ent 𝓤 (⋆ 𝓤 H A ({items})) (Core 𝓤 H A at-mem run .pre to-core)
-  goes-core = qed W ({items}) ∵ {steps}
+  goes-core : {asks}ent 𝓤 (⋆ 𝓤 H A ({items})) (Core 𝓤 H A at-mem run .pre to-core)
+  goes-core{given} = qed W ({items}) ∵ {steps}
 '''
 
     def goes_small(self, small):
-        """The same of a small function, which is handed plain values only."""
-        own, contract, handed = dashed(last(small.path)), self.contract(small), self.handed[small.path]
+        """The same of a small function, over the numbers that other small functions gave."""
+        own, contract, handed, slices = dashed(last(small.path)), self.contract(small), self.handed[small.path], self.slices_handed(small)
+        numbers = [(value, self.numbers[value][0]) for _, value, _, _ in handed if value in self.numbers]
+        labels = [f'own-{name}' for name in slices] + [f'tok-{name}' for name in slices]
+        items = list_of(self.item(label) for label in labels) if slices else '‵ ftrue ∷ []'
+        context = Context(labels or ['owned'])
+        steps = context.push('owned', 'nothing !') if slices else ''
+        steps += self.hands(context, [(f'own-{name}', None) if kind == 'bytes' else (None, self.owns(kind, value, known, name))
+                                      for kind, value, known, name in handed], slices)
         values = tuple_of([value for _, value, _, _ in handed])
-        machines = tuple_of([f'{self.machine_of(kind, name, value)} ∷ []' for kind, value, _, name in handed])
-        steps = ''.join(f'{self.owns(kind, value, known, name)} $ fjoin ! $ ' for kind, value, known, name in reversed(handed))
+        machines = tuple_of([f"{self.machine(name) if kind == 'bytes' else self.machine_of(kind, name, value)} ∷ []" for kind, value, _, name in handed])
+        lifetimes, shares = tuple_of([self.κ(name) for name in slices]), tuple_of([self.q(name) for name in slices])
+        over = ''.join(f'({value} : ℕ) → ' for value, _ in numbers)
+        fitting = ''.join(f'({value} : ℕ) → {value} < 2 ^ {WIDTHS[kind]} → ' for value, kind in numbers)
+        bound, fit = ''.join(f' {value}' for value, _ in numbers), ''.join(f' {value} {value}-fits' for value, _ in numbers)
         return f'''
   -- `{last(small.path)}` is called
-  abbrev to-{own} : {contract} 𝓤 H A at-mem run .Ghost
-  to-{own} = ((tt, tt, tt, {values}, {machines}), tt)
+  abbrev to-{own} : {over}{contract} 𝓤 H A at-mem run .Ghost
+  to-{own}{bound} = (({lifetimes}, {shares}, tt, {values}, {machines}), tt)
 
-  goes-{own} : ent 𝓤 (⋆ 𝓤 H A (‵ ftrue ∷ [])) ({contract} 𝓤 H A at-mem run .pre to-{own})
-  goes-{own} = qed W (‵ ftrue ∷ []) ∵ {steps}nothing ! $ join ! $ frame ! $ done !
+  goes-{own} : {fitting}ent 𝓤 (⋆ 𝓤 H A ({items})) ({contract} 𝓤 H A at-mem run .pre {f'(to-{own}{bound})' if numbers else f'to-{own}'})
+  goes-{own}{fit} = qed W ({items}) ∵ {steps}frame ! $ done !
 '''
 
     def known_calls(self):

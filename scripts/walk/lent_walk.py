@@ -7,7 +7,7 @@ from typing import Optional
 
 import mir
 from context import Context
-from lent import WIDTHS, Terms
+from lent import DENOTED, WIDTHS, Terms
 from text import dashed, last, list_of, part, product_of, subscript, tuple_of, unclosed
 
 
@@ -16,7 +16,7 @@ class Local:
     """What is known of a local."""
     typed: str                       # that its value has its type
     fields: dict = field(default_factory=dict)      # the same of its fields
-    plain: Optional[tuple] = None    # where a small function may be handed it: its kind, its value, that this is one of its type, and the parameter that it is, if any
+    plain: Optional[tuple] = None    # where a small function may be handed it: its kind, its value, that this is one of its type (of a slice nothing), and the parameter that it is, if any
 
 
 def fits(term):
@@ -40,6 +40,7 @@ class Walk(Terms):
         self.cell_typed = ''                                       # that the record's value has its type, where the borrow is open
         self.cells = {}                                            # a local that is a pointer: the label of the cell that it points to
         self.handed = {}                                           # what each small function is handed, by its path
+        self.numbers = {}                                          # the numbers that small functions gave: their kinds, and that each is one of its kind
         self.is_plain = 'is'                                       # that a core's result that is the answer is one of its type
 
     # ---- lines
@@ -95,7 +96,7 @@ class Walk(Terms):
         if term[0] == 'op2':
             operator = term[1] if isinstance(term[1], str) else term[1][0]
             left, right = self.operand(term[2])[0], self.operand(term[3])[0]
-            if operator == 'offset':
+            if operator in ('offset', 'ne'):
                 return f'bin ! ({left}) ({right}) tt', '(tt, tt)'
             assert operator == 'mul', term
             return f'bin ! ({left}) ({right}) (record {{ fits = {self.table.fits} }})', fits(self.table.fits)
@@ -116,8 +117,16 @@ class Walk(Terms):
             # the place of the table's record, as the table's laws write it
             self.cells[number] = 'cell'
             self.put(f'rewrite ! {at} (λ (p : ℕ). ‵ (fat fullShare tyPtr l{subscript(number)} 0 (vptr b p))) (sym (place-is {self.table.record_size} o {self.table.index})) refl $')
-        elif self.table and statement[2] == ['rvOpd', ['copy', ['place', str(self.local_of[self.lent]), ['lcons', ['field', '1'], 'lnil']]]]:
-            self.locals[number].plain = ('usize', '(length ys)', 'room .0', None)          # the table's length
+        elif statement[2][0] == 'rvOpd':
+            self.locals[number].plain = self.length_of(statement[2][1])
+
+    def length_of(self, operand):
+        """Where an operand is the length of the table or of a slice: what a small function may be handed."""
+        number, steps = mir.place(operand[1]) if operand[0] == 'copy' else (0, [])
+        name = next((name for name in self.slices + ([self.lent] if self.table else []) if self.local_of[name] == number), None)
+        if name is None or steps != [1]:
+            return None
+        return ('usize', '(length ys)', 'room .0', None) if name == self.lent else ('usize', f'(length (x-{name} .now))', f'room-{name} .0', None)
 
     # ---- the borrow
 
@@ -182,11 +191,11 @@ class Walk(Terms):
         handed = (['own'] if self.lent in config.core_args else []) + [f'own-{name}' for name in self.core_refs] + [f'tok-{name}' for name in self.core_refs]
         moved = context.push('own', 'owned ! T.the-row (Is T.the-row) (LL.makes T.the-type T′.the-plain 𝓤 H A) h _ was') if self.reads else ''
         moved += context.move(*handed) + (f'group ! {len(handed)} $ ' if len(handed) > 1 else '')
-        self.put(moved + 'use1 W (raw (Core 𝓤 H A at-mem run .pre to-core)) goes-core $')
+        goes = f'(goes-core ({self.table.required}))' if config.requires else 'goes-core'
+        self.put(moved + f'use1 W (raw (Core 𝓤 H A at-mem run .pre to-core)) {goes} $')
         context.replace(len(handed), 'called')
         self.put(f'calls-at ! fm (Core 𝓤 H A at-mem run) known to-core {self.operands(arguments)} (λ v.')
-        tokens = ' ⊛ '.join([f'‵ (flft {self.κ(name)} {self.q(name)})' for name in self.core_refs] + ['‵ ftrue'])
-        tokens = f'({tokens})' if self.core_refs else tokens
+        tokens = f'({self.tokens(self.core_refs)})' if self.core_refs else self.tokens([])
         lifetimes, values = tuple_of([self.κ(name) for name in self.core_refs]), self.core_values()
         row = self.row if self.reads else 'B.the-row'
         self.put(f'use1 W (later (some (λ (r : {self.O}). ({tokens} ⊛ ‵ ({row} .own r (v ∷ []))) ⊛ raw (ensured 𝓤 H A core.ended (core.clauses 𝓤 H A at-mem run) {lifetimes} {values} tt r)))) (id⊢ 𝓤 _) $ await ! tt $ pick ! (λ r.')
@@ -238,48 +247,85 @@ class Walk(Terms):
         self.put(f'rewrite ! 0 (λ (us : List Val). ‵ ({module}.the-row .own {result} us)) ({tells}) refl $')
 
     def lands_plain(self, target):
-        """The core's result, a number or a bool at the head, lands in a local, at its machine value written out; `is` is that it is one of its type."""
-        at, number = self.context.at(f'L{target}'), self.number_answer()
-        width = f' w{WIDTHS[self.config.answer]}' if number else ''
-        lawful, type_ = ('uint-lawful', f'(tyInt{width})') if number else ('bool-lawful', 'tyBool')
-        spelled = 'is′ .0' if number else 'is′'
-        self.put(f'peeks ! {self.row} (Is {self.row}) (shows 𝓤 H A {self.row}) r (v ∷ []) (λ is′.')
-        self.put(f'land ! (from ! (stop !)) (init ! {at} refl ({lawful} 𝓤 H A W{width} .typed r _ is′ .0)) $')
-        self.put(f'rewrite ! {at} (λ (u : Val). ‵ (fat fullShare {type_} l{subscript(target)} 0 u)) (ap only ({spelled})) refl $ drop ! $')
-        self.context.labels.pop(0)
+        """The core's result, a number or a bool at the head, lands in a local; `is` is that it is one of its type."""
+        self.lands_scalar(self.config.answer, 'r', target, 'is′')
         self.locals[target] = Local('')
-        self.is_plain = '(refl, is′ .1)' if number else 'refl'
+        self.is_plain = '(refl, is′ .1)' if self.number_answer() else 'refl'
         self.show()
+
+    def lands_scalar(self, kind, result, target, known):
+        """A number or a bool at the head lands in a local, at its machine value written out; `known` is the name of what it is known by."""
+        at, number = self.context.at(f'L{target}'), kind in WIDTHS
+        width = f' w{WIDTHS[kind]}' if number else ''
+        row, lawful, type_ = (kind, 'uint-lawful', f'(tyInt{width})') if number else ('Boolean', 'bool-lawful', 'tyBool')
+        spelled = f'({known} .0)' if number else known
+        self.put(f'peeks ! {row} (Is {row}) (shows 𝓤 H A {row}) {result} (v ∷ []) (λ {known}.')
+        self.put(f'land ! (from ! (stop !)) (init ! {at} refl ({lawful} 𝓤 H A W{width} .typed {result} _ {known} .0)) $')
+        self.put(f'rewrite ! {at} (λ (u : Val). ‵ (fat fullShare {type_} l{subscript(target)} 0 u)) (ap only {spelled}) refl $ drop ! $')
+        self.context.labels.pop(0)
 
     def call_small(self, statement, small):
         """A small function is called: its result r-NAME lands in a local, and e-NAME is what it ensures."""
         own, context = dashed(last(small.path)), self.context
         arguments, (target, _) = mir.items(statement[2]), mir.place(statement[3])
-        self.handed[small.path] = [self.locals[mir.place(argument[1])[0]].plain for argument in arguments]
-        result, values = f'r-{own}', [value for _, value, _, _ in self.handed[small.path]]
-        ensures = small.ensures.format(*values, r=result)
+        handed = self.handed[small.path] = [self.locals[mir.place(argument[1])[0]].plain for argument in arguments]
+        result, values, slices = f'r-{own}', [value for _, value, _, _ in handed], self.slices_handed(small)
+        ensures = small.ensures.format(*[f'({value} .now)' if kind == 'bytes' else value for kind, value, _, _ in handed], r=result)
         called, ended = f'{self.contract(small)} 𝓤 H A at-mem run', f'{own}.ended'
-        row, denoted = ('Boolean', 'Bool') if small.result == 'bool' else ('R.the-row', self.R)
+        row, denoted = {'bool': 'Boolean'}.get(small.result) or (small.result if small.result in WIDTHS else 'R.the-row'), DENOTED.get(small.result, self.R)
         self.note(f'`{last(small.path)}` is called')
-        self.put(f'nothing ! $ use1 W (raw ({called} .pre to-{own})) goes-{own} $')
-        context.labels.insert(0, 'called')
-        self.put(f'calls-at ! fm ({called}) known-{own} to-{own} {self.operands(arguments)} (λ v.')
-        self.put(f'use1 W (later (some (λ ({result} : {denoted}). (‵ ftrue ⊛ ‵ ({row} .own {result} (v ∷ []))) ⊛ raw (ensured 𝓤 H A {ended} ({own}.clauses 𝓤 H A at-mem run) tt {tuple_of(values)} tt {result})))) (id⊢ 𝓤 _) $ await ! tt $ pick ! (λ {result}.')
+        given = [value for value in values if value in self.numbers]
+        to = f"(to-{own} {' '.join(given)})" if given else f'to-{own}'
+        goes = f"(goes-{own} {' '.join(f'{value} ({self.numbers[value][1]})' for value in given)})" if given else f'goes-{own}'
+        self.put(self.lends(slices) + f'use1 W (raw ({called} .pre {to})) {goes} $')
+        self.put(f'calls-at ! fm ({called}) known-{own} {to} {self.operands(arguments)} (λ v.')
+        tokens = f'({self.tokens(slices)})' if slices else self.tokens([])
+        lifetimes = tuple_of([self.κ(name) for name in slices])
+        self.put(f'use1 W (later (some (λ ({result} : {denoted}). ({tokens} ⊛ ‵ ({row} .own {result} (v ∷ []))) ⊛ raw (ensured 𝓤 H A {ended} ({own}.clauses 𝓤 H A at-mem run) {lifetimes} {tuple_of(values)} tt {result})))) (id⊢ 𝓤 _) $ await ! tt $ pick ! (λ {result}.')
         nothing = product_of(['Unit {0}'] * len(values))
-        self.put(f'split ! $ move ! (1 ∷ []) $ use1 W (some (λ (zs : {nothing}). ‵ (lasts {ended} tt {tuple_of(values)} zs) ⊛ raw (fact 𝓤 ({ensures})))) (id⊢ 𝓤 _) $ pick ! (λ zs.')
-        self.put(f'split ! $ drop ! $ heard ! ({ensures}) (λ e-{own}. split ! $ drop ! $')
-        context.labels[0] = 'result'
+        self.put(f'split ! $ move ! (1 ∷ []) $ use1 W (some (λ (zs : {nothing}). ‵ (lasts {ended} {lifetimes} {tuple_of(values)} zs) ⊛ raw (fact 𝓤 ({ensures})))) (id⊢ 𝓤 _) $ pick ! (λ zs.')
+        context.labels[0] = 'given'
+        steps = f'split ! $ drop ! $ heard ! ({ensures}) (λ e-{own}. ' + context.split('tokens', 'result', 'split')
+        for name in slices:                                        # the tokens come back
+            steps += context.split(f'tok-{name}', 'tokens', 'split') + context.move('tokens')
+        self.put(steps + context.drop('tokens') + context.move('result'))
+        self.locals[target] = self.lands_small(small, result, target)
+        self.show()
+
+    def slices_handed(self, small):
+        """The slices among what a small function is handed."""
+        return [name for kind, _, _, name in self.handed[small.path] if kind == 'bytes']
+
+    def lends(self, slices):
+        """A small function is lent these slices, of which a copy is kept, with the tokens of their lifetimes; it is handed one item."""
+        context, steps = self.context, ''
+        for name in slices:
+            copied = f'(shr-slice-copy 𝓤 H A W (named {self.lifetime[name]}) {self.κ(name)} u8 .twice {self.value(name)} ({self.machine(name)} ∷ []))'
+            steps += context.move(f'own-{name}') + f'use1 W ({self.has(name)} ⊛ {self.has(name)}) {copied} $ '
+            context.labels[0] = 'both'
+            steps += context.split(f'lent-{name}', f'own-{name}', 'split')
+        if not slices:
+            return context.push('called', 'nothing !')
+        handed = [f'lent-{name}' for name in slices] + [f'tok-{name}' for name in slices]
+        steps += context.move(*handed) + f'group ! {len(handed)} $ '
+        context.replace(len(handed), 'called')
+        return steps
+
+    def lands_small(self, small, result, target):
+        """The result of a small function lands in a local; gives what is known of that."""
+        own = dashed(last(small.path))
+        if small.result in WIDTHS:
+            known = f'is-{own} .1'
+            self.lands_scalar(small.result, result, target, f'is-{own}')
+            self.numbers[result] = (small.result, known)
+            return Local(fits(known), plain=(small.result, result, f'{result}-fits', None))
         if small.result == 'bool':
-            at = context.at(f'L{target}')
-            self.put(f'peeks ! Boolean (Is Boolean) (shows 𝓤 H A Boolean) {result} (v ∷ []) (λ is′.')
-            self.put(f'land ! (from ! (stop !)) (init ! {at} refl (bool-lawful 𝓤 H A W .typed {result} _ is′ .0)) $')
-            self.put(f'rewrite ! {at} (λ (u : Val). ‵ (fat fullShare tyBool l{subscript(target)} 0 u)) (ap only is′) refl $ drop ! $')
+            self.lands_scalar('bool', result, target, 'is′')
         else:
             self.lands('R', result, target)
             self.put(f'peeks ! R.the-row (Is R.the-row) (shows 𝓤 H A R.the-row) {result} ({self.answer_value(result)} ∷ []) (λ is. drop ! $')
-        context.labels.pop(0)
-        self.locals[target] = Local('(tt, tt)')
-        self.show()
+            self.context.labels.pop(0)
+        return Local('(tt, tt)')
 
     def contract(self, small):
         """The name of a small function's contract in the file."""
@@ -298,7 +344,7 @@ class Walk(Terms):
     def enters(self):
         """Entry: what the parameters own is taken apart, the locals get their cells, the parameters are written."""
         context = self.context = Context(['tokens', 'owned'])
-        tokens = ' ⊛ '.join(f'‵ (flft {self.κ(name)} {self.q(name)})' for name in self.refs) + ' ⊛ ‵ ftrue'
+        tokens = self.tokens(self.refs)
         steps = ''
         for place, name in enumerate(self.refs):
             steps += context.split(f'tok-{name}', 'tokens', 'split')
@@ -336,7 +382,7 @@ class Walk(Terms):
             typed = fits(self.known(name)) if kind in WIDTHS else '(tt, tt)' if kind == 'bool' else self.typed(self.struct_module[name], name, self.known(name))
             return Local(typed, plain=(kind, name, self.known(name), name))
         room = 'room .0' if name == self.lent else f'room-{name} .0'
-        return Local(slice_fits(room), {0: '(tt, tt)', 1: fits(room)})
+        return Local(slice_fits(room), {0: '(tt, tt)', 1: fits(room)}, ('bytes', self.value(name), '', name) if kind == 'bytes' else None)
 
     def frees(self):
         """The locals are let go."""
@@ -360,7 +406,8 @@ class Walk(Terms):
         self.call_small(call, small)
         self.put(f'returns-within ! Post refl (look ! {self.context.at("L0")} refl) $')
         self.frees()
-        self.put(f'by ! (refuses r-{dashed(last(small.path))} is ({self.table.refused}))')
+        ordered = '' if self.context.labels == self.refused_order else self.context.keep(*self.refused_order)
+        self.put(f'{ordered}by ! (refuses r-{dashed(last(small.path))} is ({self.table.refused}))')
         self.lines[-1] += unclosed(self.lines[begin:])
         self.context, self.locals = kept, locals_
 

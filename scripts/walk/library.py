@@ -32,7 +32,7 @@ use denote.Memory.{mem}
 use denote.Plain.{Boolean, bool-vals, bool-tells, bool-makes, bool-lawful, uint-vals, uint-tells, uint-makes, uint-lawful}
 use denote.Builtin.{u8, u16, u32, u64, usize}
 use denote.Ref.{RefT, MutRef, ShrRef, ptr-vals, mut-tells, shr-tells}
-use denote.Slice.{sliceVal, slice-vals, MutSlice, ShrSlice, Room, heres, codedHoleys, at-slice, finally, res-finally, mut-slice-tells, shr-slice-tells}
+use denote.Slice.{sliceVal, slice-vals, MutSlice, ShrSlice, Room, heres, codedHoleys, at-slice, finally, res-finally, mut-slice-tells, shr-slice-tells, shr-slice-copy}
 use denote.Index.{place-is, elem-out, elem-put, opens-slice, closes-slice}
 use denote.Signature.{plain, shrRefTo, shrSliceOf}
 use denote.Steps.{only, opens, closes, looks, shuts, owned, peeks, heard, nothing}

@@ -19,13 +19,12 @@ use Rattle.modes.specs.OneCall.{sessionOf}
 use Rattle.modes.specs.Promises.{Promises, Records, Run, sessionsHeld}
 use Rattle.modes.specs.Codes.{CodeOutcome, AnyCode, CodeClaim}
 use Rattle.modes.specs.CodeLists.{Codes, Request, call, code, callsOf, CodeRun, WithCodes, AnyCodeOf, OneCodeOf, WithCodesOf, SameCodesOf, SameRuns, CodeRunsExist, AskedAnywhere}
-use Rattle.modes.proofs.Demands.{ByRules}
 use Rattle.modes.proofs.CodeLists.{any-code-of, one-code-of, with-codes-of, same-codes-of, same-runs, code-runs-exist, asked-anywhere}
 use Rattle.sanse.specs.declared.Session.{Session}
 use Rattle.sanse.specs.declared.CallResult.{CallResult}
 use Rattle.sanse.specs.Session.{stateOf, startResult, sanseKind}
-use Rattle.sanse.proofs.Contracts.{StartPromise, promises, start-is, wrap-is, unwrap-is}
-use Rattle.sanse.proofs.Demands.{run-exists}
+use Rattle.sanse.proofs.Contracts.{StartPromise, promises, start-is}
+use Rattle.sanse.proofs.Demands.{program, run-exists}
 use Rattle.codes.proofs.Contracts.{codes, code-is}
 
 -- ---- what the claims say of these records, written out
@@ -78,9 +77,6 @@ pub asked-anywhere-says : (p : Promises sanseKind) (c : Codes sanseKind)
 asked-anywhere-says p c = refl
 
 -- ---- the claims
-
-program : ByRules sanse promises
-program = record { wraps = wrap-is; unwraps = unwrap-is }
 
 -- asked of any record
 pub any-code : AnyCodeOf sanseKind codes

@@ -2,22 +2,23 @@
 use mathlib.Core.Path.{_≡_, refl, sym, ap, _∙_}
 use mathlib.Core.Logic.{_≢_}
 use mathlib.Core.Bool.{Bool, true, false, cond}
-use mathlib.Core.List.{List}
+use mathlib.Core.List.{List, []}
 use Prim.Native.Nat.{ℕ, zero, suc, _+_, _/_, _≤_, _<_}
 use native.Mathlib.Omega.{arith}
-use lib.ListN.{length}
+use lib.ListN.{length, length-append}
 use borrow.Author.Tests.{ltb-false, le-leb, lt-leb}
 use Rattle.deck.specs.declared.DeckState.{DeckState}
-use Rattle.modes.specs.Call.{CallInput}
+use Rattle.modes.specs.Call.{bare, under, CallInput}
 use Rattle.modes.specs.Mode.{sanse, incremental, sanseCount}
-use Rattle.modes.specs.Rules.{SessionState, Outcome, Opening, growth, firstCheck, checkNumber, countOf, metadataString, ifNoCheck, startAt}
+use Rattle.modes.specs.Rules.{SessionState, Outcome, Opening, growth, firstCheck, checkFrom5, countOf, metadataString, ifNoCheck, startAt}
 use Rattle.steps.proofs.History.{passed}
+use Rattle.steps.proofs.Calls.{same-unless, bare-wrap, fitted-wrap, bare-unwrap, fitted-unwrap}
 use Rattle.sanse.specs.declared.CallResult.{CallResult}
-use Rattle.sanse.specs.Session.{startResult, callResult, handed}
+use Rattle.sanse.specs.Session.{startResult, callResult, handed, handedFor}
 use Rattle.groups.proofs.Counts.{start-count}
 use Rattle.groups.specs.declared.Record.{Record}
 use Rattle.groups.specs.declared.GroupResult.{GroupResult}
-use Rattle.groups.specs.Groups.{aboveAllowance, then10, groupCheck, charged, onDay, openCheck, openedUnless, chargedOpening, openOnDay, recordOf, groupOpeningResult, groupResult}
+use Rattle.groups.specs.Groups.{GroupState, aboveAllowance, then10, groupCheck, charged, onDay, wrapOnDay, unwrapOnDay, openCheck, openedUnless, chargedOpening, openOnDay, recordOf, groupOpeningResult, groupResult}
 
 -- ---- the count's formula
 
@@ -59,23 +60,23 @@ none-of-10 zero allowance spent c e = (refl, go (aboveAllowance allowance spent 
     go true g z = absurd (omega arith)
     go false g z = ltb-false allowance (spent + c) g
 
--- the lengths of a call that meets none of 5 to 9
-pub short-enough : (o : Bool) (k a n t b : ℕ) → firstCheck o k 32 a n t b ≡ 0 → (a ≤ 16384) × (n ≤ 16384)
-short-enough o k a n t b e = let p = passed o k 32 a n t b e in (p .metadata, p .text)
+-- the lengths of a call that meets none of 5 to 9: of A's string, a header and the metadata, and of the text
+pub short-enough : (o : Bool) (k string a n t b : ℕ) → string ≤ a + 17 → firstCheck o k 32 a n t b ≡ 0 → (string ≤ 16401) × (n ≤ 16384)
+short-enough o k string a n t b h e = let p = passed o k 32 a n t b e in (omega arith, p .text)
 
 -- the first check as the program finds it: k is the index after the call, n the first of 5 to 9, u whether the allowance is too small
-module _ (o : Bool) (i a m t b k n : ℕ) (after : k ≡ i + growth a m) (first : n ≡ firstCheck o k 32 a m t b) (allowance spent : ℕ) where
+module _ (o : Bool) (i string a m t b k n : ℕ) (after : k ≡ i + growth string m) (first : n ≡ firstCheck o k 32 a m t b) (allowance spent : ℕ) where
   abbrev above : Bool
-  above = aboveAllowance allowance spent (sanseCount a m)
+  above = aboveAllowance allowance spent (sanseCount string m)
 
-  first-number : n ≡ firstCheck o (i + growth a m) 32 a m t b
+  first-number : n ≡ firstCheck o (i + growth string m) 32 a m t b
   first-number = first ∙ ap (λ (x : ℕ). firstCheck o x 32 a m t b) after
 
-  pub check-before-10 : n ≢ 0 → n ≡ then10 (firstCheck o (i + growth a m) 32 a m t b) above
+  pub check-before-10 : n ≢ 0 → n ≡ then10 (firstCheck o (i + growth string m) 32 a m t b) above
   check-before-10 h = some-before-10 n above h ∙ ap (λ (x : ℕ). then10 x above) first-number
 
-  pub check-10 : n ≡ 0 → (c : ℕ) → c ≡ sanseCount a m → (u v : Bool) → u ≡ aboveAllowance allowance spent c → u ≡ v
-      → cond v 10 0 ≡ then10 (firstCheck o (i + growth a m) 32 a m t b) above
+  pub check-10 : n ≡ 0 → (c : ℕ) → c ≡ sanseCount string m → (u v : Bool) → u ≡ aboveAllowance allowance spent c → u ≡ v
+      → cond v 10 0 ≡ then10 (firstCheck o (i + growth string m) 32 a m t b) above
   check-10 z c e u v g h =
       ap (λ (x : Bool). cond x 10 0) (sym h)
       ∙ then-10 n u above z (g ∙ ap (aboveAllowance allowance spent) e)
@@ -104,19 +105,22 @@ charged-is zero spent r s i out tag lone z e = ap (charged spent) e
 charged-is (suc n) spent r s i out tag lone z e = absurd (omega arith)
 
 -- n is the first check as the program has it
-module _ (allowance : ℕ) (g : Record) (a x out tag : List ℕ) (n : ℕ)
+module _ (allowance : ℕ) (g : Record) (head a x out tag : List ℕ) (n : ℕ)
     (checked : n
-    ≡ then10 (firstCheck (g .session .opened) (g .session .index + growth (length a) (length x)) 32 (length a) (length x) (length tag) (length out))
-    (aboveAllowance allowance (g .count) (sanseCount (length a) (length x)))) where
+    ≡ then10 (firstCheck (g .session .opened) (g .session .index + growth (length head + length a) (length x)) 32 (length a) (length x) (length tag) (length out))
+    (aboveAllowance allowance (g .count) (sanseCount (length head + length a) (length x)))) where
   abbrev input : CallInput
-  input = handed a x out tag
+  input = handedFor head a x out tag
 
   abbrev s : SessionState DeckState
   s = recordOf g .session
 
   first-is : n ≡ groupCheck allowance (recordOf g) input
-  unfolding groupCheck checkNumber metadataString
-  first-is = checked
+  unfolding groupCheck checkFrom5 metadataString
+  first-is =
+      checked
+      ∙ ap (λ (k : ℕ). then10 (firstCheck (g .session .opened) (g .session .index + growth k (length x)) 32 (length a) (length x) (length tag) (length out))
+      (aboveAllowance allowance (g .count) (sanseCount k (length x)))) (sym (length-append head a))
 
   pub call-refused : (lone : Outcome DeckState) (r : GroupResult) → n ≢ 0 → r ≡ record { number = n; count = 0; left = g }
       → groupResult r out tag ≡ onDay allowance (recordOf g) input lone
@@ -127,11 +131,11 @@ module _ (allowance : ℕ) (g : Record) (a x out tag : List ℕ) (n : ℕ)
 
   -- the call's count, added to the group's, is at most the allowance
   pub call-fits : (lone : Outcome DeckState) (r : CallResult) (out′ tag′ : List ℕ)
-      → (checkNumber sanse incremental s input ≡ 0 → lone .count ≡ countOf sanse incremental input) → n ≡ 0 → callResult r out′ tag′ ≡ lone
+      → (checkFrom5 sanse incremental s input ≡ 0 → lone .count ≡ countOf sanse incremental input) → n ≡ 0 → callResult r out′ tag′ ≡ lone
       → g .count + r .count ≤ allowance
   unfolding groupCheck
   call-fits lone r out′ tag′ counts z e =
-      let w = none-of-10 (checkNumber sanse incremental s input) allowance (g .count) (countOf sanse incremental input) (sym first-is ∙ z) in
+      let w = none-of-10 (checkFrom5 sanse incremental s input) allowance (g .count) (countOf sanse incremental input) (sym first-is ∙ z) in
       let k : r .count ≡ lone .count = ap (λ (o : Outcome DeckState). o .count) e in
       omega (arith, counts (w .0), w .1)
 
@@ -142,6 +146,23 @@ module _ (allowance : ℕ) (g : Record) (a x out tag : List ℕ) (n : ℕ)
   call-charged lone r c out′ tag′ z e k =
       ap (λ (c : GroupResult). groupResult c out′ tag′) k ∙ charged-is n (g .count) r s input out′ tag′ lone z e
       ∙ ap (λ (k : ℕ). charged (g .count) (ifNoCheck k s input lone)) first-is
+
+-- a call without an envelope is one with a header of no bytes
+module _ (allowance : ℕ) (g : GroupState) (a x out tag : List ℕ) where
+  abbrev noBytes : CallInput
+  noBytes = handedFor [] a x out tag
+
+  bare-day : {lone lone′ : Outcome DeckState} → lone ≡ lone′ → onDay allowance g noBytes lone ≡ onDay allowance g (handed a x out tag) lone′
+  unfolding onDay groupCheck checkFrom5 metadataString
+  bare-day {lone} {lone′} e =
+      ap (onDay allowance g noBytes) e
+      ∙ ap (charged (g .count)) (same-unless (groupCheck allowance g noBytes) (g .session) (under []) bare a x out tag lone′)
+
+  pub bare-wrap-day : wrapOnDay allowance g noBytes ≡ wrapOnDay allowance g (handed a x out tag)
+  bare-wrap-day = bare-day (bare-wrap sanse (g .session) a x out tag ∙ sym (fitted-wrap sanse (g .session) (handed a x out tag) refl))
+
+  pub bare-unwrap-day : unwrapOnDay allowance g noBytes ≡ unwrapOnDay allowance g (handed a x out tag)
+  bare-unwrap-day = bare-day (bare-unwrap sanse (g .session) a x out tag ∙ sym (fitted-unwrap sanse (g .session) (handed a x out tag) refl))
 
 -- ---- opening a group
 

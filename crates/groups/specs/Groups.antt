@@ -1,6 +1,7 @@
 -- A call for one group of the office's table: for the group's own record, which is its session and, beside it, its own day's count (document 02,
--- request 4; document 01, "The row", and numbers 4 and 10 of "What stops a call"; its row is the table here). The allowance of the day is
--- handed to each call. Number 3, which looks at the whole table, is the office's. Assumes nothing.
+-- requests 4 and 7; document 01, "The row", and numbers 4 and 10 of "What stops a call"; its row is the table here). The allowance of the day is
+-- handed to each call. Number 1, which looks at the group that a header names, and 3, which looks at the whole table, are the office's. Assumes
+-- nothing.
 use mathlib.Core.Bool.{Bool, not, cond}
 use mathlib.Core.List.{List}
 use Prim.Native.Nat.{ℕ, zero, suc, _+_}
@@ -8,7 +9,7 @@ use lib.Dec.{ltb}
 use Rattle.deck.specs.declared.DeckState.{DeckState}
 use Rattle.modes.specs.Call.{CallInput}
 use Rattle.modes.specs.Mode.{sanse, incremental}
-use Rattle.modes.specs.Rules.{SessionState, Outcome, Opening, ifNoCheck, checkNumber, countOf, wrapAt, unwrapAt, keyFits, startAt}
+use Rattle.modes.specs.Rules.{SessionState, Outcome, Opening, ifNoCheck, checkFrom5, countOf, wrapFrom5, unwrapFrom5, keyFits, startAt}
 use Rattle.sanse.specs.Session.{stateOf}
 use Rattle.groups.specs.declared.Record.{Record}
 use Rattle.groups.specs.declared.GroupResult.{GroupResult}
@@ -28,7 +29,7 @@ newDay g = record { session = g .session; count = 0 }
 abbrev pub aboveAllowance : (allowance spent count : ℕ) → Bool
 aboveAllowance allowance spent count = ltb allowance (spent + count)
 
--- ---- wrap and unwrap for a group
+-- ---- wrap and unwrap for a group, where check 1 is not met
 
 -- what such a call gives: its number (0: accepted), its count, the group's record, and the output buffer and the tag after it
 pub record GroupOutcome : Type 0 where
@@ -47,7 +48,7 @@ then10 (suc n) above = suc n
 -- the first of the checks 5 to 10 that a call meets, or 0
 unfoldable pub groupCheck : (allowance : ℕ) → GroupState → CallInput → ℕ
 groupCheck allowance g i =
-    then10 (checkNumber sanse incremental (g .session) i) (aboveAllowance allowance (g .count) (countOf sanse incremental i))
+    then10 (checkFrom5 sanse incremental (g .session) i) (aboveAllowance allowance (g .count) (countOf sanse incremental i))
 
 -- a lone call's outcome, with its session in the group's record and its count added to the group's. A call that is refused by another number
 -- than 11 has count 0
@@ -66,10 +67,10 @@ unfoldable pub onDay : (allowance : ℕ) → GroupState → CallInput → (lone 
 onDay allowance g i lone = charged (g .count) (ifNoCheck (groupCheck allowance g i) (g .session) i lone)
 
 abbrev pub wrapOnDay : (allowance : ℕ) → GroupState → CallInput → GroupOutcome
-wrapOnDay allowance g i = onDay allowance g i (wrapAt sanse incremental (g .session) i)
+wrapOnDay allowance g i = onDay allowance g i (wrapFrom5 sanse incremental (g .session) i)
 
 abbrev pub unwrapOnDay : (allowance : ℕ) → GroupState → CallInput → GroupOutcome
-unwrapOnDay allowance g i = onDay allowance g i (unwrapAt sanse incremental (g .session) i)
+unwrapOnDay allowance g i = onDay allowance g i (unwrapFrom5 sanse incremental (g .session) i)
 
 -- ---- opening a group
 

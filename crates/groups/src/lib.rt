@@ -1,10 +1,12 @@
 // A call for one group of the office's table, by value: the group's own record goes in and comes back. The record is the group's session and,
-// beside it, its own day's count; the day's allowance is handed to each call.
+// beside it, its own day's count; the day's allowance is handed to each call. A call for an envelope has its header under the tag (document 02,
+// request 7); whether the header is the call's own, check 1, is the table's to ask.
 ghost use mathlib.Core.Path.{_≡_};
 ghost use Prim.Native.Nat.{_+_, _≤_};
+ghost use lib.ListN.{length};
 ghost use Rattle.modes.specs.Mode.{sanseCount};
 ghost use Rattle.modes.specs.Rules.{growth, firstCheck};
-ghost use Rattle.sanse.specs.Session.{handed};
+ghost use Rattle.sanse.specs.Session.{handed, handedFor};
 ghost use Rattle.groups.specs.Groups.{newDay, aboveAllowance, then10, wrapOnDay, unwrapOnDay, openOnDay, recordOf, groupOpeningResult, groupResult};
 use sanse::CallResult;
 use sanse::Session;
@@ -45,9 +47,9 @@ fn above_allowance(allowance: u32, spent: u32, count: u64) -> bool
 
 // ---- checks 5 to 10
 
-// The permutations of a call, by the lengths of A and of the text: what it will count, before the work.
+// The permutations of a call, by the lengths of the string of A and of the text: what it will count, before the work.
 fn call_count(a: usize, m: usize) -> u64
-    requires { ⌜ (a ≤ 16384) × (m ≤ 16384) ⌝ }
+    requires { ⌜ (a ≤ 16401) × (m ≤ 16384) ⌝ }
     ensures { λ r. ⌜ (r ≡ sanseCount a m) × (r ≤ 65536) ⌝ }
 {
     if m == 0 {
@@ -60,25 +62,27 @@ fn call_count(a: usize, m: usize) -> u64
     (a / 48 + 1 + body) as u64
 }
 
-// The first of the checks 5 to 10 that a call meets, or 0.
+// The first of the checks 5 to 10 that a call meets, or 0: 9 and 10 by the length of A's string, 6 by that of the metadata.
 fn check(
     opened: bool,
     index: u32,
     allowance: u32,
     spent: u32,
+    string: usize,
     a: usize,
     m: usize,
     tag: usize,
     out: usize,
 ) -> u32
-    ensures { λ r. ⌜ r ≡ then10 (firstCheck opened (index + growth a m) 32 a m tag out) (aboveAllowance allowance spent (sanseCount a m)) ⌝ }
+    requires { ⌜ string ≤ a + 17 ⌝ }
+    ensures { λ r. ⌜ r ≡ then10 (firstCheck opened (index + growth string m) 32 a m tag out) (aboveAllowance allowance spent (sanseCount string m)) ⌝ }
 {
-    let after = steps::index_after(index, a, m);
+    let after = steps::index_after(index, string, m);
     let number = steps::first_check(opened, after, 32, a, m, tag, out);
     if number != 0 {
         return number;
     }
-    if above_allowance(allowance, spent, call_count(a, m)) {
+    if above_allowance(allowance, spent, call_count(string, m)) {
         return 10;
     }
     0
@@ -133,6 +137,78 @@ pub fn open(r: Record, allowance: u32, key: &[u8]) -> GroupResult
     charged(fresh, allowance, r.count)
 }
 
+// Wraps a message for a group, where check 1 is not met: A is the header's bytes `head`, none for a call without an envelope, and then the
+// metadata. Checks 5 to 10.
+pub fn wrap_string(
+    r: Record,
+    allowance: u32,
+    head: &[u8],
+    metadata: &[u8],
+    message: &[u8],
+    out: &mut [u8],
+    tag: &mut [u8],
+) -> GroupResult
+    requires { ⌜ length (now head) ≤ 17 ⌝ }
+    ensures { λ g. ⌜ groupResult g (now (out .exit)) (now (tag .exit))
+        ≡ wrapOnDay allowance (recordOf r)
+        (handedFor (now (head .entry)) (now (metadata .entry)) (now (message .entry)) (now (out .entry)) (now (tag .entry))) ⌝ }
+{
+    let s = r.session;
+    let number = check(
+        s.opened,
+        s.index,
+        allowance,
+        r.count,
+        head.len() + metadata.len(),
+        metadata.len(),
+        message.len(),
+        tag.len(),
+        out.len(),
+    );
+    if number != 0 {
+        return refused(number, r);
+    }
+    let given = sanse::wrap_string(s, head, metadata, message, out, tag);
+    charged(given, allowance, r.count)
+}
+
+// Unwraps a cryptogram for a group, where check 1 is not met, with A as in `wrap_string`. Checks 5 to 10, and 11, whose count is added to the
+// group's.
+pub fn unwrap_string(
+    r: Record,
+    allowance: u32,
+    head: &[u8],
+    metadata: &[u8],
+    cryptogram: &[u8],
+    tag: &[u8],
+    out: &mut [u8],
+) -> GroupResult
+    requires { ⌜ length (now head) ≤ 17 ⌝ }
+    ensures { λ g. ⌜ groupResult g (now (out .exit)) (now (tag .entry))
+        ≡ unwrapOnDay allowance (recordOf r)
+        (handedFor (now (head .entry)) (now (metadata .entry)) (now (cryptogram .entry)) (now (out .entry)) (now (tag .entry))) ⌝ }
+{
+    let s = r.session;
+    let number = check(
+        s.opened,
+        s.index,
+        allowance,
+        r.count,
+        head.len() + metadata.len(),
+        metadata.len(),
+        cryptogram.len(),
+        tag.len(),
+        out.len(),
+    );
+    if number != 0 {
+        return refused(number, r);
+    }
+    let given = sanse::unwrap_string(s, head, metadata, cryptogram, tag, out);
+    charged(given, allowance, r.count)
+}
+
+// ---- calls without an envelope
+
 // Wraps a message for a group. Checks 5 to 10.
 pub fn wrap(
     r: Record,
@@ -145,22 +221,8 @@ pub fn wrap(
     ensures { λ g. ⌜ groupResult g (now (out .exit)) (now (tag .exit))
         ≡ wrapOnDay allowance (recordOf r) (handed (now (metadata .entry)) (now (message .entry)) (now (out .entry)) (now (tag .entry))) ⌝ }
 {
-    let s = r.session;
-    let number = check(
-        s.opened,
-        s.index,
-        allowance,
-        r.count,
-        metadata.len(),
-        message.len(),
-        tag.len(),
-        out.len(),
-    );
-    if number != 0 {
-        return refused(number, r);
-    }
-    let given = sanse::wrap(s, metadata, message, out, tag);
-    charged(given, allowance, r.count)
+    let none = &metadata[..0];
+    wrap_string(r, allowance, none, metadata, message, out, tag)
 }
 
 // Unwraps a cryptogram for a group. Checks 5 to 10, and 11, whose count is added to the group's.
@@ -175,20 +237,6 @@ pub fn unwrap(
     ensures { λ g. ⌜ groupResult g (now (out .exit)) (now (tag .entry))
         ≡ unwrapOnDay allowance (recordOf r) (handed (now (metadata .entry)) (now (cryptogram .entry)) (now (out .entry)) (now (tag .entry))) ⌝ }
 {
-    let s = r.session;
-    let number = check(
-        s.opened,
-        s.index,
-        allowance,
-        r.count,
-        metadata.len(),
-        cryptogram.len(),
-        tag.len(),
-        out.len(),
-    );
-    if number != 0 {
-        return refused(number, r);
-    }
-    let given = sanse::unwrap(s, metadata, cryptogram, tag, out);
-    charged(given, allowance, r.count)
+    let none = &metadata[..0];
+    unwrap_string(r, allowance, none, metadata, cryptogram, tag, out)
 }

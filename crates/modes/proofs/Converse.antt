@@ -29,7 +29,7 @@ module _ {m : PaperMode} (laws : PaperLaws m) where
   Sized nothing = ℕ
   Sized (sent w) = length (w .cryptogram) ≡ length (w .input .text)
 
-  stopped : (l : Ledger) (i : CallInput) → ledgerUnwrap m l i .answer .number ≢ 0
+  pub stopped : (l : Ledger) (i : CallInput) → ledgerUnwrap m l i .answer .number ≢ 0
       → (checkBefore11 m (unwrapFinds m l i) i ≢ 0) ⊎ (i .tag ≢ unwrapFinds m l i .tag)
   stopped l i h = go (checkBefore11 m (unwrapFinds m l i) i) refl
     where

@@ -5,7 +5,7 @@ use mathlib.Core.Logic.{_↔_}
 use mathlib.Core.Path.{_≡_, refl, sym, ap, ap₂, _∙_, subst}
 use Prim.Native.Nat.{ℕ}
 use Rattle.deck.specs.declared.DeckState.{DeckState}
-use Rattle.modes.specs.Call.{CallInput, Side, office, group, Call, wrap, unwrap}
+use Rattle.modes.specs.Call.{CallHeader, bare, under, CallInput, withHeader, Side, office, group, Call, wrap, unwrap}
 use Rattle.modes.specs.Mode.{Mode, incremental, sanse}
 use Rattle.modes.specs.Rules.{SessionState, Outcome, startAt, wrapAt, unwrapAt}
 use Rattle.modes.specs.Paper.{sanseOpens}
@@ -14,7 +14,7 @@ use Rattle.modes.specs.AnySession.{AnyWrap, AnyUnwrap}
 use Rattle.modes.specs.OneCall.{WrapClaim, UnwrapClaim}
 use Rattle.modes.specs.Start.{StartExactly}
 use Rattle.modes.specs.TwoEnds.{Ends, at, put, Runs}
-use Rattle.modes.specs.Promises.{Kind, startResult, callResult, Promises, Starts, byRules, startByRules, Records, recordAt, store, leftBy, Run, sessionsHeld}
+use Rattle.modes.specs.Promises.{Kind, bySort, startResult, callResult, Promises, bothSorts, Starts, byRules, startByRules, Records, recordAt, store, leftBy, Run, sessionsHeld}
 use Rattle.modes.specs.Demands.{StartOf, AnyCallOf, OneCallOf, ListOf, Demand3Of, StartsExist, RunsExist}
 use Rattle.modes.proofs.Modes.{Follows, sanse-follows}
 use Rattle.modes.proofs.AnySession.{any-wrap, any-unwrap}
@@ -29,6 +29,13 @@ pub record ByRules (m : Mode) {k : Kind} (p : Promises k) : Type 0 where
   pub wraps : (s : k .Record) (i : CallInput) (r : k .Result) (out tag : List ℕ) → p .wraps s i r out tag ↔ byRules k m .wraps s i r out tag
   pub unwraps : (s : k .Record) (i : CallInput) (r : k .Result) (out tag : List ℕ) → p .unwraps s i r out tag ↔ byRules k m .unwraps s i r out tag
 
+-- that they are so of calls with this header, or none
+pub record ByRulesUnder (m : Mode) {k : Kind} (h : CallHeader) (p : Promises k) : Type 0 where
+  pub wraps : (s : k .Record) (i : CallInput) (r : k .Result) (out tag : List ℕ)
+      → p .wraps s (withHeader h i) r out tag ↔ byRules k m .wraps s (withHeader h i) r out tag
+  pub unwraps : (s : k .Record) (i : CallInput) (r : k .Result) (out tag : List ℕ)
+      → p .unwraps s (withHeader h i) r out tag ↔ byRules k m .unwraps s (withHeader h i) r out tag
+
 -- and of a start
 abbrev pub StartByRules : (k : Kind) → Starts k → Type 0
 StartByRules k starts = (key : List ℕ) (r : k .Result) → starts key r ↔ startByRules k key r
@@ -36,6 +43,35 @@ StartByRules k starts = (key : List ℕ) (r : k .Result) → starts key r ↔ st
 -- the equations themselves are such
 pub rules-by-rules : (m : Mode) (k : Kind) → ByRules m (byRules k m)
 rules-by-rules m k = record { wraps = λ s i r out tag. (λ e. e, λ e. e); unwraps = λ s i r out tag. (λ e. e, λ e. e) }
+
+-- promises that are such are so of calls with any header, or none
+pub by-rules-under : {m : Mode} {k : Kind} {p : Promises k} → ByRules m p → (h : CallHeader) → ByRulesUnder m h p
+by-rules-under l h = record { wraps = λ s i. l .wraps s (withHeader h i); unwraps = λ s i. l .unwraps s (withHeader h i) }
+
+-- of calls of both sorts nothing is known but the promise of their own sort
+module _ {k : Kind} (p q : Promises k) (s : k .Record) (i : CallInput) (r : k .Result) (out tag : List ℕ) where
+  pub both-without : (bothSorts k p q .wraps s (withHeader bare i) r out tag ≡ p .wraps s (withHeader bare i) r out tag)
+      × (bothSorts k p q .unwraps s (withHeader bare i) r out tag ≡ p .unwraps s (withHeader bare i) r out tag)
+  both-without = (refl, refl)
+
+  pub both-for : (x : List ℕ) → (bothSorts k p q .wraps s (withHeader (under x) i) r out tag ≡ q .wraps s (withHeader (under x) i) r out tag)
+      × (bothSorts k p q .unwraps s (withHeader (under x) i) r out tag ≡ q .unwraps s (withHeader (under x) i) r out tag)
+  both-for x = (refl, refl)
+
+-- promises of which the first are so of calls without an envelope, and the second of calls for one, are such of calls of both sorts
+module _ {m : Mode} {k : Kind} {p q : Promises k} (a : ByRulesUnder m bare p) (b : (x : List ℕ) → ByRulesUnder m (under x) q) where
+  both-wraps : (h : CallHeader) (s : k .Record) (i : CallInput) (r : k .Result) (out tag : List ℕ)
+      → bySort h (p .wraps s (withHeader h i) r out tag) (q .wraps s (withHeader h i) r out tag) ↔ byRules k m .wraps s (withHeader h i) r out tag
+  both-wraps bare = a .wraps
+  both-wraps (under x) = b x .wraps
+
+  both-unwraps : (h : CallHeader) (s : k .Record) (i : CallInput) (r : k .Result) (out tag : List ℕ)
+      → bySort h (p .unwraps s (withHeader h i) r out tag) (q .unwraps s (withHeader h i) r out tag) ↔ byRules k m .unwraps s (withHeader h i) r out tag
+  both-unwraps bare = a .unwraps
+  both-unwraps (under x) = b x .unwraps
+
+  pub both-by-rules : ByRules m (bothSorts k p q)
+  both-by-rules = record { wraps = λ s i. both-wraps (i .header) s i; unwraps = λ s i. both-unwraps (i .header) s i }
 
 pub start-by-rules : (k : Kind) → StartByRules k (startByRules k)
 start-by-rules k key r = (λ e. e, λ e. e)

@@ -74,11 +74,11 @@ module _ {m : PaperMode} (laws : PaperLaws m) (l : Ledger) (i : CallInput) where
 -- ---- refused calls leave the ledgers, and what is on its way
 
 module _ {m : PaperMode} {t : InFlight} {cs : List Call} {p : Ledgers} (x : Side) (i : CallInput) where
-  past-wrap : ledgerWrap m (ledgerAt x p) i .answer .number ≢ 0 → Delivers m t cs p → Delivers m t (wrap x i ∷ cs) p
+  pub past-wrap : ledgerWrap m (ledgerAt x p) i .answer .number ≢ 0 → Delivers m t cs p → Delivers m t (wrap x i ∷ cs) p
   past-wrap h d =
       Delivers.wrap-refused h (subst (λ (p : Ledgers). Delivers m t cs p) (sym (set-same x _ p (wrap-stays m (ledgerAt x p) i h))) d)
 
-  past-arrival : (checkBefore11 m (unwrapFinds m (ledgerAt x p) i) i ≢ 0) ⊎ (i .tag ≢ unwrapFinds m (ledgerAt x p) i .tag)
+  pub past-arrival : (checkBefore11 m (unwrapFinds m (ledgerAt x p) i) i ≢ 0) ⊎ (i .tag ≢ unwrapFinds m (ledgerAt x p) i .tag)
       → Delivers m t cs p → Delivers m t (unwrap x i ∷ cs) p
   past-arrival h d =
       Delivers.other-arrival h (subst (λ (p : Ledgers). Delivers m t cs p) (sym (set-same x _ p (unwrap-stopped m (ledgerAt x p) i h .1))) d)

@@ -16,7 +16,7 @@ use Rattle.envelope.specs.Layout.{comma, Known, InRange, header}
 use Rattle.envelope.proofs.Layouts.{header-longest, header-then}
 use Rattle.headers.specs.Fits.{fits}
 use Rattle.headers.proofs.Exactly.{fits-exactly, fits-group-exactly}
-use Rattle.modes.specs.Call.{CallHeader, bare, under, CallInput}
+use Rattle.modes.specs.Call.{CallHeader, bare, under, headerBytes, CallInput}
 use Rattle.modes.specs.Header.{HeaderOf, FollowsLayout, ForGroup, headerFits, groupFits}
 use Rattle.modes.specs.Ledger.{equalTags, numeral, headerText, ofGroup, rightHeader, stringA}
 use Rattle.modes.proofs.Entries.{equalTags-refl, equalTags-true}
@@ -83,8 +83,15 @@ module _ (letter : ℕ) (i : CallInput) where
 
   -- with a header that fits, or none, A has at most 16,401 bytes
   pub string-most : FollowsLayout letter i → length (i .metadata) ≤ 16384 → length (stringA i) ≤ 16401
-  string-most (FollowsLayout.without e) h = rw (length-append, e) (omega arith)
-  string-most (FollowsLayout.of-group g o) h = rw (length-append, o .bytes) (omega (arith, header-longest (o .in-range)))
+  string-most (FollowsLayout.without e) h =
+      omega (arith, length-append (headerBytes (i .header)) (i .metadata), ap (λ (x : CallHeader). length (headerBytes x)) e)
+  string-most (FollowsLayout.of-group g o) h =
+      omega (
+        arith,
+        length-append (headerBytes (i .header)) (i .metadata),
+        ap (λ (x : CallHeader). length (headerBytes x)) (o .bytes),
+        header-longest (o .in-range),
+      )
 
 -- ---- the ledger's text
 

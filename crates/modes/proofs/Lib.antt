@@ -18,6 +18,7 @@ pub mod OneCall
 pub mod Demands
 pub mod Fresh
 pub mod SaneDemands
+pub mod Envelopes
 pub mod Edges
 pub mod Leaves
 pub mod Codes

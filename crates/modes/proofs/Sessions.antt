@@ -12,8 +12,7 @@ use Rattle.deck.proofs.Strings.{blocks-is}
 use Rattle.deck.proofs.Incremental.{indexOf-more, fromScratch-more, output-fromScratch}
 use Rattle.modes.specs.Call.{CallInput}
 use Rattle.modes.specs.Mode.{HistoryRep, StepResult, Mode, wholeHistory, incremental}
-use Rattle.modes.specs.Header.{headerFits}
-use Rattle.modes.specs.Rules.{SessionState, Outcome, firstCheck, growth, metadataString, sameBytes, ifNoCheck, checkFrom5, checkNumber, unwrapSteps, accepted, wrongTag, compareTag, wrapAt, unwrapAt}
+use Rattle.modes.specs.Rules.{SessionState, Outcome, growth, metadataString, sameBytes, ifNoCheck, checkFrom5, checkNumber, unwrapSteps, accepted, wrongTag, compareTag, wrapAt, unwrapAt}
 use Rattle.modes.proofs.Steps.{Simulates, mapResult, Grows, ModeLaws}
 
 -- ---- growth
@@ -68,12 +67,7 @@ module _ {S S′ : Type 0} (φ : S → S′) where
 module _ {m : Mode} (laws : ModeLaws m) {S S′ : Type 0} {d : HistoryRep S} {d′ : HistoryRep S′} {φ : S → S′} (l : Simulates d d′ φ) where
   checkNumber-simulates : (s : SessionState S) (i : CallInput) → checkNumber m d′ (mapSession φ s) i ≡ checkNumber m d s i
   unfolding checkNumber checkFrom5
-  checkNumber-simulates s i =
-      ap (λ (n : ℕ). cond (headerFits (m .parameters .letter) (i .header) (length (i .metadata)) (length (i .text)))
-      (firstCheck (s .opened) (n + growth (length (metadataString i)) (length (i .text))) (m .parameters .tagLength)
-      (length (i .metadata)) (length (i .text)) (length (i .tag)) (length (i .out)))
-      1)
-      (l .indices (s .history))
+  checkNumber-simulates s i = rw (l .indices (s .history)) refl
 
   pub wrapAt-simulates : (s : SessionState S) (i : CallInput) → wrapAt m d′ (mapSession φ s) i ≡ mapOutcome φ (wrapAt m d s i)
   unfolding wrapAt

@@ -22,6 +22,10 @@ pub record CallInput : Type 0 where
   pub out : List ℕ
   pub tag : List ℕ
 
+-- the same under another header, or none
+abbrev pub withHeader : CallHeader → CallInput → CallInput
+withHeader h i = record { header = h; metadata = i .metadata; text = i .text; out = i .out; tag = i .tag }
+
 -- the two ends
 pub data Side : Type 0 where
   office group : Side

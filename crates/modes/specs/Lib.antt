@@ -18,6 +18,7 @@ pub mod Promises
 pub mod Demands
 pub mod SaneDemands
 pub mod Fresh
+pub mod Envelopes
 pub mod Edges
 pub mod Codes
 pub mod CodeLists

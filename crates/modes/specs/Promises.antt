@@ -5,7 +5,7 @@ use mathlib.Core.List.{List, [], _∷_}
 use mathlib.Core.Path.{_≡_}
 use Prim.Native.Nat.{ℕ}
 use Rattle.deck.specs.declared.DeckState.{DeckState}
-use Rattle.modes.specs.Call.{CallInput, Side, office, group, Call, wrap, unwrap}
+use Rattle.modes.specs.Call.{CallHeader, bare, under, CallInput, Side, office, group, Call, wrap, unwrap}
 use Rattle.modes.specs.Mode.{Mode, incremental}
 use Rattle.modes.specs.Rules.{SessionState, Outcome, Opening, startAt, wrapAt, unwrapAt}
 use Rattle.modes.specs.TwoEnds.{Ends}
@@ -19,6 +19,11 @@ pub record Kind : Type 1 where
   pub number : Result → ℕ
   pub count : Result → ℕ
   pub left : Result → Record
+
+-- of a call that is handed this header: p where it is handed none, q where it is handed one
+abbrev pub bySort : CallHeader → (p q : Type 0) → Type 0
+bySort bare p q = p
+bySort (under x) p q = q
 
 module _ (k : Kind) where
   -- what start gave
@@ -36,6 +41,15 @@ module _ (k : Kind) where
   pub record Promises : Type 1 where
     pub wraps : k .Record → CallInput → k .Result → (out tag : List ℕ) → Type 0
     pub unwraps : k .Record → CallInput → k .Result → (out tag : List ℕ) → Type 0
+
+  -- calls of both sorts, without an envelope and for one, each known by the promise of its own function alone: p of one that is handed no header,
+  -- q of one that is handed a header
+  abbrev pub bothSorts : (p q : Promises) → Promises
+  bothSorts p q =
+      record {
+        wraps = λ s i r out tag. bySort (i .header) (p .wraps s i r out tag) (q .wraps s i r out tag);
+        unwraps = λ s i r out tag. bySort (i .header) (p .unwraps s i r out tag) (q .unwraps s i r out tag);
+      }
 
   -- what a start of SANSE promises of its key and what it gave. It stands apart, since starts of other modes are handed more
   abbrev pub Starts : Type 1

@@ -10,13 +10,17 @@ use lib.ListN.{length, set, length-set, length-map, List·getD-map}
 use lib.Seq.{getD-set-same, getD-set-other, set-getD, ext-getD}
 use borrow.Author.Tests.{ltb-true, ltb-false, leb-true, leb-false, eqb-true, eqb-false}
 use Rattle.deck.specs.declared.DeckState.{DeckState}
+use Rattle.envelope.specs.Layout.{letterS}
 use Rattle.modes.specs.Call.{CallInput}
+use Rattle.modes.specs.Header.{ForGroup, headerFits}
 use Rattle.modes.specs.Mode.{sanse, incremental}
-use Rattle.modes.specs.Rules.{SessionState, Outcome, Opening, longest, highestIndex, growth, metadataString, firstCheck, checkNumber, countOf, refused, ifNoCheck, sameBytes, accepted, wrongTag, compareTag, wrapSteps, unwrapSteps, wrapAt, unwrapAt, keyFits, startAt, newSession, closed}
+use Rattle.modes.specs.Rules.{SessionState, Outcome, Opening, longest, highestIndex, growth, metadataString, firstCheck, checkFrom5, checkNumber, countOf, refused, ifNoCheck, sameBytes, accepted, wrongTag, compareTag, wrapSteps, unwrapSteps, wrapFrom5, unwrapFrom5, wrapAt, unwrapAt, keyFits, startAt, newSession, closed}
+use Rattle.modes.proofs.Header.{fits-follows, fits-group, fits-group-not, group-follows}
+use Rattle.modes.proofs.AnySession.{any-wrap, any-unwrap}
+use Rattle.steps.proofs.Calls.{fitted-wrap, fitted-unwrap}
 use Rattle.groups.specs.Groups.{GroupState, newDay, aboveAllowance, then10, groupCheck, charged, onDay, openedUnless, chargedOpening, openOnDay}
-use Rattle.groups.proofs.Counts.{wrap-count, unwrap-count}
-use Rattle.office.specs.Table.{Table, unopened, noGroup, groupAt, sessionAt, DayStart, startDayAt, TableOutcome, TableOpening, refusedBy, writtenBack, callGroupAt, wrapGroupAt, openedBack, openGroupAt}
-use Rattle.office.specs.Exactly.{Check3, Check10, DayExactly, NoCheckMet, CallExactly, WrapGroupExactly, UnwrapGroupExactly, OpenExactly}
+use Rattle.office.specs.Table.{Table, unopened, noGroup, groupAt, sessionAt, DayStart, startDayAt, TableOutcome, TableOpening, refusedBy, headerPasses, ifGroup, writtenBack, callGroupAt, wrapGroupAt, openedBack, openGroupAt}
+use Rattle.office.specs.Exactly.{Check1, Check3, Check10, DayExactly, NoCheckMet, CallExactly, WrapGroupExactly, UnwrapGroupExactly, OpenExactly}
 
 -- ---- the tests as statements
 
@@ -24,6 +28,13 @@ use Rattle.office.specs.Exactly.{Check3, Check10, DayExactly, NoCheckMet
 data Told (P : Type 0) (Q : Type 0) : Bool → Type 0 where
   holds : P → Told P Q true
   fails : Q → Told P Q false
+
+told1 : (g : ℕ) (i : CallInput) → Told (ForGroup letterS g i) (Check1 g i) (headerPasses g i)
+told1 g i = go (headerPasses g i) refl
+  where
+    go : (u : Bool) → headerPasses g i ≡ u → Told (ForGroup letterS g i) (Check1 g i) u
+    go true e = holds (fits-group letterS i g .0 e)
+    go false e = fails (fits-group-not letterS i g .0 e)
 
 told3 : (t : Table) (g : ℕ) → Told (Check3 t g) ((length t ≡ 32) × (g ≤ 31)) (noGroup (length t) g)
 told3 t g = go (eqb (length t) 32) (ltb 31 g) refl refl
@@ -68,11 +79,25 @@ first-range o k l a n t b = go (not o) (ltb longest a || ltb longest n) (not (eq
     go false false false false false = inl refl
 
 check-range : (s : SessionState DeckState) (i : CallInput)
-    → (checkNumber sanse incremental s i ≡ 0) ⊎ ((5 ≤ checkNumber sanse incremental s i) × (checkNumber sanse incremental s i ≤ 9))
-unfolding checkNumber
+    → (checkFrom5 sanse incremental s i ≡ 0) ⊎ ((5 ≤ checkFrom5 sanse incremental s i) × (checkFrom5 sanse incremental s i ≤ 9))
+unfolding checkFrom5
 check-range s i =
     first-range (s .opened) (s .history .index + growth (length (metadataString i)) (length (i .text))) 32 (length (i .metadata)) (length (i .text))
     (length (i .tag)) (length (i .out))
+
+-- a header of the call's own is the layout's of some group
+own-fits : (g : ℕ) (i : CallInput) → ForGroup letterS g i → headerFits letterS (i .header) (length (i .metadata)) (length (i .text)) ≡ true
+own-fits g i own = fits-follows letterS i .1 (group-follows letterS i own)
+
+-- so where the header is the call's own, or none, the lone call meets one of them or none
+pub own-check : (g : ℕ) (s : SessionState DeckState) (i : CallInput) → ForGroup letterS g i → checkFrom5 sanse incremental s i ≡ checkNumber sanse incremental s i
+unfolding checkNumber
+own-check g s i own =
+    sym (ap (λ (q : Bool). cond q (checkFrom5 sanse incremental s i) 1) (own-fits g i own))
+
+own-range : (g : ℕ) (s : SessionState DeckState) (i : CallInput) → ForGroup letterS g i
+    → (checkNumber sanse incremental s i ≡ 0) ⊎ ((5 ≤ checkNumber sanse incremental s i) × (checkNumber sanse incremental s i ≤ 9))
+own-range g s i own = subst (λ (n : ℕ). (n ≡ 0) ⊎ ((5 ≤ n) × (n ≤ 9))) (own-check g s i own) (check-range s i)
 
 -- ---- starting a day
 
@@ -98,23 +123,25 @@ put-back t g = ap (set t g) (nothing-counted (groupAt t g)) ∙ set-getD t g uno
 -- ---- a wrap or an unwrap for a group, by the first check
 
 module _ (allowance : ℕ) (t : Table) (g : ℕ) (i : CallInput) where
-  -- the first of 5 to 9, by the rules
+  -- the first check that the lone call meets, by the rules
   abbrev first : ℕ
   first = checkNumber sanse incremental (sessionAt t g) i
 
-  -- what is asked of the outcome `lone` of a lone call that meets none of 5 to 9
+  -- what is asked of the outcome `lone` of a lone call that meets none of 1 and 5 to 9
   pub record Worked (lone : Outcome DeckState) : Type 0 where
     pub number : (lone .number ≡ 0) ⊎ ((lone .number ≡ 11) × (lone .session ≡ sessionAt t g))
     pub count : lone .count ≡ countOf sanse incremental i
 
   module _ (lone : Outcome DeckState) where
     -- refused by n, where n is neither 0 nor 11: nothing is altered
-    stops : (n : ℕ) → n ≢ 0 → n ≢ 11 → (n ≡ 3) ↔ Check3 t g → ((Check3 t g → ⊥) → first ≢ 0 → n ≡ first)
-        → (5 ≤ n → n ≤ 9 → (Check3 t g → ⊥) × (first ≡ n))
-        → (n ≡ 10) ↔ ((Check3 t g → ⊥) × (first ≡ 0) × Check10 allowance t g (countOf sanse incremental i)) → (NoCheckMet allowance t g i → ⊥)
-        → CallExactly allowance t g i lone (refusedBy n t i)
-    stops n n0 n11 three five-to-nine only ten some =
+    stops : (n : ℕ) → n ≢ 0 → n ≢ 11 → (n ≡ 1) ↔ Check1 g i → (n ≡ 3) ↔ (ForGroup letterS g i × Check3 t g)
+        → (ForGroup letterS g i → (Check3 t g → ⊥) → first ≢ 0 → n ≡ first)
+        → (5 ≤ n → n ≤ 9 → ForGroup letterS g i × (Check3 t g → ⊥) × (first ≡ n))
+        → (n ≡ 10) ↔ (ForGroup letterS g i × (Check3 t g → ⊥) × (first ≡ 0) × Check10 allowance t g (countOf sanse incremental i))
+        → (NoCheckMet allowance t g i → ⊥) → CallExactly allowance t g i lone (refusedBy n t i)
+    stops n n0 n11 one three five-to-nine only ten some =
         record {
+          one = one;
           three = three;
           five-to-nine = five-to-nine;
           only-five-to-nine = only;
@@ -133,30 +160,45 @@ module _ (allowance : ℕ) (t : Table) (g : ℕ) (i : CallInput) where
         neither (inl z) = n0 z
         neither (inr z) = n11 z
 
-    by3 : Check3 t g → CallExactly allowance t g i lone (refusedBy 3 t i)
-    by3 c =
-        stops 3 (λ e. omega (arith, e)) (λ e. omega (arith, e)) (λ _. c, λ _. refl) (λ n _. absurd (n c)) (λ low _. absurd (omega (arith, low)))
-        (λ e. absurd (omega (arith, e)), λ h. absurd (h .0 c)) (λ z. z .three c)
+    by1 : Check1 g i → CallExactly allowance t g i lone (refusedBy 1 t i)
+    by1 c =
+        stops 1 (λ e. omega (arith, e)) (λ e. omega (arith, e)) (λ _. c, λ _. refl) (λ e. absurd (omega (arith, e)), λ h. absurd (c (h .0)))
+        (λ own. absurd (c own)) (λ low _. absurd (omega (arith, low))) (λ e. absurd (omega (arith, e)), λ h. absurd (c (h .0))) (λ z. c (z .one))
 
-    module _ (in3 : (length t ≡ 32) × (g ≤ 31)) where
+    module _ (own : ForGroup letterS g i) where
+      -- another number than 1
+      not1 : {n : ℕ} → n ≢ 1 → (n ≡ 1) ↔ Check1 g i
+      not1 n = (λ e. absurd (n e), λ c. absurd (c own))
+
+      by3 : Check3 t g → CallExactly allowance t g i lone (refusedBy 3 t i)
+      by3 c =
+          stops 3 (λ e. omega (arith, e)) (λ e. omega (arith, e)) (not1 (λ e. omega (arith, e))) (λ _. (own, c), λ _. refl) (λ _ n _. absurd (n c))
+          (λ low _. absurd (omega (arith, low))) (λ e. absurd (omega (arith, e)), λ h. absurd (h .1 c)) (λ z. z .three c)
+
+    module _ (own : ForGroup letterS g i) (in3 : (length t ≡ 32) × (g ≤ 31)) where
+      -- another number than 3
+      not3 : {n : ℕ} → n ≢ 3 → (n ≡ 3) ↔ (ForGroup letterS g i × Check3 t g)
+      not3 n = (λ e. absurd (n e), λ h. absurd (apart t g in3 (h .1)))
+
       by-check : (n : ℕ) → first ≡ n → 5 ≤ n → n ≤ 9 → CallExactly allowance t g i lone (refusedBy n t i)
       by-check n e low high =
-          stops n (λ z. omega (arith, z)) (λ z. omega (arith, z)) (λ z. absurd (omega (arith, z)), λ c. absurd (apart t g in3 c)) (λ _ _. sym e) (λ _ _. (apart t g in3, e))
-          (λ z. absurd (omega (arith, z)), λ h. absurd (omega (arith, h .1, e))) (λ z. omega (arith, z .five-to-nine, e))
+          stops n (λ z. omega (arith, z)) (λ z. omega (arith, z)) (not1 own (λ z. omega (arith, z))) (not3 (λ z. omega (arith, z))) (λ _ _ _. sym e)
+          (λ _ _. (own, apart t g in3, e)) (λ z. absurd (omega (arith, z)), λ h. absurd (omega (arith, h .2, e))) (λ z. omega (arith, z .five-to-nine, e))
 
       by10 : first ≡ 0 → Check10 allowance t g (countOf sanse incremental i) → CallExactly allowance t g i lone (refusedBy 10 t i)
       by10 e above =
-          stops 10 (λ z. omega (arith, z)) (λ z. omega (arith, z)) (λ z. absurd (omega (arith, z)), λ c. absurd (apart t g in3 c)) (λ _ n. absurd (n e)) (λ _ high. absurd (omega (arith, high)))
-          (λ _. (λ c. apart t g in3 c, e, above), λ _. refl) (λ z. z .ten above)
+          stops 10 (λ z. omega (arith, z)) (λ z. omega (arith, z)) (not1 own (λ z. omega (arith, z))) (not3 (λ z. omega (arith, z))) (λ _ _ n. absurd (n e))
+          (λ _ high. absurd (omega (arith, high))) (λ _. (own, apart t g in3, e, above), λ _. refl) (λ z. z .ten above)
 
       -- the work was done: number 0 or 11
       done : NoCheckMet allowance t g i → Worked lone → CallExactly allowance t g i lone (writtenBack t g (charged (groupAt t g .count) lone))
       done clear r =
           record {
-            three = (λ z. absurd (other z (omega arith) (omega arith)), λ c. absurd (clear .three c));
-            five-to-nine = λ _ n. absurd (n (clear .five-to-nine));
+            one = (λ z. absurd (other z (omega arith) (omega arith)), λ c. absurd (c own));
+            three = (λ z. absurd (other z (omega arith) (omega arith)), λ c. absurd (clear .three (c .1)));
+            five-to-nine = λ _ _ n. absurd (n (clear .five-to-nine));
             only-five-to-nine = λ low high. absurd (other refl (λ z. omega (arith, z, low)) (λ z. omega (arith, z, high)));
-            ten = (λ z. absurd (other z (omega arith) (omega arith)), λ h. absurd (clear .ten (h .2)));
+            ten = (λ z. absurd (other z (omega arith) (omega arith)), λ h. absurd (clear .ten (h .3)));
             unaltered = λ n m. absurd (other refl n m);
             none = (λ _. clear, λ _. either (r .number));
             worked = λ _. refl;
@@ -193,13 +235,13 @@ module _ (allowance : ℕ) (t : Table) (g : ℕ) (i : CallInput) where
       -- by the first of 5 to 9, then by 10
       after3 : (first ≡ 0 → Worked lone) → CallExactly allowance t g i lone (writtenBack t g (onDay allowance (groupAt t g) i lone))
       unfolding onDay groupCheck
-      after3 ends = go first refl (check-range (sessionAt t g) i)
+      after3 ends = go (checkFrom5 sanse incremental (sessionAt t g) i) (sym (own-check g (sessionAt t g) i own)) (own-range g (sessionAt t g) i own)
         where
           at10 : (u : Bool) → first ≡ 0 → Told (Check10 allowance t g (countOf sanse incremental i)) (groupAt t g .count + countOf sanse incremental i ≤ allowance) u
               → CallExactly allowance t g i lone (writtenBack t g (charged (groupAt t g .count) (ifNoCheck (cond u 10 0) (sessionAt t g) i lone)))
           at10 true e (holds above) = subst (CallExactly allowance t g i lone) (sym (stays 10)) (by10 e above)
           at10 false e (fails within) =
-              done (record { three = λ c. apart t g in3 c; five-to-nine = e; ten = λ above. omega (arith, above, within) }) (ends e)
+              done (record { one = own; three = λ c. apart t g in3 c; five-to-nine = e; ten = λ above. omega (arith, above, within) }) (ends e)
 
           go : (n : ℕ) → first ≡ n → (first ≡ 0) ⊎ ((5 ≤ first) × (first ≤ 9))
               → CallExactly allowance t g i lone (writtenBack t g (charged (groupAt t g .count) (ifNoCheck (then10 n (aboveAllowance allowance (groupAt t g .count) (countOf sanse incremental i))) (sessionAt t g) i lone)))
@@ -207,17 +249,20 @@ module _ (allowance : ℕ) (t : Table) (g : ℕ) (i : CallInput) where
           go (suc n) e (inl z) = absurd (omega (arith, e, z))
           go (suc n) e (inr z) = subst (CallExactly allowance t g i lone) (sym (stays (suc n))) (by-check (suc n) e (omega (arith, e, z .0)) (omega (arith, e, z .1)))
 
-    -- by check 3
-    exactly : (first ≡ 0 → Worked lone) → CallExactly allowance t g i lone (callGroupAt allowance t g i lone)
+    -- by the checks 1 and 3, of a call that goes by `lone′` where check 1 is not met
+    exactly : (lone′ : Outcome DeckState) → (ForGroup letterS g i → lone ≡ lone′) → (first ≡ 0 → Worked lone)
+        → CallExactly allowance t g i lone (callGroupAt allowance t g i lone′)
     unfolding callGroupAt
-    exactly ends = go (noGroup (length t) g) (told3 t g)
+    exactly lone′ same ends = go (headerPasses g i) (noGroup (length t) g) (told1 g i) (told3 t g)
       where
-        go : (u : Bool) → Told (Check3 t g) ((length t ≡ 32) × (g ≤ 31)) u
-            → CallExactly allowance t g i lone (cond u (refusedBy 3 t i) (writtenBack t g (onDay allowance (groupAt t g) i lone)))
-        go true (holds c) = by3 c
-        go false (fails in3) = after3 in3 ends
+        go : (u v : Bool) → Told (ForGroup letterS g i) (Check1 g i) u → Told (Check3 t g) ((length t ≡ 32) × (g ≤ 31)) v
+            → CallExactly allowance t g i lone (ifGroup (cond (not u) 1 (cond v 3 0)) t i (writtenBack t g (onDay allowance (groupAt t g) i lone′)))
+        go false v (fails c) w = by1 c
+        go true true (holds own) (holds c) = by3 own c
+        go true false (holds own) (fails in3) =
+            subst (λ (o : Outcome DeckState). CallExactly allowance t g i lone (writtenBack t g (onDay allowance (groupAt t g) i o))) (same own) (after3 own in3 ends)
 
-  -- a lone wrap that meets none of 5 to 9 is accepted
+  -- a lone wrap that meets none of 1 and 5 to 9 is accepted
   wrap-number : first ≡ 0 → wrapAt sanse incremental (sessionAt t g) i .number ≡ 0
   unfolding wrapAt
   wrap-number e =
@@ -225,7 +270,10 @@ module _ (allowance : ℕ) (t : Table) (g : ℕ) (i : CallInput) where
       ap (λ (n : ℕ). ifNoCheck n s i (accepted sanse incremental s i (wrapSteps sanse incremental s i) (wrapSteps sanse incremental s i .tag)) .number) e
 
   wrap-call : CallExactly allowance t g i (wrapAt sanse incremental (sessionAt t g) i) (wrapGroupAt allowance t g i)
-  wrap-call = exactly (wrapAt sanse incremental (sessionAt t g) i) (λ e. record { number = inl (wrap-number e); count = wrap-count (sessionAt t g) i e })
+  wrap-call =
+      exactly (wrapAt sanse incremental (sessionAt t g) i) (wrapFrom5 sanse incremental (sessionAt t g) i)
+      (λ own. sym (fitted-wrap sanse (sessionAt t g) i (own-fits g i own)))
+      (λ e. record { number = inl (wrap-number e); count = any-wrap sanse incremental (sessionAt t g) i .count (wrap-number e) })
 
   pub wrap-exactly : WrapGroupExactly allowance t g i
   wrap-exactly =
@@ -237,24 +285,29 @@ module _ (allowance : ℕ) (t : Table) (g : ℕ) (i : CallInput) where
       }
 
   -- a lone unwrap is accepted, or its tag differs
-  unwrap-number : first ≡ 0 → (unwrapAt sanse incremental (sessionAt t g) i .number ≡ 0)
-      ⊎ ((unwrapAt sanse incremental (sessionAt t g) i .number ≡ 11) × (unwrapAt sanse incremental (sessionAt t g) i .session ≡ sessionAt t g))
+  abbrev Either : Outcome DeckState → Type 0
+  Either o = (o .number ≡ 0) ⊎ ((o .number ≡ 11) × (o .session ≡ sessionAt t g))
+
+  unwrap-number : first ≡ 0 → Either (unwrapAt sanse incremental (sessionAt t g) i)
   unfolding unwrapAt
   unwrap-number e =
       subst (λ (n : ℕ). Either (ifNoCheck n (sessionAt t g) i (compareTag sanse incremental (sessionAt t g) i (unwrapSteps sanse incremental (sessionAt t g) i)))) (sym e)
       (go (sameBytes (i .tag) (unwrapSteps sanse incremental (sessionAt t g) i .tag)))
     where
-      Either : Outcome DeckState → Type 0
-      Either o = (o .number ≡ 0) ⊎ ((o .number ≡ 11) × (o .session ≡ sessionAt t g))
-
       go : (u : Bool) → Either (cond u (accepted sanse incremental (sessionAt t g) i (unwrapSteps sanse incremental (sessionAt t g) i) (i .tag))
           (wrongTag sanse incremental (sessionAt t g) i))
       go true = inl refl
       go false = inr (refl, refl)
 
+  unwrap-worked : Either (unwrapAt sanse incremental (sessionAt t g) i) → Worked (unwrapAt sanse incremental (sessionAt t g) i)
+  unwrap-worked (inl z) = record { number = inl z; count = any-unwrap sanse incremental (sessionAt t g) i .count z }
+  unwrap-worked (inr z) =
+      record { number = inr z; count = ap (λ (o : Outcome DeckState). o .count) (any-unwrap sanse incremental (sessionAt t g) i .wrong-tag (z .0)) }
+
   pub unwrap-exactly : UnwrapGroupExactly allowance t g i
   unwrap-exactly =
-      exactly (unwrapAt sanse incremental (sessionAt t g) i) (λ e. record { number = unwrap-number e; count = unwrap-count (sessionAt t g) i e })
+      exactly (unwrapAt sanse incremental (sessionAt t g) i) (unwrapFrom5 sanse incremental (sessionAt t g) i)
+      (λ own. sym (fitted-unwrap sanse (sessionAt t g) i (own-fits g i own))) (λ e. unwrap-worked (unwrap-number e))
 
 -- ---- opening a group
 
@@ -364,26 +417,31 @@ module _ (allowance : ℕ) (t : Table) (g : ℕ) (i : CallInput) (lone : Outcome
       x .unaltered (λ z. n0 (sym (is o x) ∙ z)) (λ z. n11 (sym (is o x) ∙ z)) ∙ ap (λ (n : ℕ). refusedBy n t i) (is o x)
 
   only : (w : TableOutcome) × Only w
-  only = go (noGroup (length t) g) (told3 t g)
+  only = go (headerPasses g i) (noGroup (length t) g) (told1 g i) (told3 t g)
     where
       at10 : (u : Bool) → Told (Check10 allowance t g (countOf sanse incremental i)) (groupAt t g .count + countOf sanse incremental i ≤ allowance) u
-          → (Check3 t g → ⊥) → checkNumber sanse incremental (sessionAt t g) i ≡ 0 → (w : TableOutcome) × Only w
-      at10 true (holds above) in3 e =
-          (refusedBy 10 t i, stopped 10 (λ z. omega (arith, z)) (λ z. omega (arith, z)) (λ o x. x .ten .1 (in3, e, above)))
-      at10 false (fails within) in3 e =
-          (writtenBack t g (charged (groupAt t g .count) lone), λ o x. x .worked (record { three = in3; five-to-nine = e; ten = λ above. omega (arith, above, within) }))
-
-      at5 : (n : ℕ) → checkNumber sanse incremental (sessionAt t g) i ≡ n → (n ≡ 0) ⊎ ((5 ≤ n) × (n ≤ 9)) → (Check3 t g → ⊥) → (w : TableOutcome) × Only w
-      at5 zero e z in3 = at10 (aboveAllowance allowance (groupAt t g .count) (countOf sanse incremental i)) (told10 allowance t g (countOf sanse incremental i)) in3 e
-      at5 (suc n) e (inl z) in3 = absurd (omega (arith, z))
-      at5 (suc n) e (inr z) in3 = (
-        refusedBy (suc n) t i,
-        stopped (suc n) (λ q. omega (arith, q)) (λ q. omega (arith, q, z .1)) (λ o x. x .five-to-nine in3 (λ q. omega (arith, q, e)) ∙ e),
+          → ForGroup letterS g i → (Check3 t g → ⊥) → checkNumber sanse incremental (sessionAt t g) i ≡ 0 → (w : TableOutcome) × Only w
+      at10 true (holds above) own in3 e =
+          (refusedBy 10 t i, stopped 10 (λ z. omega (arith, z)) (λ z. omega (arith, z)) (λ o x. x .ten .1 (own, in3, e, above)))
+      at10 false (fails within) own in3 e = (
+        writtenBack t g (charged (groupAt t g .count) lone),
+        λ o x. x .worked (record { one = own; three = in3; five-to-nine = e; ten = λ above. omega (arith, above, within) }),
       )
 
-      go : (u : Bool) → Told (Check3 t g) ((length t ≡ 32) × (g ≤ 31)) u → (w : TableOutcome) × Only w
-      go true (holds c) = (refusedBy 3 t i, stopped 3 (λ z. omega (arith, z)) (λ z. omega (arith, z)) (λ o x. x .three .1 c))
-      go false (fails in3) = at5 (checkNumber sanse incremental (sessionAt t g) i) refl (check-range (sessionAt t g) i) (apart t g in3)
+      at5 : (n : ℕ) → checkNumber sanse incremental (sessionAt t g) i ≡ n → (n ≡ 0) ⊎ ((5 ≤ n) × (n ≤ 9)) → ForGroup letterS g i → (Check3 t g → ⊥)
+          → (w : TableOutcome) × Only w
+      at5 zero e z own in3 = at10 (aboveAllowance allowance (groupAt t g .count) (countOf sanse incremental i)) (told10 allowance t g (countOf sanse incremental i)) own in3 e
+      at5 (suc n) e (inl z) own in3 = absurd (omega (arith, z))
+      at5 (suc n) e (inr z) own in3 = (
+        refusedBy (suc n) t i,
+        stopped (suc n) (λ q. omega (arith, q)) (λ q. omega (arith, q, z .1)) (λ o x. x .five-to-nine own in3 (λ q. omega (arith, q, e)) ∙ e),
+      )
+
+      go : (u v : Bool) → Told (ForGroup letterS g i) (Check1 g i) u → Told (Check3 t g) ((length t ≡ 32) × (g ≤ 31)) v → (w : TableOutcome) × Only w
+      go false v (fails c) w = (refusedBy 1 t i, stopped 1 (λ z. omega (arith, z)) (λ z. omega (arith, z)) (λ o x. x .one .1 c))
+      go true true (holds own) (holds c) = (refusedBy 3 t i, stopped 3 (λ z. omega (arith, z)) (λ z. omega (arith, z)) (λ o x. x .three .1 (own, c)))
+      go true false (holds own) (fails in3) =
+          at5 (checkNumber sanse incremental (sessionAt t g) i) refl (own-range g (sessionAt t g) i own) own (apart t g in3)
 
   pub call-decided : (o o′ : TableOutcome) → CallExactly allowance t g i lone o → CallExactly allowance t g i lone o′ → o ≡ o′
   call-decided o o′ x y = only .1 o x ∙ sym (only .1 o′ y)

@@ -1,5 +1,5 @@
--- How check 3 comes out, and what a group's call leaves of the whole table, over plain values. Assumes nothing.
-use mathlib.Core.Path.{_≡_, refl, sym, ap, _∙_, subst}
+-- How the checks 1 and 3 come out, and what a group's call leaves of the whole table, over plain values. Assumes nothing.
+use mathlib.Core.Path.{_≡_, refl, sym, ap, ap₂, _∙_, subst}
 use mathlib.Core.Logic.{_≢_}
 use mathlib.Core.Bool.{Bool, true, false, not, _||_, cond}
 use mathlib.Core.List.{List, [], _∷_}
@@ -9,13 +9,15 @@ use lib.Dec.{T as Holds, ltb, eqb}
 use lib.ListN.{length, getD, set, length-map, List·getD-map}
 use borrow.Author.Tests.{ltb-false, eqb-true, eq-eqb, ne-eqb}
 use Rattle.deck.specs.declared.DeckState.{DeckState}
-use Rattle.modes.specs.Call.{CallInput}
+use Rattle.envelope.specs.Layout.{letterS}
+use Rattle.modes.specs.Call.{CallHeader, bare, CallInput}
+use Rattle.modes.specs.Header.{groupFits}
 use Rattle.modes.specs.Rules.{SessionState, Outcome}
 use Rattle.session.specs.declared.Answer.{Answer}
 use Rattle.groups.specs.declared.Record.{Record}
 use Rattle.groups.specs.declared.GroupResult.{GroupResult}
 use Rattle.groups.specs.Groups.{GroupState, GroupOutcome, onDay, openOnDay, recordOf, groupResult, groupOpeningResult}
-use Rattle.office.specs.Table.{Table, noGroup, groupAt, sessionAt, TableOutcome, refusedBy, writtenBack, callGroupAt, openedBack, openGroupAt, zeroRecord, refused3, tableOf, tableResult, openingResult}
+use Rattle.office.specs.Table.{Table, noGroup, groupAt, sessionAt, TableOutcome, headerPasses, tableCheck, ifGroup, writtenBack, callGroupAt, openedBack, openGroupAt, zeroRecord, refused3, tableOf, tableResult, openingResult}
 
 -- ---- how a test comes out
 
@@ -83,23 +85,42 @@ module _ (lone : SessionState DeckState → CallInput → Outcome DeckState) (al
   abbrev whole : TableOutcome
   whole = callGroupAt allowance (tableOf l) g i (lone (sessionAt (tableOf l) g) i)
 
-  -- how the test comes out decides what the call gives
-  call-by : (t : Bool) → noGroup (length l) g ≡ t
-      → cond t (refusedBy 3 (tableOf l) i) (writtenBack (tableOf l) g (own (groupAt (tableOf l) g))) ≡ whole
-  unfolding callGroupAt
-  call-by t e =
-      ap (λ (u : Bool). cond u (refusedBy 3 (tableOf l) i) (writtenBack (tableOf l) g (own (groupAt (tableOf l) g)))) (test-is l g t e)
+  -- the first of the checks 1 and 3
+  abbrev stop : ℕ
+  stop = tableCheck (headerPasses g i) (length l) g
 
-  pub call-refused : noGroup (length l) g ≡ true → (r : Answer) → r ≡ refused3 → tableResult r l (i .out) (i .tag) ≡ whole
-  call-refused e r is = ap (λ (r : Answer). tableResult r l (i .out) (i .tag)) is ∙ call-by true e
+  -- it decides what the call gives
+  call-by : (n : ℕ) → stop ≡ n → ifGroup n (tableOf l) i (writtenBack (tableOf l) g (own (groupAt (tableOf l) g))) ≡ whole
+  unfolding callGroupAt
+  call-by n e =
+      ap (λ (k : ℕ). ifGroup k (tableOf l) i (writtenBack (tableOf l) g (own (groupAt (tableOf l) g))))
+      (sym e ∙ ap (λ (k : ℕ). tableCheck (headerPasses g i) k g) (sym (length-map l recordOf)))
+
+  pub call-refused : (n : ℕ) → stop ≡ n → n ≢ 0 → (r : Answer) → r ≡ record { number = n; count = 0 } → tableResult r l (i .out) (i .tag) ≡ whole
+  call-refused zero e z r is = absurd (z refl)
+  call-refused (suc n) e z r is = ap (λ (r : Answer). tableResult r l (i .out) (i .tag)) is ∙ call-by (suc n) e
 
   -- what a group's call gave, with its record written back, is what the rules say of the whole table
-  pub call-stored : noGroup (length l) g ≡ false → (r : GroupResult) {out tag : List ℕ} → groupResult r out tag ≡ own (recordOf (getD l g zeroRecord))
+  pub call-stored : stop ≡ 0 → (r : GroupResult) {out tag : List ℕ} → groupResult r out tag ≡ own (recordOf (getD l g zeroRecord))
       → tableResult (record { number = r .number; count = r .count }) (set l g (r .left)) out tag ≡ whole
   call-stored e r {out} {tag} met =
       ap (λ (t : Table). record { number = r .number; count = r .count; table = t; out = out; tag = tag }) (set-table l g (r .left))
       ∙ ap (writtenBack (tableOf l) g) (met ∙ ap own (group-at l g))
-      ∙ call-by false e
+      ∙ call-by 0 e
+
+-- a call that is handed no header, by check 3 alone
+module _ (lone : SessionState DeckState → CallInput → Outcome DeckState) (allowance : ℕ) (i : CallInput) (without : i .header ≡ bare) (l : List Record) (g : ℕ) where
+  bare-stop : (t : Bool) → noGroup (length l) g ≡ t → stop lone allowance i l g ≡ cond t 3 0
+  bare-stop t e =
+      ap₂ (λ (h : CallHeader) (u : Bool). cond (not (groupFits letterS g h (length (i .metadata)) (length (i .text)))) 1 (cond u 3 0)) without e
+
+  pub bare-refused : noGroup (length l) g ≡ true → (r : Answer) → r ≡ refused3 → tableResult r l (i .out) (i .tag) ≡ whole lone allowance i l g
+  bare-refused e r is = call-refused lone allowance i l g 3 (bare-stop true e) (λ z. omega (arith, z)) r is
+
+  pub bare-stored : noGroup (length l) g ≡ false → (r : GroupResult) {out tag : List ℕ}
+      → groupResult r out tag ≡ own lone allowance i l g (recordOf (getD l g zeroRecord))
+      → tableResult (record { number = r .number; count = r .count }) (set l g (r .left)) out tag ≡ whole lone allowance i l g
+  bare-stored e r met = call-stored lone allowance i l g (bare-stop false e) r met
 
 -- ---- opening a group
 

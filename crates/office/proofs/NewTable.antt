@@ -1,19 +1,21 @@
 -- The table at first: its calls get 5, the nearly-full question says none, a group can be opened, and zeroed memory holds it
 -- (`NewTable` of `specs/Exactly.antt`). Assumes nothing.
-use mathlib.Core.Path.{_≡_, refl, ap, _∙_}
+use mathlib.Core.Path.{_≡_, refl, sym, ap, _∙_}
 use mathlib.Core.Logic.{inl, inr}
 use mathlib.Core.List.{List}
 use Prim.Native.Nat.{ℕ, zero, suc, _+_, _<_, _≤_}
 use native.Mathlib.Omega.{arith}
 use lib.ListN.{length, getD, set, replicate, length-replicate}
 use Rattle.deck.specs.declared.DeckState.{DeckState}
+use Rattle.envelope.specs.Layout.{letterS}
 use Rattle.modes.specs.Call.{CallInput}
+use Rattle.modes.specs.Header.{ForGroup}
 use Rattle.modes.specs.Mode.{sanse, incremental}
-use Rattle.modes.specs.Rules.{SessionState, Outcome, checkNumber, closed, newSession}
+use Rattle.modes.specs.Rules.{SessionState, Outcome, checkFrom5, checkNumber, closed, newSession}
 use Rattle.groups.specs.Groups.{GroupState, recordOf}
 use Rattle.office.specs.Table.{unopened, newTable, groupAt, sessionAt, TableOutcome, openGroupAt, refusedBy, noneNamed, nearlyFullAt, zeroRecord, tableOf}
 use Rattle.office.specs.Exactly.{Check3, CallExactly, NewTable}
-use Rattle.office.proofs.Exactly.{wrap-exactly, unwrap-exactly, open-exactly}
+use Rattle.office.proofs.Exactly.{own-check, wrap-exactly, unwrap-exactly, open-exactly}
 
 -- every group is unopened, those past the end too
 unopened-at : (n g : ℕ) → getD (replicate n unopened) g unopened ≡ unopened
@@ -34,16 +36,16 @@ has-group : (g : ℕ) → g ≤ 31 → Check3 newTable g → ⊥
 has-group g in-table (inl n) = n holds-32
 has-group g in-table (inr above) = omega arith
 
--- a call of a closed session meets 5
-meets-5 : (s : SessionState DeckState) (i : CallInput) → s ≡ closed → checkNumber sanse incremental s i ≡ 5
-unfolding checkNumber
-meets-5 s i e = ap (λ (s : SessionState DeckState). checkNumber sanse incremental s i) e
+-- a call of a closed session, with a header that is its own or with none, meets 5
+meets-5 : (g : ℕ) (s : SessionState DeckState) (i : CallInput) → ForGroup letterS g i → s ≡ closed → checkNumber sanse incremental s i ≡ 5
+unfolding checkFrom5
+meets-5 g s i own e = sym (own-check g s i own) ∙ ap (λ (s : SessionState DeckState). checkFrom5 sanse incremental s i) e
 
-gets-5 : (allowance g : ℕ) (i : CallInput) {lone : Outcome DeckState} {o : TableOutcome} → CallExactly allowance newTable g i lone o → g ≤ 31
-    → o ≡ refusedBy 5 newTable i
-gets-5 allowance g i {lone} {o} x in-table =
-    let five : checkNumber sanse incremental (sessionAt newTable g) i ≡ 5 = meets-5 (sessionAt newTable g) i (closed-at g) in
-    let is5 : o .number ≡ 5 = x .five-to-nine (has-group g in-table) (λ z. omega (arith, z, five)) ∙ five in
+gets-5 : (allowance g : ℕ) (i : CallInput) {lone : Outcome DeckState} {o : TableOutcome} → CallExactly allowance newTable g i lone o
+    → ForGroup letterS g i → g ≤ 31 → o ≡ refusedBy 5 newTable i
+gets-5 allowance g i {lone} {o} x own in-table =
+    let five : checkNumber sanse incremental (sessionAt newTable g) i ≡ 5 = meets-5 g (sessionAt newTable g) i own (closed-at g) in
+    let is5 : o .number ≡ 5 = x .five-to-nine own (has-group g in-table) (λ z. omega (arith, z, five)) ∙ five in
     x .unaltered (λ z. omega (arith, z, is5)) (λ z. omega (arith, z, is5)) ∙ ap (λ (n : ℕ). refusedBy n newTable i) is5
 
 -- no group is found: none is open

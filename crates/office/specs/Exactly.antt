@@ -1,6 +1,6 @@
--- The numbers 3, 4 and 10 at the table, each given if and only if its condition holds and no earlier one does, with the conditions as plain
+-- The numbers 1, 3, 4 and 10 at the table, each given if and only if its condition holds and no earlier one does, with the conditions as plain
 -- statements; what a call gives that meets none of them, and what it leaves of the table; starting a day, record by record; the nearly-full
--- question's answer; and the table at first (document 01, "What stops a call" and "The row"; document 02, requests 4 and 5). Assumes nothing.
+-- question's answer; and the table at first (document 01, "What stops a call" and "The row"; document 02, requests 4, 5 and 7). Assumes nothing.
 use mathlib.Core.Bool.{true, false}
 use mathlib.Core.List.{List}
 use mathlib.Core.Logic.{_↔_, _≢_, _⊎_}
@@ -8,12 +8,18 @@ use mathlib.Core.Path.{_≡_}
 use Prim.Native.Nat.{ℕ, _+_, _<_, _≤_}
 use lib.ListN.{length, set, replicate}
 use Rattle.deck.specs.declared.DeckState.{DeckState}
+use Rattle.envelope.specs.Layout.{letterS}
 use Rattle.modes.specs.Call.{CallInput}
+use Rattle.modes.specs.Header.{ForGroup}
 use Rattle.modes.specs.Mode.{sanse, incremental}
 use Rattle.modes.specs.Rules.{Outcome, checkNumber, countOf, newSession, wrapAt, unwrapAt}
 use Rattle.groups.specs.Groups.{charged, recordOf}
 use Rattle.office.specs.declared.NearlyFull.{NearlyFull}
 use Rattle.office.specs.Table.{Table, unopened, newTable, groupAt, sessionAt, DayStart, startDayAt, TableOutcome, TableOpening, refusedBy, writtenBack, wrapGroupAt, unwrapGroupAt, openGroupAt, TableFinding, noneNamed, nearlyFullAt, tableOf, zeroRecord, nearlyFullResult}
+
+-- 1: the call is handed a header that is not the layout's with letter S, the call's group and its own lengths
+abbrev pub Check1 : (group : ℕ) → CallInput → Type 0
+Check1 group i = ForGroup letterS group i → ⊥
 
 -- 3: the table does not hold 32 records, or the group is above 31
 abbrev pub Check3 : Table → (group : ℕ) → Type 0
@@ -35,20 +41,25 @@ pub record DayExactly (allowance : ℕ) (t : Table) (o : DayStart) : Type 0 wher
 
 -- ---- wrap and unwrap for a group
 
--- a call meets none of 3 and 5 to 10 (`checkNumber` of the modes' rules gives the first of 5 to 9 that the group's own session meets, or 0)
+-- a call meets none of 1, 3 and 5 to 10 (`checkNumber` of the modes' rules gives the first check that the lone call of the group's own session meets,
+-- or 0; where the header is the call's own, or none, it is one of 5 to 9)
 pub record NoCheckMet (allowance : ℕ) (t : Table) (group : ℕ) (i : CallInput) : Type 0 where
+  pub one : ForGroup letterS group i
   pub three : Check3 t group → ⊥
   pub five-to-nine : checkNumber sanse incremental (sessionAt t group) i ≡ 0
   pub ten : Check10 allowance t group (countOf sanse incremental i) → ⊥
 
 -- the outcome o of a wrap or an unwrap for a group, where `lone` is what the lone call gives
 pub record CallExactly (allowance : ℕ) (t : Table) (group : ℕ) (i : CallInput) (lone : Outcome DeckState) (o : TableOutcome) : Type 0 where
-  pub three : (o .number ≡ 3) ↔ Check3 t group
-  pub five-to-nine : (Check3 t group → ⊥) → checkNumber sanse incremental (sessionAt t group) i ≢ 0
+  pub one : (o .number ≡ 1) ↔ Check1 group i
+  pub three : (o .number ≡ 3) ↔ (ForGroup letterS group i × Check3 t group)
+  pub five-to-nine : ForGroup letterS group i → (Check3 t group → ⊥) → checkNumber sanse incremental (sessionAt t group) i ≢ 0
       → o .number ≡ checkNumber sanse incremental (sessionAt t group) i
-  pub only-five-to-nine : 5 ≤ o .number → o .number ≤ 9 → (Check3 t group → ⊥) × (checkNumber sanse incremental (sessionAt t group) i ≡ o .number)
+  pub only-five-to-nine : 5 ≤ o .number → o .number ≤ 9
+      → ForGroup letterS group i × (Check3 t group → ⊥) × (checkNumber sanse incremental (sessionAt t group) i ≡ o .number)
   pub ten : (o .number ≡ 10)
-      ↔ ((Check3 t group → ⊥) × (checkNumber sanse incremental (sessionAt t group) i ≡ 0) × Check10 allowance t group (countOf sanse incremental i))
+      ↔ (ForGroup letterS group i × (Check3 t group → ⊥) × (checkNumber sanse incremental (sessionAt t group) i ≡ 0)
+      × Check10 allowance t group (countOf sanse incremental i))
   -- a refusal by another number than 11 has count 0 and alters nothing
   pub unaltered : o .number ≢ 0 → o .number ≢ 11 → o ≡ refusedBy (o .number) t i
   -- 0 or 11 is given if and only if none of the others is met, and then
@@ -127,9 +138,11 @@ pub record FoundDecided (t : Table) (mark : ℕ) : Type 0 where
 -- ---- the table at first
 
 pub record NewTable : Type 0 where
-  -- wrap and unwrap for a group get 5, and nothing is altered
-  pub wraps : (allowance group : ℕ) (i : CallInput) → group ≤ 31 → wrapGroupAt allowance newTable group i ≡ refusedBy 5 newTable i
-  pub unwraps : (allowance group : ℕ) (i : CallInput) → group ≤ 31 → unwrapGroupAt allowance newTable group i ≡ refusedBy 5 newTable i
+  -- wrap and unwrap for a group, with a header that is their own or with none, get 5, and nothing is altered
+  pub wraps : (allowance group : ℕ) (i : CallInput) → ForGroup letterS group i → group ≤ 31
+      → wrapGroupAt allowance newTable group i ≡ refusedBy 5 newTable i
+  pub unwraps : (allowance group : ℕ) (i : CallInput) → ForGroup letterS group i → group ≤ 31
+      → unwrapGroupAt allowance newTable group i ≡ refusedBy 5 newTable i
   -- the nearly-full question says none
   pub none : (mark : ℕ) → nearlyFullAt newTable mark ≡ noneNamed
   -- where anything is allowed a group can be opened, and before the first day, where the allowance is 0, none can

@@ -1,15 +1,17 @@
--- The office's table of 32 records, which document 01 calls the row ("The row"; document 02, requests 4 and 5), and check 3 of "What stops a call":
--- what each call of the table gives and leaves, refused ones included, and what starting a day leaves. A group's own call is that of `groups`'
--- `Groups`, with the checks 4 to 11. Assumes nothing.
+-- The office's table of 32 records, which document 01 calls the row ("The row"; document 02, requests 4, 5 and 7), and the checks 1 and 3 of "What
+-- stops a call": what each call of the table gives and leaves, refused ones included, and what starting a day leaves. A group's own call is that
+-- of `groups`' `Groups`, with the checks 4 to 11. Assumes nothing.
 use mathlib.Core.Bool.{Bool, true, false, not, _||_, _&&_, cond}
 use mathlib.Core.List.{List, [], _∷_, map}
-use Prim.Native.Nat.{ℕ, _+_}
+use Prim.Native.Nat.{ℕ, zero, suc, _+_}
 use lib.Dec.{ltb, eqb}
 use lib.ListN.{length, getD, set, replicate}
 use Rattle.deck.specs.declared.DeckState.{DeckState}
+use Rattle.envelope.specs.Layout.{letterS}
 use Rattle.modes.specs.Call.{CallInput}
+use Rattle.modes.specs.Header.{groupFits}
 use Rattle.modes.specs.Mode.{sanse, incremental}
-use Rattle.modes.specs.Rules.{SessionState, Outcome, closed, wrapAt, unwrapAt}
+use Rattle.modes.specs.Rules.{SessionState, Outcome, closed, wrapFrom5, unwrapFrom5}
 use Rattle.session.specs.declared.Answer.{Answer}
 use Rattle.groups.specs.declared.Record.{Record}
 use Rattle.groups.specs.Groups.{GroupState, newDay, GroupOutcome, GroupOpening, onDay, openOnDay, recordOf}
@@ -66,20 +68,33 @@ pub record TableOutcome : Type 0 where
 abbrev pub refusedBy : (number : ℕ) → Table → CallInput → TableOutcome
 refusedBy number t i = record { number = number; count = 0; table = t; out = i .out; tag = i .tag }
 
+-- whether the call is handed no header, or the layout's with letter S, the call's group and its own lengths: check 1 is not met
+abbrev pub headerPasses : (group : ℕ) → CallInput → Bool
+headerPasses group i = groupFits letterS group (i .header) (length (i .metadata)) (length (i .text))
+
+-- the first of the checks 1 and 3 that is met, or 0: by whether the header passes, the number of records and the group
+abbrev pub tableCheck : (passes : Bool) (records group : ℕ) → ℕ
+tableCheck passes records group = cond (not passes) 1 (cond (noGroup records group) 3 0)
+
+-- by that check: refused, or what a call gives that meets neither
+abbrev pub ifGroup : ℕ → Table → CallInput → TableOutcome → TableOutcome
+ifGroup zero t i o = o
+ifGroup (suc n) t i o = refusedBy (suc n) t i
+
 -- a group's call: its record is written back, and the others stay as they were
 abbrev pub writtenBack : Table → (group : ℕ) → GroupOutcome → TableOutcome
 writtenBack t group o = record { number = o .number; count = o .count; table = set t group (o .left); out = o .out; tag = o .tag }
 
--- a call for a group, where `lone` is what the lone call of the group's session gives
+-- a call for a group, where `lone` is what the lone call of the group's session gives that does not meet check 1
 unfoldable pub callGroupAt : (allowance : ℕ) → Table → (group : ℕ) → CallInput → (lone : Outcome DeckState) → TableOutcome
 callGroupAt allowance t group i lone =
-    cond (noGroup (length t) group) (refusedBy 3 t i) (writtenBack t group (onDay allowance (groupAt t group) i lone))
+    ifGroup (tableCheck (headerPasses group i) (length t) group) t i (writtenBack t group (onDay allowance (groupAt t group) i lone))
 
 abbrev pub wrapGroupAt : (allowance : ℕ) → Table → (group : ℕ) → CallInput → TableOutcome
-wrapGroupAt allowance t group i = callGroupAt allowance t group i (wrapAt sanse incremental (sessionAt t group) i)
+wrapGroupAt allowance t group i = callGroupAt allowance t group i (wrapFrom5 sanse incremental (sessionAt t group) i)
 
 abbrev pub unwrapGroupAt : (allowance : ℕ) → Table → (group : ℕ) → CallInput → TableOutcome
-unwrapGroupAt allowance t group i = callGroupAt allowance t group i (unwrapAt sanse incremental (sessionAt t group) i)
+unwrapGroupAt allowance t group i = callGroupAt allowance t group i (unwrapFrom5 sanse incremental (sessionAt t group) i)
 
 -- ---- opening a group
 

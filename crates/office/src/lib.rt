@@ -36,7 +36,7 @@ pub fn start_day(records: &mut [Record], allowance: u32) -> u32
 // ---- check 3
 
 // Whether a table of some records has no such group.
-fn no_group(records: usize, group: usize) -> bool
+pub fn no_group(records: usize, group: usize) -> bool
     ensures { λ r. ⌜ r ≡ noGroup records group ⌝ }
 {
     if records != GROUPS {

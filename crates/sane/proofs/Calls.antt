@@ -40,7 +40,7 @@ text-most [] = omega arith
 text-most (y ∷ x) = omega arith
 
 -- and so is a call's
-count-most : (a x : ℕ) → a ≤ 16384 → x ≤ 16384 → saneCount a x ≤ 1030
+count-most : (a x : ℕ) → a ≤ 16401 → x ≤ 16384 → saneCount a x ≤ 1030
 unfolding saneCount
 count-most zero zero h g = omega arith
 count-most (suc a) zero h g = omega arith
@@ -65,14 +65,14 @@ module _ {s : SessionState DeckState} {i : CallInput} {n : ℕ} {d : DeckState} 
   body-is : o ≡ written (addKeystream saneParameters incremental (s .history) (i .text)) (i .out)
   body-is = k .streamed .0 ∙ ap (λ (u : DeckState). written (addKeystream saneParameters incremental u (i .text)) (i .out)) (k .begun .held)
 
-  counted : q + h .count + g .count ≡ saneCount (length (i .metadata)) (length (i .text))
+  counted : q + h .count + g .count ≡ saneCount (length (metadataString i)) (length (i .text))
   counted =
       let z : cond (isEmpty (i .text)) 0 (outputCount 16 (length (i .text))) ≡ countStream (i .text) = ap (cond (isEmpty (i .text)) 0) (omega arith) in
       omega (
         arith,
-        sane-leaf-counts (i .metadata) (i .text) y (s .toggle) (k .sized),
+        sane-leaf-counts (metadataString i) (i .text) y (s .toggle) (k .sized),
         begun-count short (k .begun),
-        ap (λ (u : ℕ). cond (not (isEmpty (i .metadata)) || isEmpty (i .text)) u 0) (blocks-is (framed (i .metadata) (false ∷ s .toggle ∷ [])) (omega arith)),
+        ap (λ (u : ℕ). cond (not (isEmpty (metadataString i)) || isEmpty (i .text)) u 0) (blocks-is (framed (metadataString i) (false ∷ s .toggle ∷ [])) (omega arith)),
         k .streamed .1,
         k .finished .2,
         ap (cond (isEmpty y) 0) (blocks-is (framed y (true ∷ s .toggle ∷ [])) (omega arith)),
@@ -81,11 +81,11 @@ module _ {s : SessionState DeckState} {i : CallInput} {n : ℕ} {d : DeckState} 
   pub done-most : q + h .count + g .count ≤ 1030
   done-most =
       let w = within sane s i (k .begun .checked) (k .begun .none) in
-      omega (arith, counted, count-most (length (i .metadata)) (length (i .text)) (w .metadata) (w .text))
+      omega (arith, counted, count-most (length (metadataString i)) (length (i .text)) (k .begun .long) (w .text))
 
   -- the history with the cryptogram z
   abbrev ends : List ℕ → DeckState
-  ends z = withText saneParameters incremental (withA saneParameters incremental (s .history) (s .toggle) (i .metadata) (i .text)) (s .toggle) z
+  ends z = withText saneParameters incremental (withA saneParameters incremental (s .history) (s .toggle) (metadataString i) (i .text)) (s .toggle) z
 
   worked : (z : List ℕ) → y ≡ z
       → Worked sane s i (stepResult saneParameters incremental (ends z) (addKeystream saneParameters incremental (s .history) (i .text))) (g .state)
@@ -103,11 +103,11 @@ module _ {s : SessionState DeckState} {i : CallInput} {n : ℕ} {d : DeckState} 
       }
 
   pub wrap-worked : y ≡ take (length (i .text)) o → Worked sane s i (wrapSteps sane incremental s i) (g .state) (q + h .count + g .count) o t
-  unfolding streamWrap metadataString
+  unfolding streamWrap
   wrap-worked e = worked _ (e ∙ added-taken (output (s .history)) 16 (i .text) (i .out) o body-is)
 
   pub unwrap-worked : y ≡ i .text → Worked sane s i (unwrapSteps sane incremental s i) (g .state) (q + h .count + g .count) o t
-  unfolding streamUnwrap metadataString
+  unfolding streamUnwrap
   unwrap-worked e = worked _ e
 
 -- ---- start

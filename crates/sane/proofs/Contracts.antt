@@ -1,4 +1,4 @@
--- What the program's functions promise: for each of the three, its clauses are just one equation with the rules, and it asks nothing of a
+-- What the program's functions promise: for each of the five, its clauses are just one equation with the rules, and it asks nothing of a
 -- call; and the promises by the functions' own `ensures`, as the modes' `Promises` has them. Assumes nothing.
 use mathlib.Core.List.{List, []}
 use mathlib.Core.Logic.{_↔_}
@@ -17,24 +17,30 @@ use denote.Ref.{RefT, now}
 use denote.Triple.Clauses.{AtExit}
 use denote.Triple.Entry.{Args, Res}
 use borrow.Fn.Kinds.{Dens, endedOf}
-use Rattle.modes.specs.Call.{CallInput}
-use Rattle.modes.specs.Promises.{Promises}
+use Rattle.modes.specs.Call.{CallHeader, bare, under, CallInput, withHeader}
+use Rattle.modes.specs.Promises.{Promises, bothSorts}
 use Rattle.modes.specs.Mode.{incremental, sane, saneParameters}
 use Rattle.modes.specs.Rules.{Outcome, nonceStartAt, wrapAt, unwrapAt}
 use Rattle.modes.proofs.AnySession.{any-unwrap}
 use Rattle.deck.specs.declared.DeckState.{DeckState}
 use Rattle.sane.specs.declared.SaneSession.{SaneSession}
 use Rattle.sane.specs.declared.SaneResult.{SaneResult}
-use Rattle.sane.specs.Session.{stateOf, nonceResult, callResult, handed, saneKind}
+use Rattle.sane.specs.Session.{stateOf, nonceResult, callResult, handed, handedFor, saneKind}
 use Rattle.sane.proofs.start as start
 use Rattle.sane.proofs.wrap as wrap
 use Rattle.sane.proofs.unwrap as unwrap
+use Rattle.sane.proofs.wrap_envelope as wrap-envelope
+use Rattle.sane.proofs.unwrap_envelope as unwrap-envelope
 use Rattle.sane.proofs.start.Reads.{Post as StartPost}
 use Rattle.sane.proofs.start.Kinds.{ps as start-ps, r as start-r}
 use Rattle.sane.proofs.wrap.Reads.{Post as WrapPost}
 use Rattle.sane.proofs.wrap.Kinds.{ps as wrap-ps, r as wrap-r}
 use Rattle.sane.proofs.unwrap.Reads.{Post as UnwrapPost}
 use Rattle.sane.proofs.unwrap.Kinds.{ps as unwrap-ps, r as unwrap-r}
+use Rattle.sane.proofs.wrap_envelope.Reads.{Post as WrapEnvelopePost}
+use Rattle.sane.proofs.wrap_envelope.Kinds.{ps as wrap-envelope-ps, r as wrap-envelope-r}
+use Rattle.sane.proofs.unwrap_envelope.Reads.{Post as UnwrapEnvelopePost}
+use Rattle.sane.proofs.unwrap_envelope.Kinds.{ps as unwrap-envelope-ps, r as unwrap-envelope-r}
 
 -- ---- the clauses, in every model of the program logic
 
@@ -68,6 +74,31 @@ module _ {M : Type 1} (𝓤 : URA M) (H : Heap 𝓤) (A : Atoms 𝓤) (mem : Mem
       ≡ unwrapAt sane incremental (stateOf (a .0)) (handed (now (a .1 .0)) (now (a .1 .1 .0)) (now (a .1 .1 .1 .1 .0)) (now (a .1 .1 .1 .0))))
   unwrap-ensures κs a r z = refl
 
+  pub wrap-envelope-asks : (κs : Lfts 5) (a : Args wrap-envelope.signature κs)
+      → wrap-envelope.clauses 𝓤 H A mem run κs a .requires tt ≡ connectives 𝓤 .⊤ₛ
+  wrap-envelope-asks κs a = refl
+
+  pub wrap-envelope-ensures : (κs : Lfts 5) (a : Args wrap-envelope.signature κs) (r : Res wrap-envelope.signature κs) (z : AtExit wrap-envelope.ended κs)
+      → wrap-envelope.clauses 𝓤 H A mem run κs a .ensures tt r z
+      ≡ connectives 𝓤 .⌜_⌝
+      (callResult r (now (z .1 .1 .1 .1 .0)) (now (z .1 .1 .1 .1 .1 .0))
+      ≡ wrapAt sane incremental (stateOf (a .0))
+      (handedFor (now (a .1 .0)) (now (a .1 .1 .0)) (now (a .1 .1 .1 .0)) (now (a .1 .1 .1 .1 .0)) (now (a .1 .1 .1 .1 .1 .0))))
+  wrap-envelope-ensures κs a r z = refl
+
+  pub unwrap-envelope-asks : (κs : Lfts 5) (a : Args unwrap-envelope.signature κs)
+      → unwrap-envelope.clauses 𝓤 H A mem run κs a .requires tt ≡ connectives 𝓤 .⊤ₛ
+  unwrap-envelope-asks κs a = refl
+
+  pub unwrap-envelope-ensures : (κs : Lfts 5) (a : Args unwrap-envelope.signature κs) (r : Res unwrap-envelope.signature κs)
+      (z : AtExit unwrap-envelope.ended κs)
+      → unwrap-envelope.clauses 𝓤 H A mem run κs a .ensures tt r z
+      ≡ connectives 𝓤 .⌜_⌝
+      (callResult r (now (z .1 .1 .1 .1 .1 .0)) (now (a .1 .1 .1 .1 .0))
+      ≡ unwrapAt sane incremental (stateOf (a .0))
+      (handedFor (now (a .1 .0)) (now (a .1 .1 .0)) (now (a .1 .1 .1 .0)) (now (a .1 .1 .1 .1 .1 .0)) (now (a .1 .1 .1 .1 .0))))
+  unwrap-envelope-ensures κs a r z = refl
+
   -- and that equation is the post of which the promises below speak
   pub start-post : (κs : Lfts 3) (a : Args start.signature κs) (r : Res start.signature κs) (z : AtExit start.ended κs)
       → start.clauses 𝓤 H A mem run κs a .ensures tt r z ≡ connectives 𝓤 .⌜_⌝ (StartPost κs a r z)
@@ -80,6 +111,15 @@ module _ {M : Type 1} (𝓤 : URA M) (H : Heap 𝓤) (A : Atoms 𝓤) (mem : Mem
   pub unwrap-post : (κs : Lfts 4) (a : Args unwrap.signature κs) (r : Res unwrap.signature κs) (z : AtExit unwrap.ended κs)
       → unwrap.clauses 𝓤 H A mem run κs a .ensures tt r z ≡ connectives 𝓤 .⌜_⌝ (UnwrapPost κs a r z)
   unwrap-post κs a r z = refl
+
+  pub wrap-envelope-post : (κs : Lfts 5) (a : Args wrap-envelope.signature κs) (r : Res wrap-envelope.signature κs) (z : AtExit wrap-envelope.ended κs)
+      → wrap-envelope.clauses 𝓤 H A mem run κs a .ensures tt r z ≡ connectives 𝓤 .⌜_⌝ (WrapEnvelopePost κs a r z)
+  wrap-envelope-post κs a r z = refl
+
+  pub unwrap-envelope-post : (κs : Lfts 5) (a : Args unwrap-envelope.signature κs) (r : Res unwrap-envelope.signature κs)
+      (z : AtExit unwrap-envelope.ended κs)
+      → unwrap-envelope.clauses 𝓤 H A mem run κs a .ensures tt r z ≡ connectives 𝓤 .⌜_⌝ (UnwrapEnvelopePost κs a r z)
+  unwrap-envelope-post κs a r z = refl
 
 -- ---- the promises: a call with some arguments, of which the function's `ensures` holds
 
@@ -116,6 +156,27 @@ pub record UnwrapPromise (s : SaneSession) (i : CallInput) (r : SaneResult) (out
   pub isTag : now (args .1 .1 .1 .0) ≡ tag
   pub met : UnwrapPost κs args r exits
 
+-- the same of a wrap and of an unwrap for an envelope
+pub record WrapEnvelopePromise (s : SaneSession) (i : CallInput) (r : SaneResult) (out tag : List ℕ) : Type 0 where
+  pub κs : Lfts 5
+  pub args : Dens κs wrap-envelope-ps
+  pub exits : AtExit (endedOf 5 wrap-envelope-ps wrap-envelope-r) κs
+  pub isRecord : args .0 ≡ s
+  pub isInput : handedFor (now (args .1 .0)) (now (args .1 .1 .0)) (now (args .1 .1 .1 .0)) (now (args .1 .1 .1 .1 .0)) (now (args .1 .1 .1 .1 .1 .0)) ≡ i
+  pub isOut : now (exits .1 .1 .1 .1 .0) ≡ out
+  pub isTag : now (exits .1 .1 .1 .1 .1 .0) ≡ tag
+  pub met : WrapEnvelopePost κs args r exits
+
+pub record UnwrapEnvelopePromise (s : SaneSession) (i : CallInput) (r : SaneResult) (out tag : List ℕ) : Type 0 where
+  pub κs : Lfts 5
+  pub args : Dens κs unwrap-envelope-ps
+  pub exits : AtExit (endedOf 5 unwrap-envelope-ps unwrap-envelope-r) κs
+  pub isRecord : args .0 ≡ s
+  pub isInput : handedFor (now (args .1 .0)) (now (args .1 .1 .0)) (now (args .1 .1 .1 .0)) (now (args .1 .1 .1 .1 .1 .0)) (now (args .1 .1 .1 .1 .0)) ≡ i
+  pub isOut : now (exits .1 .1 .1 .1 .1 .0) ≡ out
+  pub isTag : now (args .1 .1 .1 .1 .0) ≡ tag
+  pub met : UnwrapEnvelopePost κs args r exits
+
 -- ---- every call of which the function's `ensures` holds keeps its promise: nothing else is asked of it
 
 pub start-kept : (κs : Lfts 3) (args : Dens κs start-ps) (exits : AtExit (endedOf 3 start-ps start-r) κs) (r : SaneResult)
@@ -137,9 +198,32 @@ pub unwrap-kept : (κs : Lfts 4) (args : Dens κs unwrap-ps) (exits : AtExit (en
 unwrap-kept κs args exits r h =
     record { κs = κs; args = args; exits = exits; isRecord = refl; isInput = refl; isOut = refl; isTag = refl; met = h }
 
--- the promises of wrap and unwrap
+pub wrap-envelope-kept : (κs : Lfts 5) (args : Dens κs wrap-envelope-ps) (exits : AtExit (endedOf 5 wrap-envelope-ps wrap-envelope-r) κs) (r : SaneResult)
+    → WrapEnvelopePost κs args r exits
+    → WrapEnvelopePromise (args .0)
+    (handedFor (now (args .1 .0)) (now (args .1 .1 .0)) (now (args .1 .1 .1 .0)) (now (args .1 .1 .1 .1 .0)) (now (args .1 .1 .1 .1 .1 .0))) r
+    (now (exits .1 .1 .1 .1 .0)) (now (exits .1 .1 .1 .1 .1 .0))
+wrap-envelope-kept κs args exits r h =
+    record { κs = κs; args = args; exits = exits; isRecord = refl; isInput = refl; isOut = refl; isTag = refl; met = h }
+
+pub unwrap-envelope-kept : (κs : Lfts 5) (args : Dens κs unwrap-envelope-ps) (exits : AtExit (endedOf 5 unwrap-envelope-ps unwrap-envelope-r) κs)
+    (r : SaneResult)
+    → UnwrapEnvelopePost κs args r exits
+    → UnwrapEnvelopePromise (args .0)
+    (handedFor (now (args .1 .0)) (now (args .1 .1 .0)) (now (args .1 .1 .1 .0)) (now (args .1 .1 .1 .1 .1 .0)) (now (args .1 .1 .1 .1 .0))) r
+    (now (exits .1 .1 .1 .1 .1 .0)) (now (args .1 .1 .1 .1 .0))
+unwrap-envelope-kept κs args exits r h =
+    record { κs = κs; args = args; exits = exits; isRecord = refl; isInput = refl; isOut = refl; isTag = refl; met = h }
+
+-- the promises of wrap and unwrap, without an envelope and for one, and of calls of both sorts
+abbrev pub barePromises : Promises saneKind
+barePromises = record { wraps = WrapPromise; unwraps = UnwrapPromise }
+
+abbrev pub envelopePromises : Promises saneKind
+envelopePromises = record { wraps = WrapEnvelopePromise; unwraps = UnwrapEnvelopePromise }
+
 abbrev pub promises : Promises saneKind
-promises = record { wraps = WrapPromise; unwraps = UnwrapPromise }
+promises = bothSorts saneKind barePromises envelopePromises
 
 -- some reference to these bytes, and some lifetimes, one for each slice that wrap or unwrap is handed
 abbrev to : List ℕ → RefT (List ℕ)
@@ -160,7 +244,11 @@ start-is key nonce tag r tag′ = (
 )
 
 module _ (s : SaneSession) (i : CallInput) (r : SaneResult) (out tag : List ℕ) where
-  pub wrap-is : WrapPromise s i r out tag ↔ (callResult r out tag ≡ wrapAt sane incremental (stateOf s) i)
+  -- the tag handed to an unwrap is not altered
+  tag-kept : (h : CallHeader) → callResult r out tag ≡ unwrapAt sane incremental (stateOf s) (withHeader h i) → i .tag ≡ tag
+  tag-kept h e = sym (ap (λ (o : Outcome DeckState). o .tag) e ∙ any-unwrap sane incremental (stateOf s) (withHeader h i) .tag)
+
+  pub wrap-is : WrapPromise s (withHeader bare i) r out tag ↔ (callResult r out tag ≡ wrapAt sane incremental (stateOf s) (withHeader bare i))
   wrap-is = (
     λ p.
         sym (λ j. callResult r (p .isOut j) (p .isTag j)) ∙ p .met
@@ -170,14 +258,40 @@ module _ (s : SaneSession) (i : CallInput) (r : SaneResult) (out tag : List ℕ)
         (s, (to (i .metadata), (to (i .text), (to out, (to tag, tt))))) r e,
   )
 
-  pub unwrap-is : UnwrapPromise s i r out tag ↔ (callResult r out tag ≡ unwrapAt sane incremental (stateOf s) i)
+  pub unwrap-is : UnwrapPromise s (withHeader bare i) r out tag ↔ (callResult r out tag ≡ unwrapAt sane incremental (stateOf s) (withHeader bare i))
   unwrap-is = (
     λ p.
         sym (λ j. callResult r (p .isOut j) (p .isTag j)) ∙ p .met
         ∙ (λ j. unwrapAt sane incremental (stateOf (p .isRecord j)) (p .isInput j)),
     λ e.
-        let t : i .tag ≡ tag = sym (ap (λ (o : Outcome DeckState). o .tag) e ∙ any-unwrap sane incremental (stateOf s) i .tag) in
-        subst (UnwrapPromise s i r out) t
+        let t : i .tag ≡ tag = tag-kept bare e in
+        subst (UnwrapPromise s (withHeader bare i) r out) t
         (unwrap-kept lifetimes (s, (to (i .metadata), (to (i .text), (to (i .tag), (to (i .out), tt)))))
         (s, (to (i .metadata), (to (i .text), (to (i .tag), (to out, tt))))) r (ap (callResult r out) t ∙ e)),
   )
+
+  -- under the header x
+  module _ (x : List ℕ) where
+    pub wrap-envelope-is : WrapEnvelopePromise s (withHeader (under x) i) r out tag
+        ↔ (callResult r out tag ≡ wrapAt sane incremental (stateOf s) (withHeader (under x) i))
+    wrap-envelope-is = (
+      λ p.
+          sym (λ j. callResult r (p .isOut j) (p .isTag j)) ∙ p .met
+          ∙ (λ j. wrapAt sane incremental (stateOf (p .isRecord j)) (p .isInput j)),
+      λ e.
+          wrap-envelope-kept ([], lifetimes) (s, (to x, (to (i .metadata), (to (i .text), (to (i .out), (to (i .tag), tt))))))
+          (s, (to x, (to (i .metadata), (to (i .text), (to out, (to tag, tt)))))) r e,
+    )
+
+    pub unwrap-envelope-is : UnwrapEnvelopePromise s (withHeader (under x) i) r out tag
+        ↔ (callResult r out tag ≡ unwrapAt sane incremental (stateOf s) (withHeader (under x) i))
+    unwrap-envelope-is = (
+      λ p.
+          sym (λ j. callResult r (p .isOut j) (p .isTag j)) ∙ p .met
+          ∙ (λ j. unwrapAt sane incremental (stateOf (p .isRecord j)) (p .isInput j)),
+      λ e.
+          let t : i .tag ≡ tag = tag-kept (under x) e in
+          subst (UnwrapEnvelopePromise s (withHeader (under x) i) r out) t
+          (unwrap-envelope-kept ([], lifetimes) (s, (to x, (to (i .metadata), (to (i .text), (to (i .tag), (to (i .out), tt))))))
+          (s, (to x, (to (i .metadata), (to (i .text), (to (i .tag), (to out, tt)))))) r (ap (callResult r out) t ∙ e)),
+    )

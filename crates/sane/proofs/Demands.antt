@@ -1,5 +1,5 @@
--- Demands 1 to 3 hold of the program's start, wrap and unwrap of SANE, known by their `ensures` alone; what they say, written out; and that what
--- they speak of is there. Assumes nothing.
+-- Demands 1 to 3 hold of the program's start, wrap and unwrap of SANE, the last two without an envelope and for one, in lists that mix both, each
+-- known by its own `ensures` alone; what they say, written out; and that what they speak of is there. Assumes nothing.
 use mathlib.Core.Bool.{Bool}
 use mathlib.Core.List.{List}
 use mathlib.Core.Path.{_≡_, refl}
@@ -17,12 +17,12 @@ use Rattle.modes.specs.Promises.{Promises, Records, Run, sessionsHeld}
 use Rattle.modes.specs.Demands.{AnyCallOf, OneCallOf, RunsExist}
 use Rattle.modes.specs.SaneDemands.{SaneDemand3, NonceStarts, NonceStartOf, SaneDemand3Of, NonceStartsExist, AcceptedStartsExist}
 use Rattle.modes.proofs.Modes.{sane-follows}
-use Rattle.modes.proofs.Demands.{ByRules, Whole, any-call-of, one-call-of, runs-exist, kept}
+use Rattle.modes.proofs.Demands.{ByRules, Whole, both-by-rules, any-call-of, one-call-of, runs-exist, kept}
 use Rattle.modes.proofs.SaneDemands.{nonce-start-of, nonce-starts-exist, accepted-starts-exist, sane-demand-3-of}
 use Rattle.sane.specs.declared.SaneSession.{SaneSession}
 use Rattle.sane.specs.declared.SaneResult.{SaneResult}
 use Rattle.sane.specs.Session.{stateOf, nonceResult, callResult, saneKind}
-use Rattle.sane.proofs.Contracts.{StartPromise, promises, start-is, wrap-is, unwrap-is}
+use Rattle.sane.proofs.Contracts.{StartPromise, promises, start-is, wrap-is, unwrap-is, wrap-envelope-is, unwrap-envelope-is}
 
 -- ---- what the demands say of these records, written out
 
@@ -62,9 +62,11 @@ module _ (p : Promises saneKind) (s : SaneSession) (i : CallInput) (r : SaneResu
 
 -- ---- the demands
 
--- each promise is just the call's equation with the rules
+-- each promise, of calls of both sorts, is just the call's equation with the rules
 program : ByRules sane promises
-program = record { wraps = wrap-is; unwraps = unwrap-is }
+program =
+    both-by-rules (record { wraps = wrap-is; unwraps = unwrap-is })
+    (λ x. record { wraps = λ s i r out tag. wrap-envelope-is s i r out tag x; unwraps = λ s i r out tag. unwrap-envelope-is s i r out tag x })
 
 -- demand 1: every start, and every call of any record
 pub one-start : NonceStartOf saneKind StartPromise

@@ -4,7 +4,7 @@
 use mathlib.Core.List.{List}
 use Prim.Native.Nat.{ℕ}
 use Rattle.deck.specs.declared.DeckState.{DeckState}
-use Rattle.modes.specs.Call.{CallInput}
+use Rattle.modes.specs.Call.{bare, under, CallInput}
 use Rattle.modes.specs.Rules.{SessionState, Outcome, NonceOpening}
 use Rattle.modes.specs.Promises as promises
 use Rattle.modes.specs.SaneDemands as starts
@@ -37,4 +37,8 @@ callResult = promises.callResult saneKind
 
 -- what wrap or unwrap was handed beside the record
 abbrev pub handed : (metadata text out tag : List ℕ) → CallInput
-handed metadata text out tag = record { metadata = metadata; text = text; out = out; tag = tag }
+handed metadata text out tag = record { header = bare; metadata = metadata; text = text; out = out; tag = tag }
+
+-- and for an envelope with this header
+abbrev pub handedFor : (header metadata text out tag : List ℕ) → CallInput
+handedFor header metadata text out tag = record { header = under header; metadata = metadata; text = text; out = out; tag = tag }

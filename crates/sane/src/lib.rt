@@ -1,5 +1,5 @@
-// Xoofff-SANE by value (document 02, request 2): start with a nonce, wrap and unwrap over a session record. A refused call leaves the record and
-// the buffers as they were; a refused start gives a closed record.
+// Xoofff-SANE by value (document 02, request 2): start with a nonce, wrap and unwrap over a session record, without an envelope and for one, whose
+// header is under the tag then (request 7). A refused call leaves the record and the buffers as they were; a refused start gives a closed record.
 ghost use mathlib.Core.Path.{_≡_};
 ghost use mathlib.Core.Bool.{_&&_, cond};
 ghost use mathlib.Core.List.{[], _∷_};
@@ -12,10 +12,11 @@ ghost use Rattle.deck.specs.Deck.{run};
 ghost use Rattle.deck.specs.Incremental.{output};
 ghost use Rattle.deck.specs.Closing.{closingByte};
 ghost use Rattle.modes.specs.Mode.{sane, saneParameters, incremental, isEmpty, withText, tagOf};
-ghost use Rattle.modes.specs.Rules.{growth, firstCheck, written, wrapAt, unwrapAt, nonceCheck, nonceStartAt};
+ghost use Rattle.modes.specs.Rules.{growth, firstCheck, written, wrapFrom5, unwrapFrom5, wrapAt, unwrapAt, nonceCheck, nonceStartAt};
 ghost use Rattle.steps.specs.Steps.{outputCount};
-ghost use Rattle.sane.specs.Session.{stateOf, nonceResult, callResult, handed};
+ghost use Rattle.sane.specs.Session.{stateOf, nonceResult, callResult, handed, handedFor};
 use deck::DeckState;
+use envelope::LETTER_N;
 use xoofff::Compressed;
 
 // A session of SANE, a type of its own: the accumulator, the mask at the index, the input index, e, and whether it is open.
@@ -69,11 +70,11 @@ fn start_check(keylen: usize, noncelen: usize, taglen: usize) -> u32
     0
 }
 
-// The first of the checks 5 to 9 that is met, or 0.
-fn check(opened: bool, index: u32, a: usize, m: usize, tag: usize, out: usize) -> u32
-    ensures { λ r. ⌜ r ≡ firstCheck opened (index + growth a m) 16 a m tag out ⌝ }
+// The first of the checks 5 to 9 that is met, or 0: 9 by the length of A's string, 6 by that of the metadata.
+fn check(opened: bool, index: u32, string: usize, a: usize, m: usize, tag: usize, out: usize) -> u32
+    ensures { λ r. ⌜ r ≡ firstCheck opened (index + growth string m) 16 a m tag out ⌝ }
 {
-    let after = steps::index_after(index, a, m);
+    let after = steps::index_after(index, string, m);
     steps::first_check(opened, after, 16, a, m, tag, out)
 }
 
@@ -164,6 +165,76 @@ pub fn start(key: &[u8], nonce: &[u8], tag: &mut [u8]) -> SaneResult
     result(0, 1 + h.count + t, d, false, true)
 }
 
+// Wraps a message, where check 1 is not met: A is the header's bytes `head`, none for a call without an envelope, and then the metadata. Checks 5
+// to 9.
+pub fn wrap_string(
+    s: SaneSession,
+    head: &[u8],
+    metadata: &[u8],
+    message: &[u8],
+    out: &mut [u8],
+    tag: &mut [u8],
+) -> SaneResult
+    requires { ⌜ length (now head) ≤ 17 ⌝ }
+    ensures { λ r. ⌜ callResult r (now (out .exit)) (now (tag .exit))
+        ≡ wrapFrom5 sane incremental (stateOf s) (handedFor (now (head .entry)) (now (metadata .entry)) (now (message .entry)) (now (out .entry)) (now (tag .entry))) ⌝ }
+{
+    let n = message.len();
+    let d = deck_of(s);
+    let e = s.toggle;
+    let a = metadata.len();
+    let string = head.len() + a;
+    let number = check(s.opened, s.index, string, a, n, tag.len(), out.len());
+    if number != 0 {
+        return result(number, 0, d, e, s.opened);
+    }
+    let h = steps::append_metadata(d, head, metadata, message, closing(false, e));
+    let d1 = h.state;
+    let c = add_stream(d, message, out);
+    let g = finish(d1, &out[..n], e, tag);
+    let d2 = g.state;
+    result(0, c + h.count + g.count, d2, !e, s.opened)
+}
+
+// Unwraps a cryptogram, where check 1 is not met, with A as in `wrap_string`. Checks 5 to 9, and 11 for a tag that differs, whose 16 bytes are all
+// compared.
+pub fn unwrap_string(
+    s: SaneSession,
+    head: &[u8],
+    metadata: &[u8],
+    cryptogram: &[u8],
+    tag: &[u8],
+    out: &mut [u8],
+) -> SaneResult
+    requires { ⌜ length (now head) ≤ 17 ⌝ }
+    ensures { λ r. ⌜ callResult r (now (out .exit)) (now (tag .entry))
+        ≡ unwrapFrom5 sane incremental (stateOf s) (handedFor (now (head .entry)) (now (metadata .entry)) (now (cryptogram .entry)) (now (out .entry)) (now (tag .entry))) ⌝ }
+{
+    let n = cryptogram.len();
+    let d = deck_of(s);
+    let e = s.toggle;
+    let a = metadata.len();
+    let string = head.len() + a;
+    let number = check(s.opened, s.index, string, a, n, tag.len(), out.len());
+    if number != 0 {
+        return result(number, 0, d, e, s.opened);
+    }
+    let h = steps::append_metadata(d, head, metadata, cryptogram, closing(false, e));
+    let d1 = h.state;
+    let c = add_stream(d, cryptogram, out);
+    let mut found = [0u8; 16];
+    let g = finish(d1, cryptogram, e, &mut found);
+    let d2 = g.state;
+    let count = c + h.count + g.count;
+    if steps::same_bytes(tag, &found) {
+        return result(0, count, d2, !e, s.opened);
+    }
+    steps::clear(out, n);
+    result(11, count, d, e, s.opened)
+}
+
+// ---- calls without an envelope
+
 // Wraps a message: the cryptogram goes to the start of `out`, and the tag fills `tag`, which has 16 bytes. Checks 5 to 9.
 pub fn wrap(
     s: SaneSession,
@@ -175,19 +246,8 @@ pub fn wrap(
     ensures { λ r. ⌜ callResult r (now (out .exit)) (now (tag .exit))
         ≡ wrapAt sane incremental (stateOf s) (handed (now (metadata .entry)) (now (message .entry)) (now (out .entry)) (now (tag .entry))) ⌝ }
 {
-    let n = message.len();
-    let d = deck_of(s);
-    let e = s.toggle;
-    let number = check(s.opened, s.index, metadata.len(), n, tag.len(), out.len());
-    if number != 0 {
-        return result(number, 0, d, e, s.opened);
-    }
-    let h = steps::append_metadata(d, metadata, message, closing(false, e));
-    let d1 = h.state;
-    let c = add_stream(d, message, out);
-    let g = finish(d1, &out[..n], e, tag);
-    let d2 = g.state;
-    result(0, c + h.count + g.count, d2, !e, s.opened)
+    let none = &metadata[..0];
+    wrap_string(s, none, metadata, message, out, tag)
 }
 
 // Unwraps a cryptogram: the message goes to the start of `out`. Checks 5 to 9, and 11 for a tag that differs, whose 16 bytes are all compared.
@@ -201,23 +261,48 @@ pub fn unwrap(
     ensures { λ r. ⌜ callResult r (now (out .exit)) (now (tag .entry))
         ≡ unwrapAt sane incremental (stateOf s) (handed (now (metadata .entry)) (now (cryptogram .entry)) (now (out .entry)) (now (tag .entry))) ⌝ }
 {
-    let n = cryptogram.len();
-    let d = deck_of(s);
-    let e = s.toggle;
-    let number = check(s.opened, s.index, metadata.len(), n, tag.len(), out.len());
-    if number != 0 {
-        return result(number, 0, d, e, s.opened);
+    let none = &metadata[..0];
+    unwrap_string(s, none, metadata, cryptogram, tag, out)
+}
+
+// ---- calls for an envelope
+
+// Wraps a message for the envelope with this header, whose bytes go before the metadata under the tag. Check 1 where the header is not the layout's
+// with letter N and the lengths of metadata and message, and then as `wrap`.
+pub fn wrap_envelope(
+    s: SaneSession,
+    header: &[u8],
+    metadata: &[u8],
+    message: &[u8],
+    out: &mut [u8],
+    tag: &mut [u8],
+) -> SaneResult
+    ensures { λ r. ⌜ callResult r (now (out .exit)) (now (tag .exit))
+        ≡ wrapAt sane incremental (stateOf s) (handedFor (now (header .entry)) (now (metadata .entry)) (now (message .entry)) (now (out .entry)) (now (tag .entry))) ⌝ }
+{
+    if !headers::fits(LETTER_N, header, metadata.len(), message.len()) {
+        let d = deck_of(s);
+        return result(1, 0, d, s.toggle, s.opened);
     }
-    let h = steps::append_metadata(d, metadata, cryptogram, closing(false, e));
-    let d1 = h.state;
-    let c = add_stream(d, cryptogram, out);
-    let mut found = [0u8; 16];
-    let g = finish(d1, cryptogram, e, &mut found);
-    let d2 = g.state;
-    let count = c + h.count + g.count;
-    if steps::same_bytes(tag, &found) {
-        return result(0, count, d2, !e, s.opened);
+    wrap_string(s, header, metadata, message, out, tag)
+}
+
+// Unwraps the cryptogram of the envelope with this header. Check 1 where the header is not the layout's with letter N and the lengths of metadata
+// and cryptogram, and then as `unwrap`.
+pub fn unwrap_envelope(
+    s: SaneSession,
+    header: &[u8],
+    metadata: &[u8],
+    cryptogram: &[u8],
+    tag: &[u8],
+    out: &mut [u8],
+) -> SaneResult
+    ensures { λ r. ⌜ callResult r (now (out .exit)) (now (tag .entry))
+        ≡ unwrapAt sane incremental (stateOf s) (handedFor (now (header .entry)) (now (metadata .entry)) (now (cryptogram .entry)) (now (out .entry)) (now (tag .entry))) ⌝ }
+{
+    if !headers::fits(LETTER_N, header, metadata.len(), cryptogram.len()) {
+        let d = deck_of(s);
+        return result(1, 0, d, s.toggle, s.opened);
     }
-    steps::clear(out, n);
-    result(11, count, d, e, s.opened)
+    unwrap_string(s, header, metadata, cryptogram, tag, out)
 }

@@ -1,5 +1,5 @@
--- Demands 1 to 3 hold of SANE's functions over a lent record, each known only by its promise, which is its `ensures` (`proofs/Contracts.antt`);
--- and what they speak of is there. Assumes nothing.
+-- Demands 1 to 3 hold of SANE's functions over a lent record, in lists that mix calls without an envelope and calls for one, each known only by
+-- its promise, which is its `ensures` (`proofs/Contracts.antt`); and what they speak of is there. Assumes nothing.
 use Rattle.modes.specs.Mode.{sane}
 use Rattle.modes.specs.Ledger.{sanePaper}
 use Rattle.modes.specs.Demands.{AnyCallOf, OneCallOf, RunsExist}

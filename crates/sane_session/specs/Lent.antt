@@ -1,4 +1,4 @@
--- The promises of start, wrap and unwrap of SANE over a lent record (document 02, request 2): the same equations with the rules as the functions
+-- The promises of start, wrap and unwrap of SANE over a lent record (document 02, requests 2 and 7): the same equations with the rules as the functions
 -- by value have, of the record at entry and at exit. Demands 1 to 3 are those of the modes' `Demands` and `SaneDemands`, of these promises.
 -- Assumes nothing.
 use mathlib.Core.List.{List}
@@ -35,6 +35,6 @@ Unwrapped s i r s′ out tag = callResult (resultOf r s′) out tag ≡ unwrapAt
 abbrev pub lentStarts : NonceStarts saneKind
 lentStarts = nonceByRules saneKind
 
--- and of wrap and unwrap
+-- and of wrap and unwrap, without an envelope and for one
 abbrev pub lentPromises : Promises saneKind
 lentPromises = byRules saneKind sane

@@ -18,11 +18,11 @@ use Rattle.modes.specs.Demand3.{Demand3}
 use Rattle.modes.specs.Promises.{Promises, Records, Run, sessionsHeld}
 use Rattle.modes.specs.Demands.{StartOf, AnyCallOf, WrapOf, UnwrapOf, OneCallOf, Demand3Of, StartsExist, RunsExist}
 use Rattle.modes.proofs.Modes.{sanse-follows}
-use Rattle.modes.proofs.Demands.{ByRules, Whole, start-of, any-call-of, one-call-of, demand-3-of, runs-exist, kept, starts-exist}
+use Rattle.modes.proofs.Demands.{ByRules, Whole, both-by-rules, start-of, any-call-of, one-call-of, demand-3-of, runs-exist, kept, starts-exist}
 use Rattle.sanse.specs.declared.Session.{Session}
 use Rattle.sanse.specs.declared.CallResult.{CallResult}
 use Rattle.sanse.specs.Session.{stateOf, startResult, callResult, sanseKind}
-use Rattle.sanse.proofs.Contracts.{StartPromise, promises, start-is, wrap-is, unwrap-is}
+use Rattle.sanse.proofs.Contracts.{StartPromise, promises, start-is, wrap-is, unwrap-is, wrap-envelope-is, unwrap-envelope-is}
 
 -- ---- what the demands say of these records, written out
 
@@ -77,8 +77,10 @@ module _ (p : Promises sanseKind) (s : Session) (i : CallInput) (r : CallResult)
 -- ---- the demands
 
 -- each promise is just the call's equation with the rules
-program : ByRules sanse promises
-program = record { wraps = wrap-is; unwraps = unwrap-is }
+pub program : ByRules sanse promises
+program =
+    both-by-rules (record { wraps = wrap-is; unwraps = unwrap-is })
+    (λ x. record { wraps = λ s i r out tag. wrap-envelope-is s i r out tag x; unwraps = λ s i r out tag. unwrap-envelope-is s i r out tag x })
 
 -- demand 1: every start, and every call of any record
 pub one-start : StartOf sanseKind StartPromise

@@ -60,15 +60,7 @@ fn closing_t(e: bool) -> u8
 // ---- parts of the calls
 
 // The first of the checks 5 to 9 that is met, or 0: 9 by the length of A's string, 6 by that of the metadata.
-fn check(
-    opened: bool,
-    index: u32,
-    string: usize,
-    a: usize,
-    m: usize,
-    tag: usize,
-    out: usize,
-) -> u32
+fn check(opened: bool, index: u32, string: usize, a: usize, m: usize, tag: usize, out: usize) -> u32
     ensures { λ r. ⌜ r ≡ firstCheck opened (index + growth string m) 32 a m tag out ⌝ }
 {
     let after = steps::index_after(index, string, m);
@@ -167,8 +159,8 @@ pub fn wrap_string(
     tag: &mut [u8],
 ) -> CallResult
     requires { ⌜ length (now head) ≤ 17 ⌝ }
-    ensures { λ r. ⌜ callResult r (now (out .exit)) (now (tag .exit))
-        ≡ wrapFrom5 sanse incremental (stateOf s) (handedFor (now (head .entry)) (now (metadata .entry)) (now (message .entry)) (now (out .entry)) (now (tag .entry))) ⌝ }
+    ensures { λ r. ⌜ callResult r
+        (now (out .exit)) (now (tag .exit)) ≡ wrapFrom5 sanse incremental (stateOf s) (handedFor (now (head .entry)) (now (metadata .entry)) (now (message .entry)) (now (out .entry)) (now (tag .entry))) ⌝ }
 {
     let d = deck_of(s);
     let e = s.toggle;
@@ -204,14 +196,15 @@ pub fn unwrap_string(
     out: &mut [u8],
 ) -> CallResult
     requires { ⌜ length (now head) ≤ 17 ⌝ }
-    ensures { λ r. ⌜ callResult r (now (out .exit)) (now (tag .entry))
-        ≡ unwrapFrom5 sanse incremental (stateOf s) (handedFor (now (head .entry)) (now (metadata .entry)) (now (cryptogram .entry)) (now (out .entry)) (now (tag .entry))) ⌝ }
+    ensures { λ r. ⌜ callResult r
+        (now (out .exit)) (now (tag .entry)) ≡ unwrapFrom5 sanse incremental (stateOf s) (handedFor (now (head .entry)) (now (metadata .entry)) (now (cryptogram .entry)) (now (out .entry)) (now (tag .entry))) ⌝ }
 {
     let n = cryptogram.len();
     let d = deck_of(s);
     let e = s.toggle;
     let a = metadata.len();
-    let number = check(s.opened, s.index, head.len() + a, a, n, tag.len(), out.len());
+    let string = head.len() + a;
+    let number = check(s.opened, s.index, string, a, n, tag.len(), out.len());
     if number != 0 {
         return result(number, 0, d, e, s.opened);
     }
@@ -274,8 +267,8 @@ pub fn wrap_envelope(
     out: &mut [u8],
     tag: &mut [u8],
 ) -> CallResult
-    ensures { λ r. ⌜ callResult r (now (out .exit)) (now (tag .exit))
-        ≡ wrapAt sanse incremental (stateOf s) (handedFor (now (header .entry)) (now (metadata .entry)) (now (message .entry)) (now (out .entry)) (now (tag .entry))) ⌝ }
+    ensures { λ r. ⌜ callResult r
+        (now (out .exit)) (now (tag .exit)) ≡ wrapAt sanse incremental (stateOf s) (handedFor (now (header .entry)) (now (metadata .entry)) (now (message .entry)) (now (out .entry)) (now (tag .entry))) ⌝ }
 {
     if !headers::fits(LETTER_S, header, metadata.len(), message.len()) {
         let d = deck_of(s);
@@ -294,8 +287,8 @@ pub fn unwrap_envelope(
     tag: &[u8],
     out: &mut [u8],
 ) -> CallResult
-    ensures { λ r. ⌜ callResult r (now (out .exit)) (now (tag .entry))
-        ≡ unwrapAt sanse incremental (stateOf s) (handedFor (now (header .entry)) (now (metadata .entry)) (now (cryptogram .entry)) (now (out .entry)) (now (tag .entry))) ⌝ }
+    ensures { λ r. ⌜ callResult r
+        (now (out .exit)) (now (tag .entry)) ≡ unwrapAt sanse incremental (stateOf s) (handedFor (now (header .entry)) (now (metadata .entry)) (now (cryptogram .entry)) (now (out .entry)) (now (tag .entry))) ⌝ }
 {
     if !headers::fits(LETTER_S, header, metadata.len(), cryptogram.len()) {
         let d = deck_of(s);

@@ -33,6 +33,6 @@ Unwrapped s i r s′ out tag = callResult (resultOf r s′) out tag ≡ unwrapAt
 abbrev pub lentStarts : Starts sanseKind
 lentStarts = startByRules sanseKind
 
--- and of wrap and unwrap
+-- and of wrap and unwrap, without an envelope and for one
 abbrev pub lentPromises : Promises sanseKind
 lentPromises = byRules sanseKind sanse

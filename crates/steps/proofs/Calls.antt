@@ -224,7 +224,7 @@ module _ (m : Mode) (s : SessionState DeckState) (head metadata text out tag : L
   string-long h w = omega (arith, w .metadata, length-append head metadata)
 
 -- the header plays no part in what a refusal leaves
-same-unless : (n : ℕ) (s : SessionState DeckState) (h g : CallHeader) (metadata text out tag : List ℕ) (o : Outcome DeckState)
+pub same-unless : (n : ℕ) (s : SessionState DeckState) (h g : CallHeader) (metadata text out tag : List ℕ) (o : Outcome DeckState)
     → ifNoCheck n s (headed h metadata text out tag) o ≡ ifNoCheck n s (headed g metadata text out tag) o
 same-unless zero s h g metadata text out tag o = refl
 same-unless (suc n) s h g metadata text out tag o = refl

@@ -9,23 +9,23 @@ use Rattle.groups.proofs.check.Tie as tie
 returns : tie.Need-returns
 returns c =
     let z = c .before .before .before .args in
-    check-before-10 (z .opened) (z .index) (z .a) (z .m) (z .tag) (z .out) _ _ (c .before .before .index-after .ensures) (c .before .first-check .ensures) (z .allowance) (z .spent) (c .if1 .taken)
+    check-before-10 (z .opened) (z .index) (z .string) (z .a) (z .m) (z .tag) (z .out) _ _ (c .before .before .index-after .ensures) (c .before .first-check .ensures) (z .allowance) (z .spent) (c .if1 .taken)
 
 call-count-requires : tie.Need-call-count-requires
 call-count-requires c κs =
     let z = c .before .before .before .args in
-    short-enough (z .opened) (c .before .before .index-after .result) (z .a) (z .m) (z .tag) (z .out) (sym (c .before .first-check .ensures) ∙ c .if1 .left)
+    short-enough (z .opened) (c .before .before .index-after .result) (z .string) (z .a) (z .m) (z .tag) (z .out) (c .before .before .before .pre) (sym (c .before .first-check .ensures) ∙ c .if1 .left)
 
 returns-2 : tie.Need-returns-2
 returns-2 c =
     let z = c .before .before .before .before .before .before .args in
-    check-10 (z .opened) (z .index) (z .a) (z .m) (z .tag) (z .out) _ _ (c .before .before .before .before .before .index-after .ensures) (c .before .before .before .before .first-check .ensures) (z .allowance) (z .spent) (c .before .before .before .if1 .left)
+    check-10 (z .opened) (z .index) (z .string) (z .a) (z .m) (z .tag) (z .out) _ _ (c .before .before .before .before .before .index-after .ensures) (c .before .before .before .before .first-check .ensures) (z .allowance) (z .spent) (c .before .before .before .if1 .left)
     _ (c .before .before .call-count .ensures .0) _ true (c .before .above-allowance .ensures) (c .if2 .taken)
 
 returns-3 : tie.Need-returns-3
 returns-3 c =
     let z = c .before .before .before .before .before .before .args in
-    check-10 (z .opened) (z .index) (z .a) (z .m) (z .tag) (z .out) _ _ (c .before .before .before .before .before .index-after .ensures) (c .before .before .before .before .first-check .ensures) (z .allowance) (z .spent) (c .before .before .before .if1 .left)
+    check-10 (z .opened) (z .index) (z .string) (z .a) (z .m) (z .tag) (z .out) _ _ (c .before .before .before .before .before .index-after .ensures) (c .before .before .before .before .first-check .ensures) (z .allowance) (z .spent) (c .before .before .before .if1 .left)
     _ (c .before .before .call-count .ensures .0) _ false (c .before .above-allowance .ensures) (c .if2 .left)
 
 pub check-spec : {M : Type 1} → statement M

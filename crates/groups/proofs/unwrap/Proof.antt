@@ -1,25 +1,17 @@
 -- `groups::unwrap` meets its contract. Assumes nothing.
+use mathlib.Core.Path.{_∙_}
 use denote.Ref.{now}
 use borrow.Author.Needs.{needs}
-use Rattle.groups.proofs.Counts.{unwrap-count}
-use Rattle.groups.proofs.Laws.{call-refused, call-fits, call-charged}
+use Rattle.groups.specs.Groups.{recordOf}
+use Rattle.groups.proofs.Laws.{bare-unwrap-day}
 use Rattle.groups.proofs.unwrap.Statement.{statement}
 use Rattle.groups.proofs.unwrap.Tie as tie
 
 returns : tie.Need-returns
 returns c =
-    let z = c .before .before .before .before .before .before .before .before .args in
-    call-refused (z .allowance) (z .r) (now (z .metadata)) (now (z .cryptogram)) (now (z .out)) (now (z .tag)) _ (c .before .before .check .ensures) _ _ (c .before .if1 .taken) (c .refused .ensures)
-
-charged-requires : tie.Need-charged-requires
-charged-requires c κs =
-    let z = c .before .before .before .before .before .before .before .before .before .before .before .args in
-    call-fits (z .allowance) (z .r) (now (z .metadata)) (now (z .cryptogram)) (now (z .out)) (now (z .tag)) _ (c .before .before .before .before .before .check .ensures) _ (c .before .before .unwrap .result) _ _ (unwrap-count _ _) (c .before .before .before .before .if1 .left) (c .before .before .unwrap .ensures)
-
-returns-2 : tie.Need-returns-2
-returns-2 c =
-    let z = c .before .before .before .before .before .before .before .before .before .before .before .before .args in
-    call-charged (z .allowance) (z .r) (now (z .metadata)) (now (z .cryptogram)) (now (z .out)) (now (z .tag)) _ (c .before .before .before .before .before .before .check .ensures) _ (c .before .before .before .unwrap .result) _ _ _ (c .before .before .before .before .before .if1 .left) (c .before .before .before .unwrap .ensures) (c .charged .ensures)
+    let w = c .before .before in
+    let z = w .before .before .before .before .before .before .before .args in
+    w .unwrap-string .ensures ∙ bare-unwrap-day (z .allowance) (recordOf (z .r)) (now (z .metadata)) (now (z .cryptogram)) (now (z .out)) (now (z .tag))
 
 pub unwrap-spec : {M : Type 1} → statement M
-unwrap-spec = tie.close (tie.spec (λ c κs. search needs) (λ c κs. search needs) returns (λ c κs. search needs) charged-requires (λ c. search needs) returns-2)
+unwrap-spec = tie.close (tie.spec (λ c. search needs) (λ c κs. search needs) (λ c. search needs) returns)

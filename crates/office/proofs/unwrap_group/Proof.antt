@@ -43,11 +43,11 @@ use denote.Triple.Table.{entered, cited}
 use denote.Triple.Walked.{says, Stays, stay-slice, gave-slice, stay-dropped, walkOf, AllGo, goes-slice, goes-gave-slice, goes-dropped, Walks, ends-at, walked, walk-meets}
 use denote.Exit.{yes}
 use Rattle.modes.specs.Mode.{sanse, incremental}
-use Rattle.modes.specs.Rules.{unwrapAt}
+use Rattle.modes.specs.Rules.{unwrapFrom5}
 use Rattle.sanse.specs.Session.{handed}
 use Rattle.groups.specs.Groups.{unwrapOnDay, recordOf, groupResult}
 use Rattle.office.specs.Table.{noGroup, refused3, unwrapGroupAt, zeroRecord, tableOf, tableResult}
-use Rattle.office.proofs.Laws.{met, unmet, inside, start-fits, call-refused, call-stored}
+use Rattle.office.proofs.Laws.{met, unmet, inside, start-fits, bare-refused, bare-stored}
 use Rattle.groups.specs.declared.Record.{Record}
 use Rattle.groups.specs.declared.GroupResult.{GroupResult}
 use Rattle.groups.proofs.Record as T
@@ -230,7 +230,7 @@ module _ {M : Type 1} (𝓤 : URA M) (H : Heap 𝓤) (A : Atoms 𝓤) (W : Given
         returns-within ! Post refl (look ! 30 refl) $
         forget ! 10 refl $ forget ! 12 refl $ forget ! 16 refl $ forget ! 18 refl $ forget ! 20 refl $ forget ! 22 refl $ forget ! 24 refl $ forget ! 26 refl $ forget ! 28 refl $ forget ! 30 refl $
         move ! (30 ∷ 31 ∷ []) $ free1 ! $ move ! (28 ∷ 29 ∷ []) $ free1 ! $ move ! (26 ∷ 27 ∷ []) $ free1 ! $ move ! (24 ∷ 25 ∷ []) $ free1 ! $ move ! (22 ∷ 23 ∷ []) $ free1 ! $ move ! (20 ∷ 21 ∷ []) $ free1 ! $ move ! (18 ∷ 19 ∷ []) $ free1 ! $ move ! (16 ∷ 17 ∷ []) $ free1 ! $ move ! (14 ∷ 15 ∷ []) $ free1 ! $ move ! (12 ∷ 13 ∷ []) $ free1 ! $ move ! (10 ∷ 11 ∷ []) $ free1 ! $ move ! (8 ∷ 9 ∷ []) $ free1 ! $ move ! (6 ∷ 7 ∷ []) $ free1 ! $ move ! (4 ∷ 5 ∷ []) $ free1 ! $ move ! (2 ∷ 3 ∷ []) $ free1 ! $ free1 ! $ free0 ! $
-        by ! (refuses r-refused3 is (call-refused (unwrapAt sanse incremental) allowance (handed (x-metadata .now) (x-cryptogram .now) (x-out .now) (x-tag .now)) ys g (met e-no-group none) r-refused3 e-refused3)))))))))
+        by ! (refuses r-refused3 is (bare-refused (unwrapFrom5 sanse incremental) allowance (handed (x-metadata .now) (x-cryptogram .now) (x-out .now) (x-tag .now)) refl ys g (met e-no-group none) r-refused3 e-refused3)))))))))
         (λ has. skips ! $ exec ! C Λ (E l₀ l₁ l₂ l₃ l₄ l₅ l₆ l₇ l₈ l₉ l₁₀ l₁₁ l₁₂ l₁₃ l₁₄ l₁₅) m.t-4 (atRet (E l₀ l₁ l₂ l₃ l₄ l₅ l₆ l₇ l₈ l₉ l₁₀ l₁₁ l₁₂ l₁₃ l₁₄ l₁₅) Post) $
         assigns ! (bin ! (load ! (from ! (stop !)) (look ! 26 refl)) (lit ! tt) (record { fits = start-fits (length ys) g (unmet e-no-group has) })) (from ! (stop !)) (store ! 10 refl (tt, record { fits = start-fits (length ys) g (unmet e-no-group has) })) $
         assigns ! (bin ! (load ! (from ! (fld ! refl (stop !))) (look-in ! 28 (sub ! 0 refl (whole !)))) (load ! (from ! (stop !)) (look ! 10 refl)) tt) (from ! (stop !)) (init ! 8 refl (tt, tt)) $
@@ -268,7 +268,7 @@ module _ {M : Type 1} (𝓤 : URA M) (H : Heap 𝓤) (A : Atoms 𝓤) (W : Given
         returns ! (look ! 37 refl) $
         forget ! 7 refl $ forget ! 9 refl $ forget ! 11 refl $ forget ! 13 refl $ forget ! 15 refl $ forget ! 17 refl $ forget ! 19 refl $ forget ! 21 refl $ forget ! 23 refl $ forget ! 25 refl $ forget ! 27 refl $ forget ! 29 refl $ forget ! 31 refl $ forget ! 33 refl $ forget ! 35 refl $ forget ! 37 refl $
         move ! (37 ∷ 38 ∷ []) $ free1 ! $ move ! (35 ∷ 36 ∷ []) $ free1 ! $ move ! (33 ∷ 34 ∷ []) $ free1 ! $ move ! (31 ∷ 32 ∷ []) $ free1 ! $ move ! (29 ∷ 30 ∷ []) $ free1 ! $ move ! (27 ∷ 28 ∷ []) $ free1 ! $ move ! (25 ∷ 26 ∷ []) $ free1 ! $ move ! (23 ∷ 24 ∷ []) $ free1 ! $ move ! (21 ∷ 22 ∷ []) $ free1 ! $ move ! (19 ∷ 20 ∷ []) $ free1 ! $ move ! (17 ∷ 18 ∷ []) $ free1 ! $ move ! (15 ∷ 16 ∷ []) $ free1 ! $ move ! (13 ∷ 14 ∷ []) $ free1 ! $ move ! (11 ∷ 12 ∷ []) $ free1 ! $ move ! (9 ∷ 10 ∷ []) $ free1 ! $ move ! (7 ∷ 8 ∷ []) $ free1 ! $ free0 ! $
-        keep ! (0 ∷ 1 ∷ 5 ∷ 4 ∷ 3 ∷ 2 ∷ 6 ∷ []) $ by ! (exits (record { number = r .number; count = r .count }) (set ys g (r .left)) (zs .1 .1 .1 .1 .1 .0) (result-of r is) (length-set ys g (r .left)) len-out (call-stored (unwrapAt sanse incremental) allowance (handed (x-metadata .now) (x-cryptogram .now) (x-out .now) (x-tag .now)) ys g (unmet e-no-group has) r e))))))))))))))))))))))))))))))))
+        keep ! (0 ∷ 1 ∷ 5 ∷ 4 ∷ 3 ∷ 2 ∷ 6 ∷ []) $ by ! (exits (record { number = r .number; count = r .count }) (set ys g (r .left)) (zs .1 .1 .1 .1 .1 .0) (result-of r is) (length-set ys g (r .left)) len-out (bare-stored (unwrapFrom5 sanse incremental) allowance (handed (x-metadata .now) (x-cryptogram .now) (x-out .now) (x-tag .now)) refl ys g (unmet e-no-group has) r e))))))))))))))))))))))))))))))))
 
 module _ {M : Type 1} (𝓤 : URA M) (H : Heap 𝓤) (A : Atoms 𝓤) (W : Given 𝓤 H A) (at-mem : Memory → SProp 𝓤) (run : Routine → Fun 𝓤) where
   f-walks : (C : Calls 𝓤 H) (Λ : Loops 𝓤 H) → FmC 𝓤 H (W .laws) C → Triple 𝓤 (C #core) (Core 𝓤 H A at-mem run) → Triple 𝓤 (C #no-group) (Callee-no-group 𝓤 H A at-mem run) → Triple 𝓤 (C #refused3) (Callee-refused3 𝓤 H A at-mem run) → Walks 𝓤 H A f.ended stayed (WpFn 𝓤 H C Λ code.function) (f.clauses 𝓤 H A at-mem run)

@@ -43,11 +43,11 @@ use denote.Triple.Table.{entered, cited}
 use denote.Triple.Walked.{says, Stays, stay-slice, gave-slice, stay-dropped, walkOf, AllGo, goes-slice, goes-gave-slice, goes-dropped, Walks, ends-at, walked, walk-meets}
 use denote.Exit.{yes}
 use Rattle.modes.specs.Mode.{sanse, incremental}
-use Rattle.modes.specs.Rules.{wrapAt}
+use Rattle.modes.specs.Rules.{wrapFrom5}
 use Rattle.sanse.specs.Session.{handed}
 use Rattle.groups.specs.Groups.{wrapOnDay, recordOf, groupResult}
 use Rattle.office.specs.Table.{noGroup, refused3, wrapGroupAt, zeroRecord, tableOf, tableResult}
-use Rattle.office.proofs.Laws.{met, unmet, inside, start-fits, call-refused, call-stored}
+use Rattle.office.proofs.Laws.{met, unmet, inside, start-fits, bare-refused, bare-stored}
 use Rattle.groups.specs.declared.Record.{Record}
 use Rattle.groups.specs.declared.GroupResult.{GroupResult}
 use Rattle.groups.proofs.Record as T
@@ -230,7 +230,7 @@ module _ {M : Type 1} (𝓤 : URA M) (H : Heap 𝓤) (A : Atoms 𝓤) (W : Given
         returns-within ! Post refl (look ! 34 refl) $
         forget ! 14 refl $ forget ! 16 refl $ forget ! 20 refl $ forget ! 22 refl $ forget ! 24 refl $ forget ! 26 refl $ forget ! 28 refl $ forget ! 30 refl $ forget ! 32 refl $ forget ! 34 refl $
         move ! (34 ∷ 35 ∷ []) $ free1 ! $ move ! (32 ∷ 33 ∷ []) $ free1 ! $ move ! (30 ∷ 31 ∷ []) $ free1 ! $ move ! (28 ∷ 29 ∷ []) $ free1 ! $ move ! (26 ∷ 27 ∷ []) $ free1 ! $ move ! (24 ∷ 25 ∷ []) $ free1 ! $ move ! (22 ∷ 23 ∷ []) $ free1 ! $ move ! (20 ∷ 21 ∷ []) $ free1 ! $ move ! (18 ∷ 19 ∷ []) $ free1 ! $ move ! (16 ∷ 17 ∷ []) $ free1 ! $ move ! (14 ∷ 15 ∷ []) $ free1 ! $ move ! (12 ∷ 13 ∷ []) $ free1 ! $ move ! (10 ∷ 11 ∷ []) $ free1 ! $ move ! (8 ∷ 9 ∷ []) $ free1 ! $ move ! (6 ∷ 7 ∷ []) $ free1 ! $ move ! (4 ∷ 5 ∷ []) $ free1 ! $ move ! (2 ∷ 3 ∷ []) $ free1 ! $ free1 ! $ free0 ! $
-        by ! (refuses r-refused3 is (call-refused (wrapAt sanse incremental) allowance (handed (x-metadata .now) (x-message .now) (x-out .now) (x-tag .now)) ys g (met e-no-group none) r-refused3 e-refused3)))))))))
+        by ! (refuses r-refused3 is (bare-refused (wrapFrom5 sanse incremental) allowance (handed (x-metadata .now) (x-message .now) (x-out .now) (x-tag .now)) refl ys g (met e-no-group none) r-refused3 e-refused3)))))))))
         (λ has. skips ! $ exec ! C Λ (E l₀ l₁ l₂ l₃ l₄ l₅ l₆ l₇ l₈ l₉ l₁₀ l₁₁ l₁₂ l₁₃ l₁₄ l₁₅ l₁₆ l₁₇) m.t-4 (atRet (E l₀ l₁ l₂ l₃ l₄ l₅ l₆ l₇ l₈ l₉ l₁₀ l₁₁ l₁₂ l₁₃ l₁₄ l₁₅ l₁₆ l₁₇) Post) $
         assigns ! (bin ! (load ! (from ! (stop !)) (look ! 30 refl)) (lit ! tt) (record { fits = start-fits (length ys) g (unmet e-no-group has) })) (from ! (stop !)) (store ! 14 refl (tt, record { fits = start-fits (length ys) g (unmet e-no-group has) })) $
         assigns ! (bin ! (load ! (from ! (fld ! refl (stop !))) (look-in ! 32 (sub ! 0 refl (whole !)))) (load ! (from ! (stop !)) (look ! 14 refl)) tt) (from ! (stop !)) (init ! 12 refl (tt, tt)) $
@@ -270,7 +270,7 @@ module _ {M : Type 1} (𝓤 : URA M) (H : Heap 𝓤) (A : Atoms 𝓤) (W : Given
         returns ! (look ! 42 refl) $
         forget ! 8 refl $ forget ! 10 refl $ forget ! 12 refl $ forget ! 14 refl $ forget ! 16 refl $ forget ! 18 refl $ forget ! 20 refl $ forget ! 22 refl $ forget ! 24 refl $ forget ! 26 refl $ forget ! 28 refl $ forget ! 30 refl $ forget ! 32 refl $ forget ! 34 refl $ forget ! 36 refl $ forget ! 38 refl $ forget ! 40 refl $ forget ! 42 refl $
         move ! (42 ∷ 43 ∷ []) $ free1 ! $ move ! (40 ∷ 41 ∷ []) $ free1 ! $ move ! (38 ∷ 39 ∷ []) $ free1 ! $ move ! (36 ∷ 37 ∷ []) $ free1 ! $ move ! (34 ∷ 35 ∷ []) $ free1 ! $ move ! (32 ∷ 33 ∷ []) $ free1 ! $ move ! (30 ∷ 31 ∷ []) $ free1 ! $ move ! (28 ∷ 29 ∷ []) $ free1 ! $ move ! (26 ∷ 27 ∷ []) $ free1 ! $ move ! (24 ∷ 25 ∷ []) $ free1 ! $ move ! (22 ∷ 23 ∷ []) $ free1 ! $ move ! (20 ∷ 21 ∷ []) $ free1 ! $ move ! (18 ∷ 19 ∷ []) $ free1 ! $ move ! (16 ∷ 17 ∷ []) $ free1 ! $ move ! (14 ∷ 15 ∷ []) $ free1 ! $ move ! (12 ∷ 13 ∷ []) $ free1 ! $ move ! (10 ∷ 11 ∷ []) $ free1 ! $ move ! (8 ∷ 9 ∷ []) $ free1 ! $ free0 ! $
-        keep ! (0 ∷ 1 ∷ 5 ∷ 4 ∷ 3 ∷ 2 ∷ 7 ∷ 6 ∷ []) $ by ! (exits (record { number = r .number; count = r .count }) (set ys g (r .left)) (zs .1 .1 .1 .1 .0) (zs .1 .1 .1 .1 .1 .0) (result-of r is) (length-set ys g (r .left)) len-out len-tag (call-stored (wrapAt sanse incremental) allowance (handed (x-metadata .now) (x-message .now) (x-out .now) (x-tag .now)) ys g (unmet e-no-group has) r e)))))))))))))))))))))))))))))))))))
+        keep ! (0 ∷ 1 ∷ 5 ∷ 4 ∷ 3 ∷ 2 ∷ 7 ∷ 6 ∷ []) $ by ! (exits (record { number = r .number; count = r .count }) (set ys g (r .left)) (zs .1 .1 .1 .1 .0) (zs .1 .1 .1 .1 .1 .0) (result-of r is) (length-set ys g (r .left)) len-out len-tag (bare-stored (wrapFrom5 sanse incremental) allowance (handed (x-metadata .now) (x-message .now) (x-out .now) (x-tag .now)) refl ys g (unmet e-no-group has) r e)))))))))))))))))))))))))))))))))))
 
 module _ {M : Type 1} (𝓤 : URA M) (H : Heap 𝓤) (A : Atoms 𝓤) (W : Given 𝓤 H A) (at-mem : Memory → SProp 𝓤) (run : Routine → Fun 𝓤) where
   f-walks : (C : Calls 𝓤 H) (Λ : Loops 𝓤 H) → FmC 𝓤 H (W .laws) C → Triple 𝓤 (C #core) (Core 𝓤 H A at-mem run) → Triple 𝓤 (C #no-group) (Callee-no-group 𝓤 H A at-mem run) → Triple 𝓤 (C #refused3) (Callee-refused3 𝓤 H A at-mem run) → Walks 𝓤 H A f.ended stayed (WpFn 𝓤 H C Λ code.function) (f.clauses 𝓤 H A at-mem run)

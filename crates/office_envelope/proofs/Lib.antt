@@ -1,0 +1,3 @@
+-- Laws that belong to no one function, and the clauses of the two calls.
+pub mod Laws
+pub mod Contracts
