@@ -31,10 +31,10 @@ fn three_groups() -> Folder {
 fn delivered(folder: &Folder, turn: usize, group: u32, metadata: Vec<u8>, message: Vec<u8>) {
     folder.write("metadata", &metadata);
     folder.write("message", &message);
-    let (from, to) = if turn % 2 == 0 {
-        (format!("office --state office seal --group {group}"), format!("group --state group-{group} open"))
-    } else {
+    let (from, to) = if turn % 2 == 1 {
         (format!("group --state group-{group} seal"), "office --state office open".to_string())
+    } else {
+        (format!("office --state office seal --group {group}"), format!("group --state group-{group} open"))
     };
     folder.done_anew(&format!("{from} --metadata metadata --message message --out envelope"));
     folder.done_anew(&format!("{to} --in envelope --out opened --metadata-out opened-metadata"));
