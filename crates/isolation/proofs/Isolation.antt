@@ -41,9 +41,9 @@ module _ (allowance g : ℕ) (less : g < 32) where
     unfolding allGiven allLeft
     for-g e =
         let small : c .group < 32 = subst (λ (k : ℕ). k < 32) (sym e) less in
-        let gave : x ≡ givenBy allowance (c .request) (held from g) = s .given n small ∙ ap (λ (k : ℕ). givenBy allowance (c .request) (held from k)) e in
-        let is : held next g ≡ leftBy allowance (c .request) (held from g)
-        = ap (held next) (sym e) ∙ s .left n small ∙ ap (λ (k : ℕ). leftBy allowance (c .request) (held from k)) e in (
+        let gave : x ≡ givenBy allowance c (held from g) = s .given n small ∙ ap (λ (k : ℕ). givenBy allowance c (held from k)) e in
+        let is : held next g ≡ leftBy allowance c (held from g)
+        = ap (held next) (sym e) ∙ s .left n small ∙ ap (λ (k : ℕ). leftBy allowance c (held from k)) e in (
           ap₂ {C = List Given} (λ y ys. y ∷ ys) gave (rest .given ∙ ap (allGiven allowance (callsFor g cs)) is),
           rest .left ∙ ap (allLeft allowance (callsFor g cs)) is,
         )

@@ -1,6 +1,7 @@
 -- Lists of calls for the groups of a table, each known only by its function's promise (document 02, request 4: "the same calls for that group in
 -- the same order, with the same bytes and buffers and nothing else writing the rows"; its row is the table here), and which of them are the
--- calls for one group. Openings, wraps and unwraps; no start of a day and no nearly-full question is among them. Assumes nothing.
+-- calls for one group. Openings, and wraps and unwraps of both sorts, without an envelope and for one (request 7), in any mixture; no start of a
+-- day and no nearly-full question is among them. Assumes nothing.
 use mathlib.Core.Bool.{cond}
 use mathlib.Core.List.{List, [], _∷_}
 use mathlib.Core.Path.{_≡_}
@@ -17,7 +18,8 @@ use Rattle.office.specs.Table.{tableOf, dayResult, tableResult, openingResult, 
 abbrev pub Opened : (allowance : ℕ) (from : List Record) (group : ℕ) (key : List ℕ) → Answer → (to : List Record) → Type 0
 Opened allowance from group key r to = openingResult r to ≡ openGroupAt allowance (tableOf from) group key
 
--- a wrap for a group, handed i, answered r and left the records `to`, the output buffer out and the tag buffer tag
+-- a wrap for a group, handed i, answered r and left the records `to`, the output buffer out and the tag buffer tag: where i has no header, that is
+-- the promise of the office's wrap for a group, and where it has one, that of its wrap for a group and an envelope
 abbrev pub Wrapped : (allowance : ℕ) (from : List Record) (group : ℕ) → CallInput → Answer → (to : List Record) → (out tag : List ℕ) → Type 0
 Wrapped allowance from group i r to out tag = tableResult r to out tag ≡ wrapGroupAt allowance (tableOf from) group i
 
@@ -31,7 +33,8 @@ DayStarted allowance from r to = dayResult r to ≡ startDayAt allowance (tableO
 
 -- ---- calls
 
--- what is asked of a group, with all that the call is handed beside the table, the group and the allowance: the bytes, and the buffers as they are
+-- what is asked of a group, with all that the call is handed beside the table, the group and the allowance: the bytes, those of a header among them
+-- where the call is for an envelope, and the buffers as they are
 pub data Request : Type 0 where
   opening : (key : List ℕ) → Request
   wrap : CallInput → Request

@@ -2,11 +2,12 @@
 -- differ or fall between, until the next day is started. One claim about whole lists of calls (`Calls`), and what pins it from the other side.
 -- Assumes nothing.
 use mathlib.Core.List.{List, [], _∷_, _++_}
-use mathlib.Core.Logic.{_≢_}
+use mathlib.Core.Logic.{_≢_, _⊎_}
 use mathlib.Core.Path.{_≡_}
 use Prim.Native.Nat.{ℕ, _<_}
 use lib.ListN.{length, getD}
 use Rattle.modes.specs.Call.{CallInput}
+use Rattle.sanse.specs.Session.{handed, handedFor}
 use Rattle.groups.specs.declared.Record.{Record}
 use Rattle.office.specs.Table.{zeroRecord}
 use Rattle.isolation.specs.Calls.{Opened, Wrapped, Unwrapped, DayStarted, opening, wrap, unwrap, GroupCall, Given, Run, callsFor, givenTo}
@@ -47,6 +48,12 @@ AsAlone =
     → (givenTo g cs gs ≡ hs) × (recordAt l′ g ≡ recordAt m′ g)
 
 -- ---- the other side: what the claims speak of is there, and is what it is called
+
+-- a wrap or an unwrap is handed what the function without an envelope is handed, or what the one for an envelope is; so each of a list is known by
+-- the promise of one of them (`proofs/Contracts.antt`)
+abbrev pub BothSorts : Type 0
+BothSorts =
+    (i : CallInput) → (i ≡ handed (i .metadata) (i .text) (i .out) (i .tag)) ⊎ ((x : List ℕ) × (i ≡ handedFor x (i .metadata) (i .text) (i .out) (i .tag)))
 
 -- every list of calls has a run, from any records and under any allowance, and a day can be started over any records
 pub record RunsExist : Type 0 where
