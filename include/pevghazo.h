@@ -4,7 +4,7 @@
  *     pevghazo/session.h    a lone session in SANSE
  *     pevghazo/sane.h       a lone session in SANE, for groups that keep a counter; a nonce must not repeat under one key
  *     pevghazo/table.h      the office's table of 32 sessions, each with its count of the day
- *     pevghazo/envelope.h   the bytes in which a message travels
+ *     pevghazo/envelope.h   the bytes in which a message travels, with a header that stands under the tag
  *     pevghazo/codes.h      codes for packets of rings
  *     pevghazo/pool.h       a pool of unused rings, which issue lines bring back
  *     pevghazo/stored.h     a session of either mode as bytes, for storing it
@@ -26,6 +26,9 @@
  *     (A refused pevghazo_open_group leaves the group's record.)
  *   - Number 11 returns the real count, adds it to the group's count in the table, and sets the first bytes of the output buffer, as many as
  *     the cryptogram has, to zero. The session stays as it was.
+ *
+ * A message that travels in an envelope is wrapped and unwrapped by the calls for an envelope: their names have `_envelope`, they are handed its
+ * header, and they put it under the tag. They meet 1 before every other check. Both ends use them, or neither: envelope.h says more.
  *
  * On success the bytes of a buffer beyond the text keep their content. A refused wrap leaves the output buffer as it was, so a program that
  * does not look at the number might send what stood there before: compilers warn of it (PEVGHAZO_MUST_USE).

@@ -1,4 +1,22 @@
-/* Pevghazo: envelopes, the bytes in which messages travel. What all functions share is said in pevghazo.h. */
+/* Pevghazo: envelopes, the bytes in which messages travel. What all functions share is said in pevghazo.h.
+ *
+ * An envelope is its header, the metadata, the cryptogram and the tag. The header is `S,group,metadata length,message length,` in decimal, the
+ * longest of 17 bytes.
+ *
+ * The header belongs under the tag: the calls for an envelope (pevghazo_wrap_envelope and the others of session.h, sane.h and table.h) are handed
+ * it, and what they take for metadata in history, tag and count is the header's bytes followed by the metadata. So an envelope whose header was
+ * altered on its way is refused: by 1 where its letter, its lengths or, in the table, its group are not those of the call, and otherwise by 11,
+ * as the tag is that of another text. The limit on the metadata is that on the metadata alone.
+ *
+ *     sealing    pevghazo_write_header, pevghazo_wrap_envelope with that header, pevghazo_write_envelope
+ *     opening    pevghazo_read_envelope, pevghazo_unwrap_envelope with the header of the envelope, its bytes from 0 up to `metadata`
+ *
+ * The calls without an envelope (pevghazo_wrap and the others) put no header under the tag. What was wrapped by one sort is unwrapped by the same
+ * sort, with the same header; both may be mixed in one session. Metadata that begin with the bytes of a header, handed to a call without an
+ * envelope, are the same text as header and metadata of a call for one: who uses both sorts keeps them apart by what the metadata begin with.
+ *
+ * ENVELOPES SEALED BEFORE VERSION 0.8.0 had no header under the tag: opened as above they are refused by 11. So both ends move to this version
+ * together. */
 #ifndef PEVGHAZO_ENVELOPE_H
 #define PEVGHAZO_ENVELOPE_H
 
@@ -18,7 +36,8 @@ enum {
 };
 
 /* An envelope as it was read: its number, its letter, the group, the places where metadata, cryptogram and tag begin, and the place after it.
- * The metadata reach up to the cryptogram, the cryptogram up to the tag, the tag up to `place`. All but the number are 0 on a refusal. */
+ * The header reaches from 0 up to the metadata, the metadata up to the cryptogram, the cryptogram up to the tag, the tag up to `place`. All but
+ * the number are 0 on a refusal. */
 typedef struct pevghazo_parts {
     uint32_t number;
     uint8_t letter;
@@ -37,7 +56,7 @@ PEVGHAZO_LAYOUT(parts_cryptogram, offsetof(pevghazo_parts, cryptogram) == 24);
 PEVGHAZO_LAYOUT(parts_tag, offsetof(pevghazo_parts, tag) == 32);
 PEVGHAZO_LAYOUT(parts_place, offsetof(pevghazo_parts, place) == 40);
 
-/* An envelope as it was written: the number, and how many bytes it has, or 0. */
+/* An envelope, or a header, as it was written: the number, and how many bytes it has, or 0. */
 typedef struct pevghazo_written {
     uint32_t number;
     size_t len;
@@ -52,6 +71,11 @@ PEVGHAZO_MUST_USE pevghazo_parts pevghazo_read_envelope(const uint8_t *bytes, si
 PEVGHAZO_MUST_USE pevghazo_written pevghazo_write_envelope(uint8_t letter, uint32_t group, const uint8_t *metadata, size_t metadata_len,
                                                            const uint8_t *cryptogram, size_t cryptogram_len, const uint8_t *tag,
                                                            size_t tag_len, uint8_t *out, size_t out_len);
+
+/* Writes the header alone of an envelope with these lengths of metadata and message, at the start of `out`; PEVGHAZO_HEADER_MAX bytes are always
+ * enough. Checks 1, 3, 6, 8. Number 1 is a letter that is neither S nor N, 6 a length, 8 a buffer shorter than the header. */
+PEVGHAZO_MUST_USE pevghazo_written pevghazo_write_header(uint8_t letter, uint32_t group, size_t metadata_len, size_t message_len, uint8_t *out,
+                                                         size_t out_len);
 
 #ifdef __cplusplus
 }

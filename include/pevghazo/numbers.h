@@ -11,7 +11,7 @@ extern "C" {
 /* Numbers, in the order in which they are checked; but a code meets 5, 12, 8, in this order. */
 enum {
     PEVGHAZO_ACCEPTED = 0,
-    PEVGHAZO_BAD_HEADER = 1,     /* the envelope's header does not follow the layout */
+    PEVGHAZO_BAD_HEADER = 1,     /* the envelope's header does not follow the layout, or is not the one of the call */
     PEVGHAZO_TOO_FEW_BYTES = 2,  /* fewer bytes follow the header than its lengths and the tag's together */
     PEVGHAZO_BAD_GROUP = 3,      /* the table does not hold 32 records, or the group is above 31 */
     PEVGHAZO_BAD_KEY = 4,        /* the key does not have 16 to 47 bytes */

@@ -205,7 +205,9 @@ use Rattle.pool.specs.Pool.{runsOf}''',
 # ---- that hand all their parameters on: capi
 
 PASSING = (
-    [f'capi::c_session::pevghazo_{function}' for function in ('start', 'wrap', 'unwrap')] + ['capi::c_codes::pevghazo_code']
-    + [f'capi::c_sane::pevghazo_sane_{function}' for function in ('start', 'wrap', 'unwrap')]
-    + [f'capi::c_table::pevghazo_{function}' for function in ('start_day', 'open_group', 'wrap_group', 'unwrap_group')]
+    [f'capi::c_session::pevghazo_{function}' for function in ('start', 'wrap', 'unwrap', 'wrap_envelope', 'unwrap_envelope')]
+    + ['capi::c_codes::pevghazo_code']
+    + [f'capi::c_sane::pevghazo_sane_{function}' for function in ('start', 'wrap', 'unwrap', 'wrap_envelope', 'unwrap_envelope')]
+    + [f'capi::c_table::pevghazo_{function}'
+       for function in ('start_day', 'open_group', 'wrap_group', 'unwrap_group', 'wrap_envelope_group', 'unwrap_envelope_group')]
     + [f'capi::c_pool::pevghazo_pool_{function}' for function in ('add', 'holds', 'rings')])

@@ -1,7 +1,7 @@
-// Envelopes: where the parts of one stand, and the bytes of one.
+// Envelopes: where the parts of one stand, the bytes of one, and a header alone.
 ghost use mathlib.Core.Path.{_≡_};
 ghost use Rattle.envelope.specs.Read.{readParts};
-ghost use Rattle.envelope_write.specs.Write.{writeAnswer, writeBuffer};
+ghost use Rattle.envelope_write.specs.Write.{writeAnswer, writeBuffer, headerAnswer, headerBuffer};
 use envelope::Parts;
 use envelope_write::WriteResult;
 
@@ -27,4 +27,19 @@ pub extern "C" fn pevghazo_write_envelope(
         × (now (out .exit) ≡ writeBuffer letter group (now (metadata .entry)) (now (cryptogram .entry)) (now (tag .entry)) (now (out .entry))) ⌝ }
 {
     envelope_write::write_envelope(letter, group, metadata, cryptogram, tag, out)
+}
+
+// Writes a header alone to the start of `out`, for these lengths of metadata and message, and gives how many bytes that are. Checks 1, 3, 6 and 8.
+#[no_mangle]
+pub extern "C" fn pevghazo_write_header(
+    letter: u8,
+    group: u32,
+    alen: usize,
+    mlen: usize,
+    out: &mut [u8],
+) -> WriteResult
+    ensures { λ r. ⌜ (r ≡ headerAnswer letter group alen mlen (now (out .entry)))
+        × (now (out .exit) ≡ headerBuffer letter group alen mlen (now (out .entry))) ⌝ }
+{
+    envelope_write::write_header(letter, group, alen, mlen, out)
 }

@@ -1,5 +1,5 @@
 // A lone session of SANE: one record of a type of its own, lent to each call.
-ghost use Rattle.sane.specs.Session.{handed};
+ghost use Rattle.sane.specs.Session.{handed, handedFor};
 ghost use Rattle.sane_session.specs.Lent.{Started, Wrapped, Unwrapped};
 use sane::SaneSession;
 use session::Answer;
@@ -46,4 +46,41 @@ pub extern "C" fn pevghazo_sane_unwrap(
         r (now (session .exit)) (now (out .exit)) (now (tag .entry)) ⌝ }
 {
     sane_session::unwrap(session, metadata, cryptogram, tag, out)
+}
+
+// ---- calls for an envelope, whose header's bytes go before the metadata under the tag
+
+// Wraps a message for the envelope with this header: one of the layout with letter N and the lengths of metadata and message, of any group. Check 1,
+// and then 5 to 9.
+#[no_mangle]
+pub extern "C" fn pevghazo_sane_wrap_envelope(
+    session: &mut SaneSession,
+    header: &[u8],
+    metadata: &[u8],
+    message: &[u8],
+    out: &mut [u8],
+    tag: &mut [u8],
+) -> Answer
+    ensures { λ r. ⌜ Wrapped (now (session .entry))
+        (handedFor (now (header .entry)) (now (metadata .entry)) (now (message .entry)) (now (out .entry)) (now (tag .entry))) r
+        (now (session .exit)) (now (out .exit)) (now (tag .exit)) ⌝ }
+{
+    sane_session::wrap_envelope(session, header, metadata, message, out, tag)
+}
+
+// Unwraps the cryptogram of the envelope with this header: the message goes to the start of `out`. Check 1, and then 5 to 9 and 11.
+#[no_mangle]
+pub extern "C" fn pevghazo_sane_unwrap_envelope(
+    session: &mut SaneSession,
+    header: &[u8],
+    metadata: &[u8],
+    cryptogram: &[u8],
+    tag: &[u8],
+    out: &mut [u8],
+) -> Answer
+    ensures { λ r. ⌜ Unwrapped (now (session .entry))
+        (handedFor (now (header .entry)) (now (metadata .entry)) (now (cryptogram .entry)) (now (out .entry)) (now (tag .entry))) r
+        (now (session .exit)) (now (out .exit)) (now (tag .entry)) ⌝ }
+{
+    sane_session::unwrap_envelope(session, header, metadata, cryptogram, tag, out)
 }

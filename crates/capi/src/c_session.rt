@@ -1,5 +1,5 @@
 // A lone session: one record, lent to each call.
-ghost use Rattle.sanse.specs.Session.{handed};
+ghost use Rattle.sanse.specs.Session.{handed, handedFor};
 ghost use Rattle.session.specs.Lent.{Started, Wrapped, Unwrapped};
 use sanse::Session;
 use session::Answer;
@@ -41,4 +41,41 @@ pub extern "C" fn pevghazo_unwrap(
         r (now (session .exit)) (now (out .exit)) (now (tag .entry)) ⌝ }
 {
     session::unwrap(session, metadata, cryptogram, tag, out)
+}
+
+// ---- calls for an envelope, whose header's bytes go before the metadata under the tag
+
+// Wraps a message for the envelope with this header: one of the layout with letter S and the lengths of metadata and message, of any group. Check 1,
+// and then 5 to 9.
+#[no_mangle]
+pub extern "C" fn pevghazo_wrap_envelope(
+    session: &mut Session,
+    header: &[u8],
+    metadata: &[u8],
+    message: &[u8],
+    out: &mut [u8],
+    tag: &mut [u8],
+) -> Answer
+    ensures { λ r. ⌜ Wrapped (now (session .entry))
+        (handedFor (now (header .entry)) (now (metadata .entry)) (now (message .entry)) (now (out .entry)) (now (tag .entry))) r
+        (now (session .exit)) (now (out .exit)) (now (tag .exit)) ⌝ }
+{
+    session::wrap_envelope(session, header, metadata, message, out, tag)
+}
+
+// Unwraps the cryptogram of the envelope with this header: the message goes to the start of `out`. Check 1, and then 5 to 9 and 11.
+#[no_mangle]
+pub extern "C" fn pevghazo_unwrap_envelope(
+    session: &mut Session,
+    header: &[u8],
+    metadata: &[u8],
+    cryptogram: &[u8],
+    tag: &[u8],
+    out: &mut [u8],
+) -> Answer
+    ensures { λ r. ⌜ Unwrapped (now (session .entry))
+        (handedFor (now (header .entry)) (now (metadata .entry)) (now (cryptogram .entry)) (now (out .entry)) (now (tag .entry))) r
+        (now (session .exit)) (now (out .exit)) (now (tag .entry)) ⌝ }
+{
+    session::unwrap_envelope(session, header, metadata, cryptogram, tag, out)
 }

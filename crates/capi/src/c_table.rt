@@ -1,7 +1,7 @@
 // The office's table: a lent run of 32 records, each a session and its own day's count. The day's allowance is handed in by value.
 ghost use mathlib.Core.Path.{_≡_};
 ghost use Prim.Native.Nat.{_<_};
-ghost use Rattle.sanse.specs.Session.{handed};
+ghost use Rattle.sanse.specs.Session.{handed, handedFor};
 ghost use Rattle.office.specs.Table.{tableOf, dayResult, tableResult, openingResult, startDayAt, wrapGroupAt, unwrapGroupAt, openGroupAt, nearlyFullAt, nearlyFullResult};
 ghost use Rattle.capi.specs.Found.{foundResult};
 use groups::Record;
@@ -82,6 +82,63 @@ pub extern "C" fn pevghazo_unwrap_group(
         table,
         group as usize,
         allowance,
+        metadata,
+        cryptogram,
+        tag,
+        out,
+    )
+}
+
+// Wraps a message for a group and the envelope with this header: one of the layout with letter S, this group and the lengths of metadata and message.
+// Its bytes go before the metadata under the tag. Check 1, and then 3 and 5 to 10.
+#[no_mangle]
+pub extern "C" fn pevghazo_wrap_envelope_group(
+    table: &mut [Record],
+    group: u32,
+    allowance: u32,
+    header: &[u8],
+    metadata: &[u8],
+    message: &[u8],
+    out: &mut [u8],
+    tag: &mut [u8],
+) -> Answer
+    ensures { λ r. ⌜ tableResult r (now (table .exit)) (now (out .exit)) (now (tag .exit))
+        ≡ wrapGroupAt allowance (tableOf (now (table .entry))) group
+        (handedFor (now (header .entry)) (now (metadata .entry)) (now (message .entry)) (now (out .entry)) (now (tag .entry))) ⌝ }
+{
+    office_envelope::wrap_envelope_group(
+        table,
+        group as usize,
+        allowance,
+        header,
+        metadata,
+        message,
+        out,
+        tag,
+    )
+}
+
+// Unwraps the cryptogram of the envelope with this header for a group. Check 1, and then 3, 5 to 10 and 11.
+#[no_mangle]
+pub extern "C" fn pevghazo_unwrap_envelope_group(
+    table: &mut [Record],
+    group: u32,
+    allowance: u32,
+    header: &[u8],
+    metadata: &[u8],
+    cryptogram: &[u8],
+    tag: &[u8],
+    out: &mut [u8],
+) -> Answer
+    ensures { λ r. ⌜ tableResult r (now (table .exit)) (now (out .exit)) (now (tag .entry))
+        ≡ unwrapGroupAt allowance (tableOf (now (table .entry))) group
+        (handedFor (now (header .entry)) (now (metadata .entry)) (now (cryptogram .entry)) (now (out .entry)) (now (tag .entry))) ⌝ }
+{
+    office_envelope::unwrap_envelope_group(
+        table,
+        group as usize,
+        allowance,
+        header,
         metadata,
         cryptogram,
         tag,

@@ -20,7 +20,7 @@ pub trait End: State {
     fn takes(&self, group: u32) -> Result<(), Failure>;
     /// Seals a message for a group into an envelope.
     fn seal(&mut self, group: u32, metadata: &[u8], message: &[u8]) -> Result<Vec<u8>, Refusal>;
-    /// Opens an arrival.
+    /// Opens an arrival, whose header is under its tag.
     fn open(&mut self, arrival: &Envelope) -> Result<Secret, Refusal>;
     /// What is kept of a group's messages.
     fn kept(&mut self, group: u32) -> Result<&mut Kept, Refusal>;
@@ -55,7 +55,7 @@ impl End for Office {
     }
 
     fn open(&mut self, arrival: &Envelope) -> Result<Secret, Refusal> {
-        Ok(Secret::from(self.table.unwrap(arrival.group, &arrival.arrival()?)?.message))
+        Ok(Secret::from(self.table.unwrap_envelope(arrival.group, arrival)?.message))
     }
 
     fn kept(&mut self, group: u32) -> Result<&mut Kept, Refusal> {
@@ -99,7 +99,7 @@ impl<S: Mode> End for Lone<S> {
     }
 
     fn open(&mut self, arrival: &Envelope) -> Result<Secret, Refusal> {
-        Ok(Secret::from(self.session.unwrap(arrival)?.message))
+        Ok(Secret::from(self.session.unwrap_envelope(arrival)?.message))
     }
 
     fn kept(&mut self, _: u32) -> Result<&mut Kept, Refusal> {

@@ -317,19 +317,17 @@ const WRONG_SANE_TAG: &str = "\
 Or both ends have sealed at once: then neither envelope can be opened, whoever sees both learns how their messages differ, and \
 the session is replaced under another nonce.";
 
-/// What is said of a refusal besides its sentence.
-fn hint(number: Number, letter: Letter) -> Option<&'static str> {
-    match (number, letter) {
-        (Number::WrongTag, Letter::S) => Some(WRONG_TAG),
-        (Number::WrongTag, Letter::N) => Some(WRONG_SANE_TAG),
-        _ => None,
-    }
-}
+/// What is said of a wrong tag at last: earlier versions did not seal the header.
+const EARLIER: &str = "Or a version before 0.8 has sealed it: only such a version opens it.";
 
-/// The sentence of a refusal with its number.
+/// The sentence of a refusal with its number, and what is said of a wrong tag besides.
 fn refused(f: &mut fmt::Formatter<'_>, refusal: &Refusal, letter: Letter) -> fmt::Result {
     write!(f, "Refused, number {}: {}", refusal.number.number(), refusal.number.sentence())?;
-    hint(refusal.number, letter).map_or(Ok(()), |hint| write!(f, " {hint}"))
+    if refusal.number != Number::WrongTag {
+        return Ok(());
+    }
+    let at_once = if letter == Letter::S { WRONG_TAG } else { WRONG_SANE_TAG };
+    write!(f, " {at_once} {EARLIER}")
 }
 
 /// The sentences of a refusal by a group's allowance.

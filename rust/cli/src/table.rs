@@ -240,7 +240,8 @@ opened all that the other has sealed: otherwise two messages share keystream.";
 const SEALED_ONCE: &str =
     "The envelope is handed out once the state is safe, and kept in it: `resend` hands it out again.";
 const OPENED_ONCE: &str = "\
-The message is kept in the state: `reread` hands it out again, `forget` removes it. A refused arrival leaves no output.";
+The message is kept in the state: `reread` hands it out again, `forget` removes it. A refused arrival leaves no output. The tag
+covers the header too, with the group's number: envelopes that a version before 0.8 has sealed are refused.";
 const FORGOTTEN: &str = "\
 What was not handed out is not forgotten. Without its envelope a session cannot go on, unless the other end has it.";
 

@@ -10,8 +10,9 @@ use std::os::unix::ffi::OsStrExt;
 use std::os::unix::fs::{MetadataExt, PermissionsExt};
 use std::process::{Command, Stdio};
 
-use common::{Folder, Run, code, grouped, until_blocked};
-use pevghazo_reference::{envelope, session::Session};
+use common::envelopes::opened;
+use common::{Folder, PLACE, Run, code, grouped, until_blocked};
+use pevghazo_reference::session::Session;
 
 const OFFICE: &str = "office --state office codes --group 5";
 const GROUP: &str = "group --state group codes";
@@ -19,7 +20,7 @@ const OFFICE_CHECKS: &str = "office --state office check-code --group 5";
 const GROUP_CHECKS: &str = "group --state group check-code";
 
 /// The place of the session in the state of the office, for group 5, and in that of a group.
-const PLACES: [(&str, usize); 2] = [("office", common::place_at_office(5)), ("group", 12)];
+const PLACES: [(&str, usize); 2] = [("office", common::place_at_office(5)), ("group", PLACE)];
 
 /// An office and its group 5 with a delivered message, and the independent implementation of their session.
 fn delivered() -> (Folder, Session) {
@@ -39,9 +40,7 @@ fn deliver(folder: &Folder, session: &mut Session, message: &[u8]) {
 
 /// The independent implementation takes the envelope that the office has sealed.
 fn take(folder: &Folder, session: &mut Session) {
-    let bytes = folder.read("to").unwrap();
-    let parts = envelope::read(&bytes).unwrap();
-    session.unwrap(parts.metadata, parts.cryptogram, parts.tag, &mut vec![0; parts.cryptogram.len()]).unwrap();
+    assert_eq!(opened(session, &folder.read("to").unwrap()), folder.read("text").unwrap());
 }
 
 /// The program with one more option, whose value may have spaces.

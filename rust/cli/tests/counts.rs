@@ -2,9 +2,9 @@
 
 mod common;
 
-use common::{Folder, place_at_office};
+use common::envelopes::count;
+use common::{Folder, SESSION, place_at_office};
 use pevghazo_reference::random::Random;
-use pevghazo_reference::sanse;
 
 const GROUPS: [u32; 3] = [0, 7, 31];
 
@@ -56,54 +56,54 @@ fn shows(folder: &Folder, allowance: u32, counts: [u32; 3]) {
 
 #[test]
 fn a_busy_group_does_not_hinder_the_others() {
-    // A message of 14 bytes counts 1 + 4 + 1.
-    let folder = three_groups(20);
+    // A message of 14 bytes, with a header in one block, counts 1 + 1 + 4 + 1.
+    let folder = three_groups(23);
     for _ in 0..3 {
         sends(&folder, 7);
     }
-    shows(&folder, 20, [1, 19, 1]);
+    shows(&folder, 23, [1, 22, 1]);
     refuses(&folder, 7);
     for group in [0, 31, 0] {
         sends(&folder, group);
     }
-    shows(&folder, 20, [13, 19, 7]);
+    shows(&folder, 23, [15, 22, 8]);
     // Opening it again adds 1 and sets nothing back.
     folder.write("key", b"another secret key of group 7");
     folder.done("office --state office open-group --group 7 --key key --replace");
     folder.done("group --state group-7 start --group 7 --key key --replace");
-    shows(&folder, 20, [13, 20, 7]);
+    shows(&folder, 23, [15, 23, 8]);
     refuses(&folder, 7);
     folder.write("third", b"a third secret key of group 7");
     folder.fails(20, "office --state office open-group --group 7 --key third --replace");
     sends(&folder, 0);
-    shows(&folder, 20, [19, 20, 7]);
+    shows(&folder, 23, [22, 23, 8]);
     // The next day all go on, and the sessions are the same.
-    folder.done("office --state office day --allowance 20");
-    shows(&folder, 20, [0, 0, 0]);
+    folder.done("office --state office day --allowance 23");
+    shows(&folder, 23, [0, 0, 0]);
     for group in GROUPS {
         sends(&folder, group);
     }
-    shows(&folder, 20, [6, 6, 6]);
+    shows(&folder, 23, [7, 7, 7]);
     // A day may follow at any time, with another allowance.
-    folder.done("office --state office day --allowance 5");
+    folder.done("office --state office day --allowance 6");
     GROUPS.into_iter().for_each(|group| refuses(&folder, group));
-    shows(&folder, 5, [0, 0, 0]);
+    shows(&folder, 6, [0, 0, 0]);
 }
 
 /// Arrivals that are not a group's spend what is the group's alone, and what is kept of the others stays.
 #[test]
 fn wrong_tags_count_for_the_group_that_they_name() {
-    let folder = three_groups(20);
+    let folder = three_groups(23);
     folder.write("forged", &[b"S,7,0,14,", &[7; 14 + 32][..]].concat());
-    for count in [7, 13, 19] {
+    for count in [8, 15, 22] {
         folder.fails(21, "office --state office open --in forged --out none");
-        shows(&folder, 20, [1, count, 1]);
+        shows(&folder, 23, [1, count, 1]);
     }
     let before = folder.read("office");
     folder.fails(20, "office --state office open --in forged --out none");
     assert!(folder.read("office") == before);
     sends(&folder, 31);
-    shows(&folder, 20, [1, 19, 7]);
+    shows(&folder, 23, [1, 22, 8]);
 }
 
 /// A count that could not be committed is the group's, and a sentence says so.
@@ -128,10 +128,10 @@ fn the_largest_allowance() {
     let folder = three_groups(most);
     shows(&folder, most, [1, 1, 1]);
     sends(&folder, 7);
-    shows(&folder, most, [1, 7, 1]);
+    shows(&folder, most, [1, 8, 1]);
     // The count stands behind the session. What is left covers the message, or is one too few.
-    for (count, covered) in [(most - 6, true), (most - 5, false), (most, false)] {
-        folder.forge("office", place_at_office(7) + 102, &count.to_le_bytes());
+    for (count, covered) in [(most - 7, true), (most - 6, false), (most, false)] {
+        folder.forge("office", place_at_office(7) + SESSION, &count.to_le_bytes());
         if covered {
             sends(&folder, 7);
             shows(&folder, most, [1, most, 1]);
@@ -145,7 +145,7 @@ fn the_largest_allowance() {
     sends(&folder, 0);
     // A file may have a count above its allowance: nothing is left then.
     folder.done("office --state office day --allowance 3");
-    folder.forge("office", place_at_office(7) + 102, &most.to_le_bytes());
+    folder.forge("office", place_at_office(7) + SESSION, &most.to_le_bytes());
     refuses(&folder, 7);
     let shown = folder.done("office --state office show --json");
     assert!(shown.contains("\"count\":4294967295,\"left\":0}"), "{shown}");
@@ -191,13 +191,13 @@ impl Season {
     fn message(&mut self, place: usize) {
         let group = GROUPS[place];
         if let Some(length) = self.waiting[place] {
-            let status = self.counted(place, sanse::count(0, length), 0);
+            let status = self.counted(place, count(group, 0, length), 0);
             self.run(status, &format!("office --state office open --in from-{group} --out /dev/null"));
             self.waiting[place] = self.waiting[place].filter(|_| status == 20);
             return;
         }
         let length = self.text();
-        let status = self.counted(place, sanse::count(0, length), 0);
+        let status = self.counted(place, count(group, 0, length), 0);
         let _ = std::fs::remove_file(self.folder.0.join("envelope"));
         self.run(status, &format!("office --state office seal --group {group} --message text --out envelope"));
         if status == 0 {
@@ -220,7 +220,7 @@ impl Season {
         let length = self.random.below(120);
         let header = format!("S,{},0,{length},", GROUPS[place]);
         self.folder.write("forged", &[header.as_bytes(), &vec![7; length + 32]].concat());
-        let status = self.counted(place, sanse::count(0, length), 21);
+        let status = self.counted(place, count(GROUPS[place], 0, length), 21);
         self.run(status, "office --state office open --in forged --out none");
     }
 

@@ -1,17 +1,17 @@
 //! State files that earlier programs wrote: they are read, go on, and are written in the newest version. `data/README.md` says how the
-//! files of version 2 were made, by the program of that version.
+//! files of version 2 were made, by the program of that version. `moving.rs` has the envelopes of earlier programs.
 
 mod common;
 
 use std::fs;
-use std::path::Path;
 
-use common::Folder;
+use common::envelopes::{count, opened, opened_before, sealed};
+use common::{Folder, SESSION};
 use pevghazo_reference::session::Session;
-use pevghazo_reference::{envelope, sanse};
 
 const SHOWS: &str = "office --state office show --json";
 const OPENS: &str = "office --state office open --in from-4 --out opened --metadata-out metadata";
+const SEALS: &str = "office --state office seal --group 4 --message text --metadata-text more --out to-4";
 
 /// What all groups together had spent on the day of the file of version 2, and its allowance: both stand in `data/README.md`.
 const SPENT: u32 = 16;
@@ -19,13 +19,18 @@ const ALLOWANCE: u32 = 100;
 
 /// A folder with the files of version 2.
 fn of_version_2() -> Folder {
-    let folder = Folder::new();
-    let data = Path::new(env!("CARGO_MANIFEST_DIR")).join("tests/data/office-2");
-    for entry in fs::read_dir(data).unwrap() {
-        let entry = entry.unwrap();
-        folder.write(entry.file_name().to_str().unwrap(), &fs::read(entry.path()).unwrap());
-    }
+    let folder = Folder::of("office-2");
     folder.write("text", b"S 20101 to S 20200");
+    folder
+}
+
+/// The same, once the earlier program has opened the envelope of group 4 that was under way. In version 2 no counts stand between the office's
+/// sessions.
+fn of_version_2_opened() -> Folder {
+    let folder = of_version_2();
+    assert_eq!(opened_before(&folder, "office", 8 + 4 * SESSION, "from-4"), b"S 20088 to S 20100");
+    assert_eq!(start(&folder, "office"), b"office-2");
+    fs::remove_file(folder.0.join("office.lock")).unwrap();
     folder
 }
 
@@ -44,7 +49,7 @@ fn counted(count: u32) -> String {
     format!("\"count\":{count},\"left\":{}}}", ALLOWANCE - count)
 }
 
-/// The session of group 4, by the independent implementation, as it stands in the files.
+/// The session of group 4, by the independent implementation, as it stands at the group. Its messages have no header under their tags.
 fn group_4(folder: &Folder) -> Session {
     let mut session = Session::start(&folder.read("key-4").unwrap()).unwrap();
     for (metadata, message) in [(&b"rings"[..], b"S 20001 to S 20100"), (b"unused", b"S 20088 to S 20100")] {
@@ -89,30 +94,25 @@ fn every_group_has_the_old_count_of_the_day() {
 /// The sessions go on at both ends, with a count for each group, and the next commit writes the newest version.
 #[test]
 fn a_state_file_of_version_2_goes_on() {
-    let folder = of_version_2();
+    let folder = of_version_2_opened();
     let mut session = group_4(&folder);
-    assert_eq!(folder.done(OPENS), "group 4\n");
-    assert_eq!(folder.read("opened").unwrap(), b"S 20088 to S 20100");
-    assert_eq!(folder.read("metadata").unwrap(), b"unused");
+    // A new envelope is the next of the old session, at the group and for the independent implementation.
+    folder.done(SEALS);
     assert_eq!(start(&folder, "office"), b"office-3");
-    let mut spent = SPENT + sanse::count(6, 18);
+    let text = folder.read("text").unwrap();
+    assert_eq!(folder.read("to-4").unwrap(), sealed(&mut session, 4, b"more", &text));
+    let mut spent = SPENT + count(4, 4, 18);
     let shown = folder.done(SHOWS);
     assert_eq!((shown.matches(&counted(SPENT)).count(), shown.matches(&counted(spent)).count()), (31, 1), "{shown}");
     assert!(shown.contains(&format!("\"group\":4,\"open\":true,\"index\":{},", session.index)), "{shown}");
-    // The envelope that waited.
-    folder.done("office --state office resend --group 9 --out to-9");
-    folder.done_anew("group --state group-9 open --in to-9 --out opened");
-    assert_eq!(folder.read("opened").unwrap(), b"M 5001 to M 5050");
-    // A new one is the next of the old session, at the group and for the independent implementation.
-    folder.done("office --state office seal --group 4 --message text --metadata-text more --out to-4");
-    let (mut cryptogram, mut tag) = ([0; 18], [0; 32]);
-    session.wrap(b"more", &folder.read("text").unwrap(), &mut cryptogram, &mut tag).unwrap();
-    let bytes = folder.read("to-4").unwrap();
-    let parts = envelope::read(&bytes).unwrap();
-    assert_eq!((parts.group, parts.cryptogram, parts.tag), (4, &cryptogram[..], &tag[..]));
     folder.done_anew("group --state group-4 open --in to-4 --out opened");
     assert_eq!(folder.read("opened"), folder.read("text"));
-    spent += sanse::count(4, 18);
+    // And back.
+    folder.done_anew("group --state group-4 seal --message text --metadata-text more --out from-4");
+    assert_eq!(folder.read("from-4").unwrap(), sealed(&mut session, 4, b"more", &text));
+    assert_eq!(folder.done_anew(OPENS), "group 4\n");
+    assert_eq!((folder.read("opened"), folder.read("metadata")), (folder.read("text"), Some(b"more".to_vec())));
+    spent += count(4, 4, 18);
     let shown = folder.done("office --state office show");
     assert!(shown.contains(&line(4, spent)) && shown.contains(&line(9, SPENT)), "{shown}");
     // A second reading gives the same.
@@ -130,13 +130,13 @@ fn the_old_day_ends_with_the_next() {
     folder.write("key-7", b"the secret key of group 7");
     // What is left covers one such message and not two, and the opening of a group counts 1.
     folder.write("long", &[7; 24 * 48]);
-    assert_eq!(sanse::count(0, 24 * 48), 25 + 4 + 24);
-    folder.done(OPENS);
+    assert_eq!(count(7, 0, 24 * 48), 1 + 25 + 4 + 24);
+    folder.done(SEALS);
     folder.done("office --state office open-group --group 7 --key key-7");
     for group in [4, 7] {
         folder.done_anew(&format!("office --state office seal --group {group} --message long --out out"));
         let said = folder.fails(20, &format!("office --state office seal --group {group} --message long --out other"));
-        let spent = if group == 4 { SPENT + 7 + 53 } else { SPENT + 1 + 53 };
+        let spent = if group == 4 { SPENT + 7 + 54 } else { SPENT + 1 + 54 };
         assert!(said.contains(&format!(" Group {group} has spent {spent} of 100 permutations ")), "{said}");
     }
     folder.done(&format!("office --state office day --allowance {ALLOWANCE}"));
@@ -160,28 +160,29 @@ fn a_wrong_tag_counts_in_a_state_file_of_version_2() {
     let shown = folder.done(SHOWS);
     assert_eq!(shown.matches(&counted(SPENT)).count(), 31, "{shown}");
     assert!(shown.contains(&format!("{}{}", ",\"message\":\"none\",", counted(SPENT + 7))), "{shown}");
-    folder.done(OPENS);
+    folder.done(SEALS);
 }
 
 /// Disturbed at any step of its first commits, the file is of version 2 or 3, and either goes on.
 #[test]
 fn a_disturbed_first_commit_leaves_a_file_that_goes_on() {
-    let steps = of_version_2().run_with("log", OPENS).said.lines().filter(|line| !line.ends_with(": end")).count();
+    let steps =
+        of_version_2_opened().run_with("log", SEALS).said.lines().filter(|line| !line.ends_with(": end")).count();
     let mut starts = Vec::new();
     for n in 1..=steps {
-        let folder = of_version_2();
-        let run = folder.run_with(&format!("abort@{n}"), OPENS);
+        let folder = of_version_2_opened();
+        let run = folder.run_with(&format!("abort@{n}"), SEALS);
         assert!(run.signal.is_some(), "{}", run.said);
         starts.push(start(&folder, "office"));
-        let open = starts[n - 1] == b"office-2";
+        let old = starts[n - 1] == b"office-2";
         let shown = folder.done(SHOWS);
-        assert_eq!(shown.matches(&counted(SPENT)).count(), if open { 32 } else { 31 }, "step {n}: {shown}");
-        if open {
-            folder.done_anew(OPENS);
+        assert_eq!(shown.matches(&counted(SPENT)).count(), if old { 32 } else { 31 }, "step {n}: {shown}");
+        if old {
+            folder.done_anew(SEALS);
         } else {
-            folder.done_anew("office --state office reread --group 4 --out opened");
+            folder.done_anew("office --state office resend --group 4 --out to-4");
         }
-        assert_eq!(folder.read("opened").unwrap(), b"S 20088 to S 20100");
+        assert_eq!(opened(&mut group_4(&folder), &folder.read("to-4").unwrap()), b"S 20101 to S 20200");
     }
     assert!(starts.is_sorted() && starts.contains(&b"office-2".to_vec()) && starts.contains(&b"office-3".to_vec()));
 }
@@ -189,7 +190,7 @@ fn a_disturbed_first_commit_leaves_a_file_that_goes_on() {
 /// State files of version 1, made from those of version 2: their keys are not known, and from the next commit on new ones are.
 #[test]
 fn a_state_file_of_version_1_goes_on() {
-    let folder = of_version_2();
+    let folder = of_version_2_opened();
     folder.write("second", b"the second key of group 4");
     for (name, version_1, keys) in [("office", b"office-1", 2), ("group-4", b"group--1", 1)] {
         let content = folder.read(name).unwrap();
@@ -205,12 +206,14 @@ fn a_state_file_of_version_1_goes_on() {
     let shown = folder.done(SHOWS);
     assert!(shown.starts_with("{\"commit\":0,\"keys\":0,"), "{shown}");
     assert_eq!(shown.matches(&counted(SPENT)).count(), 32, "{shown}");
-    folder.done(OPENS);
     folder.done("office --state office seal --group 4 --message text --out to-4");
     folder.done_anew("group --state group-4 open --in to-4 --out opened");
     assert_eq!(folder.read("opened"), folder.read("text"));
+    folder.done_anew("group --state group-4 seal --message text --out from-4");
+    folder.done_anew(OPENS);
+    assert_eq!(folder.read("opened"), folder.read("text"));
     assert_eq!([start(&folder, "office"), start(&folder, "group-4")], [b"office-3", b"group--2"]);
-    // Two commits for the opening and two for the sealing: the call, and that it was handed out.
+    // Two commits for the sealing and two for the opening: the call, and that it was handed out.
     let shown = folder.done(SHOWS);
     assert!(shown.starts_with("{\"commit\":4,\"keys\":0,"), "{shown}");
     assert_eq!(shown.matches(&counted(SPENT)).count(), 31, "{shown}");

@@ -146,13 +146,13 @@ fn show_for_scripts() {
     );
     assert_eq!(folder.done(GROUP_SHOWS), format!("{{\"commit\":1,\"keys\":1,{}}}\n", session("none", "none", 0, 0)));
     folder.run("office --state office seal --group 5 --message text --out /dev/full");
-    assert!(folder.done(OFFICE_SHOWS).ends_with(&at_office(session("waiting", "none", 2, 1), 7)));
+    assert!(folder.done(OFFICE_SHOWS).ends_with(&at_office(session("waiting", "none", 4, 1), 8)));
     folder.done("office --state office resend --group 5 --out to");
-    assert!(folder.done(OFFICE_SHOWS).ends_with(&at_office(session("handed-out", "none", 2, 1), 7)));
+    assert!(folder.done(OFFICE_SHOWS).ends_with(&at_office(session("handed-out", "none", 4, 1), 8)));
     folder.done("group --state group open --in to --out opened");
     assert_eq!(
         folder.done(GROUP_SHOWS),
-        format!("{{\"commit\":3,\"keys\":1,{}}}\n", session("none", "handed-out", 2, 1))
+        format!("{{\"commit\":3,\"keys\":1,{}}}\n", session("none", "handed-out", 4, 1))
     );
     folder.done("office --state empty create");
     assert_eq!(

@@ -2,7 +2,7 @@
 
 mod common;
 
-use common::{Folder, place_at_office};
+use common::{Folder, SESSION, place_at_office};
 
 /// The office with these groups open, at these indices, which are put into the state file.
 fn office(indices: &[(usize, u32)]) -> Folder {
@@ -77,7 +77,7 @@ fn closed_groups_are_not_named() {
     let folder = office(&[(4, 50), (9, 60)]);
     names(&folder, 0, "4", "4\n9");
     // A closed session is all zero; no command closes one.
-    folder.forge("office", place_at_office(4), &[0; 102]);
+    folder.forge("office", place_at_office(4), &[0; SESSION]);
     names(&folder, 0, "9", "9");
     // A closed one with an index is no session of a state file.
     folder.forge("office", place_at_office(4) + 96, &50_u32.to_le_bytes());
@@ -91,19 +91,19 @@ fn closed_groups_are_not_named() {
 fn the_office_renews_keys_down_the_list() {
     let folder = office(&[(19, 0), (8, 0), (4, 0), (25, 0)]);
     folder.write("text", b"20001 to 20100");
-    // Each message, of one block and without metadata, takes 2 of the index: 4, 2, 8 and 6.
+    // Each message, of one block and with a header in one block, takes 4 of the index: 8, 4, 16 and 12.
     for (group, messages) in [(4, 2), (8, 1), (19, 4), (25, 3)] {
         for _ in 0..messages {
             folder.done_anew(&format!("office --state office seal --group {group} --message text --out envelope"));
         }
     }
     for (group, all) in [("4", "4\n19\n25"), ("19", "19\n25"), ("25", "25")] {
-        names(&folder, 3, group, all);
+        names(&folder, 7, group, all);
         folder.write("key", format!("a new key of group {group}").as_bytes());
         folder.done(&format!("office --state office open-group --group {group} --key key --replace"));
     }
-    names(&folder, 3, "none", "none");
-    names(&folder, 1, "8", "8");
+    names(&folder, 7, "none", "none");
+    names(&folder, 3, "8", "8");
 }
 
 /// An older copy is refused, and with `--restore` it is only looked at.

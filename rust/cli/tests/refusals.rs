@@ -5,12 +5,12 @@ mod common;
 use std::fs::{self, Permissions};
 use std::os::unix::fs::{PermissionsExt, symlink};
 
-use common::{Folder, Run, place_at_office};
+use common::{Folder, PLACE, Run, SESSION, place_at_office};
 use pevghazo_store::{Presence, Store, Wait};
 
 /// The sentences, by number. Numbers 7 and 8 cannot be met here: this program makes the buffers itself.
 const SENTENCES: [(i32, &str); 10] = [
-    (1, "This is not an envelope: its header does not follow the layout."),
+    (1, "The envelope's header does not follow the layout, or is not the one of this call."),
     (2, "The envelope ends before all that its header announces."),
     (3, "There is no such group: groups are numbered 0 to 31."),
     (4, "The key must have 16 to 47 bytes."),
@@ -21,7 +21,8 @@ const SENTENCES: [(i32, &str); 10] = [
     (
         11,
         "The tag is wrong: the arrival is damaged, repeated, out of order or not meant for this session. Or both ends have \
-         sealed at once: then neither envelope can be opened, and the session is replaced under a new key.",
+         sealed at once: then neither envelope can be opened, and the session is replaced under a new key. Or a version before \
+         0.8 has sealed it: only such a version opens it.",
     ),
     (12, "There is no such code: no message was accepted yet, or the packet is above 2,047."),
 ];
@@ -114,7 +115,7 @@ fn number_5_a_session_that_is_not_open() {
     refused(&folder, 5, "office --state office codes --group 6 --packets 0-5000 --out OUT");
     refused(&folder, 5, &format!("office --state office check-code --group 6 --packet 5000 {CODE}"));
     // A group's state file with a closed session: no command makes one.
-    folder.forge("group", 12, &[0; 102]);
+    folder.forge("group", PLACE, &[0; SESSION]);
     refused(&folder, 5, "group --state group seal --message text --out OUT");
     refused(&folder, 5, "group --state group codes --packets 5000 --out OUT");
     refused(&folder, 5, &format!("group --state group check-code --packet 5000 {CODE}"));
@@ -138,17 +139,18 @@ fn number_6_texts_that_are_too_long() {
 fn number_9_a_session_that_is_full() {
     let folder = Folder::pair(5);
     folder.write("text", b"20001");
-    for (index, status) in [(1_048_575, 19), (1_048_574, 0)] {
+    // The header takes 2 of the index, and the message 2.
+    for (index, status) in [(1_048_573, 19), (1_048_572, 0)] {
         // The index is after the accumulator and the mask of the session.
-        folder.forge("group", 12 + 96, &u32::to_le_bytes(index));
+        folder.forge("group", PLACE + 96, &u32::to_le_bytes(index));
         folder.forge("office", place_at_office(5) + 96, &u32::to_le_bytes(index));
         if status == 19 {
             refused(&folder, 9, "group --state group seal --message text --out OUT");
             refused(&folder, 9, "office --state office seal --group 5 --message text --out OUT");
             folder.write("in", &[b"S,5,0,1,x", &[0; 32][..]].concat());
             refused(&folder, 9, "office --state office open --in in --out OUT");
-            assert_eq!(folder.done("office --state office nearly-full --mark 1048574"), "5\n");
-            assert_eq!(folder.done("office --state office nearly-full --mark 1048575"), "none\n");
+            assert_eq!(folder.done("office --state office nearly-full --mark 1048572"), "5\n");
+            assert_eq!(folder.done("office --state office nearly-full --mark 1048573"), "none\n");
         } else {
             folder.done_anew("group --state group seal --message text --out out");
             folder.done_anew("office --state office seal --group 5 --message text --out out");
@@ -169,20 +171,20 @@ fn number_10_a_day_whose_allowance_is_spent() {
         );
         refused_with(&folder, 10, &more, line);
     };
-    // One block of message and one of output: 1 + 4 + 1.
-    folder.done("office --state office day --allowance 5");
-    spent(0, 5, "office --state office seal --group 5 --message text --out OUT");
+    // One block of header, one of message and one of output: 1 + 1 + 4 + 1.
+    folder.done("office --state office day --allowance 6");
+    spent(0, 6, "office --state office seal --group 5 --message text --out OUT");
     folder.done_anew("group --state group seal --message text --out in");
-    spent(0, 5, "office --state office open --in in --out OUT");
+    spent(0, 6, "office --state office open --in in --out OUT");
     folder.done("office --state office day --allowance 0");
     folder.write("new-key", b"another key of group 5");
     let nothing = " It is 0, for every group: `pevghazo office day` begins a day with another one.";
     refused_with(&folder, 10, nothing, "office --state office open-group --group 6 --key new-key");
     refused_with(&folder, 10, nothing, "office --state office open-group --group 5 --key new-key --replace");
-    folder.done("office --state office day --allowance 6");
+    folder.done("office --state office day --allowance 7");
     folder.done_anew("office --state office open --in in --out out");
-    spent(6, 6, "office --state office open-group --group 5 --key new-key --replace");
-    spent(6, 6, "office --state office seal --group 5 --message text --out OUT");
+    spent(7, 7, "office --state office open-group --group 5 --key new-key --replace");
+    spent(7, 7, "office --state office seal --group 5 --message text --out OUT");
 }
 
 #[test]

@@ -4,9 +4,11 @@ mod common;
 
 use std::fs;
 
-use common::Folder;
-use common::sane::{ENDS, START, pair, reference, sealed, shown, tag_of, text, with_keys};
+use common::envelopes::sealed;
+use common::sane::{ENDS, START, pair, reference, shown, tag_of, text, with_keys};
+use common::{Folder, PLACE, SESSION};
 use pevghazo_reference::envelope;
+use pevghazo_reference::session::SaneSession;
 
 /// Every envelope is the one that the independent implementation makes, and both ends go on as it does.
 #[test]
@@ -25,7 +27,7 @@ fn a_season_at_both_ends() {
             let (from, to) = if turn % 3 == 1 { (ENDS[1], ENDS[0]) } else { (ENDS[0], ENDS[1]) };
             let seal = format!("sane seal --state {from} --metadata metadata --message message --out envelope");
             assert_eq!(folder.done_anew(&seal), "");
-            assert_eq!(folder.read("envelope").unwrap(), sealed(&mut other, &metadata, &message), "{a} {m}");
+            assert_eq!(folder.read("envelope").unwrap(), sealed(&mut other, 5, &metadata, &message), "{a} {m}");
             let open = format!("sane open --state {to} --in envelope --out opened --metadata-out opened-metadata");
             assert_eq!(folder.done_anew(&open), "");
             assert_eq!((folder.read("opened"), folder.read("opened-metadata")), (Some(message), Some(metadata)));
@@ -69,63 +71,68 @@ impl Vector {
         [format!("N,5,{},{},", a.len(), c.len()).as_bytes(), &a, &c, &t].concat()
     }
 
-    /// Both ends start, with the nonce as a file.
-    fn start(&self, folder: &Folder) {
+    /// Both ends start, with the nonce as a file. Gives the independent implementation's session.
+    fn start(&self, folder: &Folder) -> SaneSession {
         folder.write("key", &self.bytes("key"));
         folder.write("nonce", &self.bytes("nonce"));
         for state in ["a", "b"].map(|end| self.state(end)) {
             let said = folder.done(&format!("{START} {state} --nonce nonce"));
             assert_eq!(said, format!("tag {}\n", shown(&self.bytes("T"))));
         }
+        reference(&self.bytes("key"), &self.bytes("nonce")).0
     }
 
-    /// An end seals.
-    fn wrap(&self, folder: &Folder) {
-        folder.write("metadata", &self.bytes("A"));
-        folder.write("message", &self.bytes("M"));
+    /// The other end, which opens: the vectors' own envelope has no header under its tag and is refused; the one with it opens.
+    fn opens(&self, folder: &Folder) {
+        let state = self.state(if self.word("end") == "a" { "b" } else { "a" });
+        let (before, open) = (folder.read(&state), format!("sane open --state {state} --out opened --in"));
+        let _ = fs::remove_file(folder.0.join("opened"));
+        folder.write("without", &self.envelope());
+        folder.fails(21, &format!("{open} without"));
+        assert!(folder.read(&state) == before && folder.read("opened").is_none(), "{}", self.0);
+        folder.done(&format!("{open} envelope"));
+        assert_eq!(folder.read("opened").unwrap(), self.bytes("M"), "{}", self.0);
+    }
+
+    /// An end seals what the vectors wrap, as the independent implementation does, and the other end opens it.
+    fn wrap(&self, folder: &Folder, session: &mut SaneSession) {
+        let [metadata, message] = ["A", "M"].map(|name| self.bytes(name));
+        folder.write("metadata", &metadata);
+        folder.write("message", &message);
         let state = self.state(self.word("end"));
         let line = format!("sane seal --state {state} --metadata metadata --message message --out envelope");
         folder.done_anew(&line);
-        assert_eq!(folder.read("envelope").unwrap(), self.envelope(), "{}", self.0);
-    }
-
-    /// An end opens, or refuses.
-    fn unwrap(&self, folder: &Folder) {
-        folder.write("envelope", &self.envelope());
-        let _ = fs::remove_file(folder.0.join("opened"));
-        let line = format!("sane open --state {} --in envelope --out opened", self.state(self.word("end")));
-        if self.word("result") == "ok" {
-            folder.done(&line);
-            assert_eq!(folder.read("opened").unwrap(), self.bytes("M"), "{}", self.0);
-        } else {
-            folder.fails(21, &line);
-            assert_eq!(folder.read("opened"), None);
+        assert_eq!(folder.read("envelope").unwrap(), sealed(session, 5, &metadata, &message), "{}", self.0);
+        self.opens(folder);
+        for state in ["a", "b"].map(|end| self.state(end)) {
+            let said = folder.done(&format!("sane show --state {state} --json"));
+            let (index, toggle) = (session.index, u8::from(session.toggle));
+            assert!(said.contains(&format!("\"index\":{index},\"toggle\":{toggle},")), "{said}");
         }
     }
 }
 
-/// The sessions of the vectors, with a state file for each end of each.
+/// The sessions of the vectors, with a state file for each end of each. The vectors' calls are without an envelope: starts have their
+/// tags, and their messages travel in envelopes of the independent implementation.
 #[test]
 fn the_vectors_at_both_ends() {
     let folder = Folder::new();
     let text = include_str!("../../../vectors/sane.txt");
-    let mut made = [0; 3];
+    let (mut made, mut session) = ([0; 2], None);
     for vector in text.split("\n\n").filter(|record| record.starts_with("op = ")).map(Vector) {
-        let (op, call): (_, fn(&Vector, &Folder)) = match vector.word("op") {
-            "start" => (0, Vector::start),
-            "wrap" => (1, Vector::wrap),
-            "unwrap" => (2, Vector::unwrap),
-            op => panic!("{op}"),
-        };
-        call(&vector, &folder);
-        made[op] += 1;
-        if op > 0 {
-            let said = folder.done(&format!("sane show --state {} --json", vector.state(vector.word("end"))));
-            let [index, toggle] = ["index", "e"].map(|name| vector.word(name));
-            assert!(said.contains(&format!("\"index\":{index},\"toggle\":{toggle},")), "{said}");
+        match (vector.word("op"), &mut session) {
+            ("start", _) => {
+                session = Some(vector.start(&folder));
+                made[0] += 1;
+            }
+            ("wrap", Some(session)) => {
+                vector.wrap(&folder, session);
+                made[1] += 1;
+            }
+            (op, _) => assert_eq!(op, "unwrap"),
         }
     }
-    assert!(made[0] > 5 && made[1] > 20 && made[2] > made[1], "{made:?}");
+    assert!(made[0] > 5 && made[1] > 20, "{made:?}");
 }
 
 /// The command fails, and the state files stay.
@@ -164,11 +171,11 @@ fn refusals_by_their_numbers() {
         fails(&folder, 16, &format!("sane seal --state office {line} --out out"));
     }
     // The index is after the accumulator and the mask of the session.
-    folder.forge("office", 12 + 96, &u32::to_le_bytes(1_048_575));
+    folder.forge("office", PLACE + 96, &u32::to_le_bytes(1_048_575));
     let said = fails(&folder, 19, "sane seal --state office --message text --out out");
     let sentence = "The session is full: start a new one with a new key, or in SANE with a new nonce.";
     assert_eq!(said, format!("pevghazo: Refused, number 9: {sentence}\n"));
-    folder.forge("office", 12, &[0; 102]);
+    folder.forge("office", PLACE, &[0; SESSION]);
     fails(&folder, 15, "sane seal --state office --message text --out out");
     assert!(folder.done("sane show --state office").starts_with("group  5: closed, index       0,"));
     folder.done(&format!("{START} office --counter 2 --replace"));
@@ -182,7 +189,8 @@ fn arrivals_that_are_not_the_next_of_the_session() {
     let open = "sane open --state group --out out --in";
     let sentence = "pevghazo: Refused, number 11: The tag is wrong: the arrival is damaged, repeated, out of order or not meant \
                     for this session. Or both ends have sealed at once: then neither envelope can be opened, whoever sees both \
-                    learns how their messages differ, and the session is replaced under another nonce.\n";
+                    learns how their messages differ, and the session is replaced under another nonce. Or a version before 0.8 has \
+                    sealed it: only such a version opens it.\n";
     for place in [9, 14, 30, whole.len() - 1] {
         let mut damaged = whole.clone();
         damaged[place] ^= 0x10;
@@ -224,7 +232,7 @@ fn an_envelope_of_the_other_mode_or_of_another_group() {
     let said = folder.fails(6, "sane open --state sane --in N6 --out out");
     assert_eq!(said, "pevghazo: This is for group 6, and the state file is that of group 5.\n");
     assert!(states() == before && folder.read("out").is_none());
-    // The letter is not under the tag; but the tag's length goes by it.
+    // The letter is under the tag; and the tag's length goes by it.
     let relettered =
         |name: &str, letter: &[u8]| folder.write("in", &[letter, &folder.read(name).unwrap()[1..]].concat());
     relettered("S", b"N");
@@ -299,11 +307,12 @@ fn show_for_scripts() {
     let show = "sane show --json --state";
     assert_eq!(folder.done(&format!("{show} office")), object(1, 2, 0, "none", "none"));
     folder.run("sane seal --state office --message text --out /dev/full");
-    assert_eq!(folder.done(&format!("{show} office")), object(2, 4, 1, "waiting", "none"));
+    // The nonce takes 2 of the index, the header 2 and the message 2.
+    assert_eq!(folder.done(&format!("{show} office")), object(2, 6, 1, "waiting", "none"));
     folder.done("sane resend --state office --out envelope");
     folder.done("sane open --state group --in envelope --out opened");
-    assert_eq!(folder.done(&format!("{show} office")), object(3, 4, 1, "handed-out", "none"));
-    assert_eq!(folder.done(&format!("{show} group")), object(3, 4, 1, "none", "handed-out"));
+    assert_eq!(folder.done(&format!("{show} office")), object(3, 6, 1, "handed-out", "none"));
+    assert_eq!(folder.done(&format!("{show} group")), object(3, 6, 1, "none", "handed-out"));
 }
 
 /// The sum of two runs of bytes.

@@ -6,7 +6,8 @@ use std::ffi::OsStr;
 use std::fs;
 use std::os::unix::ffi::OsStrExt;
 
-use common::sane::{ENDS, START, pair, reference, sealed, shown, tag_of, text, with_keys};
+use common::envelopes::sealed;
+use common::sane::{ENDS, START, pair, reference, shown, tag_of, text, with_keys};
 use common::{Folder, Run};
 
 /// Runs the program with one more option, whose value may be any bytes.
@@ -166,7 +167,7 @@ fn a_session_takes_the_place_of_another() {
         let message = text(turn, 60);
         folder.write("message", &message);
         folder.done_anew(&format!("sane seal --state {from} --message message --out new"));
-        assert_eq!(folder.read("new").unwrap(), sealed(&mut session, b"", &message));
+        assert_eq!(folder.read("new").unwrap(), sealed(&mut session, 5, b"", &message));
         folder.done_anew(&format!("sane open --state {to} --in new --out opened"));
         assert_eq!(folder.read("opened"), Some(message));
     }

@@ -3,7 +3,8 @@
 mod common;
 
 use common::Folder;
-use pevghazo_reference::{envelope, sanse, session};
+use common::envelopes::{count, growth, opened, sealed};
+use pevghazo_reference::{envelope, session};
 
 const GROUPS: [u32; 3] = [0, 9, 31];
 
@@ -12,8 +13,8 @@ fn text(seed: u32, length: usize) -> Vec<u8> {
     (0..length).map(|place| (place as u32).wrapping_mul(2_654_435_761).wrapping_add(seed).to_le_bytes()[2]).collect()
 }
 
-#[test]
-fn a_season_of_three_groups() {
+/// The office and three groups, on a day.
+fn three_groups() -> Folder {
     let folder = Folder::new();
     assert_eq!(folder.done("office --state office create"), "");
     assert_eq!(folder.done("office --state office show"), "day: allowance 0 for each group\nclosed: 32 of 32 groups\n");
@@ -23,48 +24,41 @@ fn a_season_of_three_groups() {
         folder.done(&format!("office --state office open-group --group {group} --key key"));
         folder.done(&format!("group --state group-{group} start --group {group} --key key"));
     }
-    let lengths = [(0, 0), (0, 1), (20, 48), (5, 0), (16_384, 16_384), (48, 47), (1, 500)];
-    // Of each group: the opening, and its messages.
-    let mut count = 1;
-    let mut index = 0;
-    for (turn, (a, m)) in lengths.into_iter().enumerate() {
-        for group in GROUPS {
-            let (metadata, message) = (text(group, a), text(7 * group + turn as u32, m));
-            folder.write("metadata", &metadata);
-            folder.write("message", &message);
-            // In turn from the office to the group and back.
-            let (from, to) = if turn % 2 == 0 {
-                (format!("office --state office seal --group {group}"), format!("group --state group-{group} open"))
-            } else {
-                (format!("group --state group-{group} seal"), "office --state office open".to_string())
-            };
-            folder.done_anew(&format!("{from} --metadata metadata --message message --out envelope"));
-            folder.done_anew(&format!("{to} --in envelope --out opened --metadata-out opened-metadata"));
-            assert_eq!(folder.read("opened").unwrap(), message);
-            assert_eq!(folder.read("opened-metadata").unwrap(), metadata);
-        }
-        count += sanse::count(a, m);
-        index += sanse::growth(a, m);
-    }
+    folder
+}
+
+/// A message, in turn from the office to a group and back.
+fn delivered(folder: &Folder, turn: usize, group: u32, metadata: Vec<u8>, message: Vec<u8>) {
+    folder.write("metadata", &metadata);
+    folder.write("message", &message);
+    let (from, to) = if turn % 2 == 1 {
+        (format!("group --state group-{group} seal"), "office --state office open".to_string())
+    } else {
+        (format!("office --state office seal --group {group}"), format!("group --state group-{group} open"))
+    };
+    folder.done_anew(&format!("{from} --metadata metadata --message message --out envelope"));
+    folder.done_anew(&format!("{to} --in envelope --out opened --metadata-out opened-metadata"));
+    assert_eq!((folder.read("opened"), folder.read("opened-metadata")), (Some(message), Some(metadata)));
+}
+
+/// Both ends of each group show what it has spent, and its index.
+fn shown_at_both_ends(folder: &Folder, spent: [u32; 3], indices: [u32; 3]) {
     let shown = folder.done("office --state office show");
     let lines: Vec<&str> = shown.lines().collect();
-    assert_eq!(lines.len(), 5);
-    assert_eq!(lines[0], "day: allowance 100000 for each group");
-    let left = 100_000 - count;
-    for (line, group) in lines[1..].iter().zip(GROUPS) {
-        let start = format!("group {group:2}: count {count:6}, left {left:6}, index {index:7}, toggle 1, ");
-        assert!(line.starts_with(&start), "{line}");
+    assert_eq!((lines.len(), lines[0]), (5, "day: allowance 100000 for each group"));
+    for (place, group) in GROUPS.into_iter().enumerate() {
+        let (spent, index) = (spent[place], indices[place]);
+        let left = 100_000 - spent;
+        let start = format!("group {group:2}: count {spent:6}, left {left:6}, index {index:7}, toggle 0, ");
+        assert!(lines[1 + place].starts_with(&start), "{start}{shown}");
         let shown = folder.done(&format!("group --state group-{group} show"));
-        assert!(shown.starts_with(&format!("group {group:2}: open, index {index:7}, toggle 1, ")), "{shown}");
+        assert!(shown.starts_with(&format!("group {group:2}: open, index {index:7}, toggle 0, ")), "{shown}");
     }
     assert_eq!(lines[4], "closed: 29 of 32 groups");
+}
 
-    // Which group is nearly full: the lowest of the three, and none only where there is none.
-    assert_eq!(folder.done(&format!("office --state office nearly-full --mark {}", index - 1)), "0\n");
-    assert_eq!(folder.done(&format!("office --state office nearly-full --mark {} --all", index - 1)), "0\n9\n31\n");
-    assert_eq!(folder.done(&format!("office --state office nearly-full --mark {index}")), "none\n");
-
-    // Another day, and a session in the place of an old one.
+/// Another day, and a session in the place of an old one.
+fn another_day(folder: &Folder) {
     folder.done("office --state office day --allowance 28");
     folder.write("new-key", b"another key of this group");
     folder.fails(5, "office --state office open-group --group 9 --key new-key");
@@ -75,12 +69,39 @@ fn a_season_of_three_groups() {
     folder.done_anew("office --state office seal --group 9 --message message --out envelope --metadata-text new");
     folder.done_anew("group --state group-9 open --in envelope --out opened");
     assert_eq!(folder.read("opened"), folder.read("message"));
-    // 1 for the opening; 1 + 11 + 4 + 11 for 3 bytes of metadata and 500 of message.
+    // 1 for the opening; 1 + 11 + 4 + 11 for a header with 3 bytes of metadata, and 500 of message.
     let shown = folder.done("office --state office show");
     assert!(shown.contains("\ngroup  9: count 28, left  0, index "), "{shown}");
     folder.fails(20, "office --state office seal --group 9 --message message --out another");
     assert!(shown.contains("\ngroup 31: count  0, left 28, index "), "{shown}");
     folder.done_anew("office --state office seal --group 31 --message message --out another");
+}
+
+#[test]
+fn a_season_of_three_groups() {
+    let folder = three_groups();
+    // With 38 bytes of metadata, the header's second digit takes a further block at group 31.
+    let lengths = [(0, 0), (0, 1), (20, 48), (5, 0), (16_384, 16_384), (48, 47), (38, 5), (1, 500)];
+    // Of each group: the opening, and its messages.
+    let (mut spent, mut indices) = ([1; 3], [0; 3]);
+    for (turn, (a, m)) in lengths.into_iter().enumerate() {
+        for (place, group) in GROUPS.into_iter().enumerate() {
+            delivered(&folder, turn, group, text(group, a), text(7 * group + turn as u32, m));
+            spent[place] += count(group, a, m);
+            indices[place] += growth(group, a, m);
+        }
+    }
+    shown_at_both_ends(&folder, spent, indices);
+    // Which groups are nearly full: all three, the one with the further block, or none.
+    let least = indices[0];
+    assert_eq!(indices, [least, least, least + 1]);
+    for (mark, lowest, all) in
+        [(least - 1, "0\n", "0\n9\n31\n"), (least, "31\n", "31\n"), (least + 1, "none\n", "none\n")]
+    {
+        let line = format!("office --state office nearly-full --mark {mark}");
+        assert_eq!([folder.done(&line), folder.done(&format!("{line} --all"))], [lowest, all]);
+    }
+    another_day(&folder);
 }
 
 #[test]
@@ -135,15 +156,10 @@ fn the_independent_implementation_understands_it() {
         folder.done_anew("office --state office seal --group 17 --metadata-text out --message message --out envelope");
         let bytes = folder.read("envelope").unwrap();
         let parts = envelope::read(&bytes).unwrap();
-        let mut opened = vec![0; length];
-        other.unwrap(parts.metadata, parts.cryptogram, parts.tag, &mut opened).unwrap();
         assert_eq!((parts.group, parts.metadata, parts.place), (17, &b"out"[..], bytes.len()));
-        assert_eq!(opened, message);
+        assert_eq!(opened(&mut other, &bytes), message);
 
-        let (mut cryptogram, mut tag, mut bytes) = (vec![0; length], [0; 32], vec![0; length + 100]);
-        other.wrap(b"back", &message, &mut cryptogram, &mut tag).unwrap();
-        let length = envelope::write(b'S', 17, b"back", &cryptogram, &tag, &mut bytes).unwrap();
-        folder.write("envelope", &bytes[..length]);
+        folder.write("envelope", &sealed(&mut other, 17, b"back", &message));
         folder.done_anew("office --state office open --in envelope --out opened");
         assert_eq!(folder.read("opened").unwrap(), message);
     }
@@ -161,12 +177,33 @@ fn demo_in_sane(shown: &str) {
     assert_eq!(shown.matches(&format!("  group 19:   tag {tag}\n")).count(), 1, "{shown}");
     for text in ["K 801 to K 820", "K 817 to K 820"] {
         assert_eq!(shown.matches(&format!(" is opened as \"{text}\"\n")).count(), 1, "{shown}");
-        session.wrap(b"rings", text.as_bytes(), &mut [0; 14], &mut [0; 16]).unwrap();
+        sealed(&mut session, 19, b"rings", text.as_bytes());
     }
     let line = format!("  group 19: open, index {:7}, toggle 0, ", session.index);
     assert_eq!(shown.matches(&line).count(), 1, "{shown}");
     assert!(shown.contains(&format!("  mode SANE, counter 1, tag {tag}\n")), "{shown}");
     assert_eq!(shown.matches("The counter 1 is not above 1, ").count(), 1, "{shown}");
+}
+
+/// The demo's two groups with one key: the readdressed envelope is refused at the other group and at the office, where it counts for the
+/// group that it names, and neither session goes on.
+fn demo_of_one_key(shown: &str) {
+    let part = &shown[shown.find("\nGroups 8 and 9 were given one key").unwrap()..];
+    let part = &part[..part.find("\nGroup 27 needs").unwrap()];
+    let mut lines = part.lines().skip(2);
+    assert!(lines.next().unwrap().ends_with(" is opened as \"C 12001 to C 12100\""), "{part}");
+    for place in ["at group 9:", "at the office"] {
+        assert!(lines.next().unwrap().contains(place), "{part}");
+        assert!(lines.next().unwrap().starts_with("      Refused, number 11: "), "{part}");
+    }
+    assert_eq!(lines.next(), None, "{part}");
+    let (spent, index) = (1 + count(8, 5, 18), growth(8, 5, 18));
+    for line in [
+        format!("  group  8: count {spent:2}, left {:2}, index {index:7}, toggle 1, ", 30 - spent),
+        format!("  group  9: count {spent:2}, left {:2}, index {:7}, toggle 0, ", 30 - spent, 0),
+    ] {
+        assert_eq!(shown.matches(&line).count(), 1, "{line}{shown}");
+    }
 }
 
 /// The demo's counts: a group spends its allowance, the others go on, and on the next day it goes on too.
@@ -179,7 +216,7 @@ fn demo_of_a_busy_group(shown: &str) {
     let [first_day, next_day] = [shown.find(refused), shown.find("The next day begins")].map(|place| place.unwrap());
     assert!(first_day < next_day && next_day < shown.find("K 761").unwrap(), "{shown}");
     // Each message has a string of metadata and one of the message, of a block each.
-    let (count, growth) = (sanse::count(5, 14), sanse::growth(5, 14));
+    let (count, growth) = (count(27, 5, 14), growth(27, 5, 14));
     let line = |group: u32, count: u32, messages: u32| {
         let (left, index, toggle) = (30 - count, messages * growth, messages % 2);
         format!("  group {group:2}: count {count:2}, left {left:2}, index {index:7}, toggle {toggle}, ")
@@ -222,12 +259,13 @@ fn the_demo_plays_a_season() {
             assert!(line.contains(&format!("group {group:2}")), "{line}");
         }
     }
-    assert_eq!(shown.matches("Refused, number 11: ").count(), 4, "{shown}");
+    assert_eq!(shown.matches("Refused, number 11: ").count(), 6, "{shown}");
     assert_eq!(shown.matches("This is for group 4, and the state file is that of group 27.").count(), 1, "{shown}");
+    demo_of_one_key(&shown);
     demo_of_a_busy_group(&shown);
     // The codes are those of the first message, by the independent implementation.
     let mut group = session::Session::start(b"a fixed key, for the demo, of group 4").unwrap();
-    group.wrap(b"rings", b"S 20001 to S 20100", &mut [0; 18], &mut [0; 32]).unwrap();
+    sealed(&mut group, 4, b"rings", b"S 20001 to S 20100");
     for packet in 0..3 {
         let line = format!("  {packet:4} {}\n", common::code(&group, packet));
         assert_eq!(shown.matches(&line).count(), 1, "{line}{shown}");
@@ -236,7 +274,7 @@ fn the_demo_plays_a_season() {
     assert!(shown.contains("      This is not the code of packet 1 of group 4 at index 4. "), "{shown}");
     demo_in_sane(&shown);
     demo_of_a_pool(&shown);
-    // Of the three groups, which have indices of 8, 12 and 20.
+    // Of the groups, which have indices of 8, 4, 0, 12 and 20.
     let renewed =
         "\nThe groups with an index above 10, in the order in which the office renews their keys:\n  11\n  27\n\n";
     assert_eq!(shown.matches(renewed).count(), 1, "{shown}");

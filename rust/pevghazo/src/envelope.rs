@@ -1,9 +1,12 @@
 //! The envelope: the bytes in which a sealed message travels.
 //!
 //! It is the header `S,group,metadata length,message length,` in decimal, then metadata, cryptogram and tag. An envelope of
-//! a [`SaneSession`](crate::SaneSession) has the letter N and a shorter tag. The header's bytes are not under the tag.
+//! a [`SaneSession`](crate::SaneSession) has the letter N and a shorter tag.
+//!
+//! The header is under the tag: where a message is wrapped and unwrapped *for an envelope*, the header's bytes stand before the
+//! metadata in what the tag covers, so an envelope whose header was altered is refused, also where two groups have one key.
 //! [`Session::seal`](crate::Session::seal) and [`Session::open`](crate::Session::open), and those of a
-//! [`SaneSession`](crate::SaneSession) and a [`Table`](crate::Table), do both steps at once:
+//! [`SaneSession`](crate::SaneSession) and a [`Table`](crate::Table), do all steps at once:
 //!
 //! ```
 //! use pevghazo::{Letter, Plain, Session, envelope};
@@ -12,21 +15,28 @@
 //! let (mut office, _) = Session::start(&[7; 32])?;
 //! let (mut group, _) = Session::start(&[7; 32])?;
 //!
-//! let wrapped = office.wrap(&Plain { metadata: b"size C", message: b"12001-12100" })?;
-//! let bytes = envelope::write(Letter::S, 7, b"size C", &wrapped.cryptogram, &wrapped.tag)?;
+//! let plain = Plain { metadata: b"size C", message: b"12001-12100" };
+//! let header = envelope::write_header(Letter::S, 7, &plain)?;
+//! assert_eq!(header, b"S,7,6,11,");
+//! let wrapped = office.wrap_envelope(&header, &plain)?;
+//! let bytes = envelope::write(Letter::S, 7, plain.metadata, &wrapped.cryptogram, &wrapped.tag)?;
 //! assert!(bytes.starts_with(b"S,7,6,11,size C"));
 //!
 //! let arrived = envelope::read(&bytes)?;
 //! assert_eq!((arrived.letter, arrived.group, arrived.metadata), (Letter::S, 7, &b"size C"[..]));
-//! assert_eq!(group.unwrap(&arrived.arrival()?)?.message, b"12001-12100");
+//! assert_eq!(group.unwrap_envelope(&arrived)?.message, b"12001-12100");
 //! # Ok(())
 //! # }
 //! ```
+//!
+//! Versions before 0.8 did not put the header under the tag: an envelope that they sealed is refused by 11, so both ends move to
+//! this version together. What [`Session::wrap`](crate::Session::wrap) wrapped is unwrapped by
+//! [`Session::unwrap`](crate::Session::unwrap) as before, and not for an envelope.
 
 use crate::raw;
 use crate::refusal::{Number, Refusal, answer};
-use crate::texts::{Arrival, Opened, Plain, Sealed, Wrapped};
-use crate::{GROUPS, HEADER_MAX, SANE_TAG_LENGTH, TAG_LENGTH};
+use crate::texts::{Arrival, Opened, Plain, Sealed, Unwrapped, Wrapped};
+use crate::{HEADER_MAX, SANE_TAG_LENGTH, TAG_LENGTH};
 
 /// The letter that an envelope begins with: the mode of the session that sealed it.
 ///
@@ -77,6 +87,8 @@ pub struct Envelope<'a> {
     pub letter: Letter,
     /// The group, 0 to 31.
     pub group: u32,
+    /// The header: all bytes before the metadata.
+    pub header: &'a [u8],
     /// The metadata.
     pub metadata: &'a [u8],
     /// The cryptogram.
@@ -90,8 +102,9 @@ pub struct Envelope<'a> {
 }
 
 impl<'a> Envelope<'a> {
-    /// What is unwrapped of it, for a session whose tags have this length: 32 bytes, or 16 for a
-    /// [`SaneSession`](crate::SaneSession). An envelope of the other letter gets 7.
+    /// Its parts without the header, as calls without an envelope take them: those on a session whose tags have this length, 32
+    /// bytes, or 16 for a [`SaneSession`](crate::SaneSession). An envelope of the other letter gets 7. What was wrapped for an
+    /// envelope is unwrapped by [`Session::unwrap_envelope`](crate::Session::unwrap_envelope) instead.
     pub fn arrival<const TAG: usize>(&self) -> Result<Arrival<'a, TAG>, Refusal> {
         let tag = self.tag.try_into().map_err(|_| Refusal { number: Number::BadTagLength, count: 0 })?;
         Ok(Arrival { metadata: self.metadata, cryptogram: self.cryptogram, tag })
@@ -102,15 +115,19 @@ impl<'a> Envelope<'a> {
     where
         F: FnOnce(&mut [u8]) -> Result<u32, Refusal>,
     {
-        let mut message = vec![0; self.cryptogram.len()];
-        let count = unwrap(&mut message)?;
+        let Unwrapped { message, count } = Unwrapped::by(self.cryptogram.len(), unwrap)?;
         Ok(Opened { group: self.group, metadata: self.metadata, message, count, rest: self.rest })
     }
 }
 
-/// Check 3.
-pub(crate) fn check_group(group: u32) -> Result<(), Refusal> {
-    if (group as usize) < GROUPS { Ok(()) } else { Err(Refusal { number: Number::BadGroup, count: 0 }) }
+/// The header for sealing, by a session that is open or not. Checks 3, 5 and 6.
+pub(crate) fn header_for(letter: Letter, group: u32, is_open: bool, plain: &Plain<'_>) -> Result<Vec<u8>, Refusal> {
+    let header = write_header(letter, group, plain);
+    match header {
+        Err(Refusal { number: Number::BadGroup, .. }) => header,
+        _ if !is_open => Err(Refusal { number: Number::NotOpen, count: 0 }),
+        _ => header,
+    }
 }
 
 /// The envelope of a message that was wrapped by this letter's mode, for a group up to 31.
@@ -131,12 +148,22 @@ pub fn read(bytes: &[u8]) -> Result<Envelope<'_>, Refusal> {
     Ok(Envelope {
         letter: Letter::of(parts.letter),
         group: parts.group,
+        header: &bytes[..parts.metadata],
         metadata: &bytes[parts.metadata..parts.cryptogram],
         cryptogram: &bytes[parts.cryptogram..parts.tag],
         tag: &bytes[parts.tag..parts.place],
         place: parts.place,
         rest: &bytes[parts.place..],
     })
+}
+
+/// Writes the header alone of the envelope in which this metadata and message travel, to fresh bytes. Checks 3 and 6.
+pub fn write_header(letter: Letter, group: u32, plain: &Plain<'_>) -> Result<Vec<u8>, Refusal> {
+    let mut bytes = vec![0; HEADER_MAX];
+    let written = raw::write_header(letter.byte(), group, plain.metadata.len(), plain.message.len(), &mut bytes);
+    answer(written.number, 0)?;
+    bytes.truncate(written.len);
+    Ok(bytes)
 }
 
 /// Writes an envelope to fresh bytes. Checks 3, 6 and 7; the letter says how long the tag is.

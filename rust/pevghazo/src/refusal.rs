@@ -21,7 +21,8 @@ use std::fmt;
 #[non_exhaustive]
 #[repr(u8)]
 pub enum Number {
-    /// 1: the envelope's header does not follow the layout.
+    /// 1: the envelope's header does not follow the layout, or it is not that of the call: its letter, its lengths or, in a table,
+    /// its group are others.
     BadHeader = 1,
     /// 2: fewer bytes follow the header than its lengths and the tag's together; a tag has 32 bytes, or 16 with the letter N.
     TooFewBytes = 2,
@@ -33,8 +34,8 @@ pub enum Number {
     NotOpen = 5,
     /// 6: metadata, message or nonce has more than 16,384 bytes.
     TooLong = 6,
-    /// 7: the tag does not have 32 bytes, or 16 in SANE. The types of this crate rule it out, but for an envelope that is opened
-    /// by a session of the other mode, and for one that is written.
+    /// 7: the tag does not have 32 bytes, or 16 in SANE. The types of this crate rule it out, but for an envelope that is written,
+    /// or whose parts were altered after it was read.
     BadTagLength = 7,
     /// 8: the output buffer is too short.
     NoRoom = 8,
@@ -82,7 +83,7 @@ impl Number {
     /// A plain sentence for people.
     pub const fn sentence(self) -> &'static str {
         match self {
-            Number::BadHeader => "This is not an envelope: its header does not follow the layout.",
+            Number::BadHeader => "The envelope's header does not follow the layout, or is not the one of this call.",
             Number::TooFewBytes => "The envelope ends before all that its header announces.",
             Number::BadGroup => "There is no such group: groups are numbered 0 to 31.",
             Number::BadKey => "The key must have 16 to 47 bytes.",

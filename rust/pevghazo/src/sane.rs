@@ -2,7 +2,7 @@
 
 use std::fmt;
 
-use crate::envelope::{self, Letter, check_group, sealed};
+use crate::envelope::{self, Envelope, Letter, header_for, sealed};
 use crate::raw::{self, SaneRecord};
 use crate::record;
 use crate::refusal::{BadBytes, Refusal, answer};
@@ -94,9 +94,7 @@ impl SaneSession {
 
     /// Wraps a message. Checks 5, 6 and 9.
     pub fn wrap(&mut self, plain: &Plain<'_>) -> Result<Wrapped<SANE_TAG_LENGTH>, Refusal> {
-        let mut wrapped = Wrapped { cryptogram: vec![0; plain.message.len()], tag: [0; SANE_TAG_LENGTH], count: 0 };
-        wrapped.count = self.wrap_to(plain, &mut wrapped.cryptogram, &mut wrapped.tag)?;
-        Ok(wrapped)
+        Wrapped::by(plain.message.len(), |out, tag| self.wrap_to(plain, out, tag))
     }
 
     /// [`SaneSession::wrap`] into buffers: the cryptogram goes to the start of `out`, whose other bytes keep their content, and
@@ -108,9 +106,7 @@ impl SaneSession {
 
     /// Unwraps an arrival. Checks 5, 6, 9 and 11.
     pub fn unwrap(&mut self, arrival: &Arrival<'_, SANE_TAG_LENGTH>) -> Result<Unwrapped, Refusal> {
-        let mut unwrapped = Unwrapped { message: vec![0; arrival.cryptogram.len()], count: 0 };
-        unwrapped.count = self.unwrap_to(arrival, &mut unwrapped.message)?;
-        Ok(unwrapped)
+        Unwrapped::by(arrival.cryptogram.len(), |out| self.unwrap_to(arrival, out))
     }
 
     /// [`SaneSession::unwrap`] into a buffer: the message goes to the start of `out`, whose other bytes keep their content.
@@ -118,6 +114,38 @@ impl SaneSession {
     /// zero.
     pub fn unwrap_to(&mut self, arrival: &Arrival<'_, SANE_TAG_LENGTH>, out: &mut [u8]) -> Result<u32, Refusal> {
         let given = raw::sane_unwrap(&mut self.record, arrival.metadata, arrival.cryptogram, arrival.tag, out);
+        answer(given.number, given.count)
+    }
+
+    /// Wraps a message for the envelope with this header, which then stands under the tag before the metadata:
+    /// [`envelope::write_header`] gives it. Checks 1, 5 and 9; a header that breaks the layout, or whose letter or lengths are not those of
+    /// this call, gets 1. Any group is taken.
+    pub fn wrap_envelope(&mut self, header: &[u8], plain: &Plain<'_>) -> Result<Wrapped<SANE_TAG_LENGTH>, Refusal> {
+        Wrapped::by(plain.message.len(), |out, tag| self.wrap_envelope_to(header, plain, out, tag))
+    }
+
+    /// [`SaneSession::wrap_envelope`] into buffers, as [`SaneSession::wrap_to`]. Checks 1, 5, 8 and 9.
+    pub fn wrap_envelope_to(
+        &mut self,
+        header: &[u8],
+        plain: &Plain<'_>,
+        out: &mut [u8],
+        tag: &mut SaneTag,
+    ) -> Result<u32, Refusal> {
+        let given = raw::sane_wrap_envelope(&mut self.record, header, plain.metadata, plain.message, out, tag);
+        answer(given.number, given.count)
+    }
+
+    /// Unwraps an envelope that was [read](envelope::read), by its header, metadata, cryptogram and tag. Checks 1, 5, 9 and 11; an
+    /// envelope with the letter S, which is for a [`Session`](crate::Session), gets 1. Any group is taken, but the tag covers it.
+    pub fn unwrap_envelope(&mut self, envelope: &Envelope<'_>) -> Result<Unwrapped, Refusal> {
+        Unwrapped::by(envelope.cryptogram.len(), |out| self.unwrap_envelope_to(envelope, out))
+    }
+
+    /// [`SaneSession::unwrap_envelope`] into a buffer, as [`SaneSession::unwrap_to`]. Checks 1, 5, 8, 9 and 11.
+    pub fn unwrap_envelope_to(&mut self, envelope: &Envelope<'_>, out: &mut [u8]) -> Result<u32, Refusal> {
+        let Envelope { header, metadata, cryptogram, tag, .. } = *envelope;
+        let given = raw::sane_unwrap_envelope(&mut self.record, header, metadata, cryptogram, tag, out);
         answer(given.number, given.count)
     }
 
@@ -135,7 +163,7 @@ impl SaneSession {
     ///
     /// // A session of the other mode does not take it.
     /// let (mut other, _) = Session::start(&[7; 32])?;
-    /// assert_eq!(other.open(&sealed.envelope).unwrap_err().number, Number::BadTagLength);
+    /// assert_eq!(other.open(&sealed.envelope).unwrap_err().number, Number::BadHeader);
     ///
     /// let opened = group.open(&sealed.envelope)?;
     /// assert_eq!((opened.group, opened.metadata, &opened.message[..]), (7, &b"size C"[..], &b"12001-12100"[..]));
@@ -143,22 +171,19 @@ impl SaneSession {
     /// # }
     /// ```
     pub fn seal(&mut self, group: u32, plain: &Plain<'_>) -> Result<Sealed, Refusal> {
-        check_group(group)?;
-        let wrapped = self.wrap(plain)?;
+        let header = header_for(Letter::N, group, self.is_open(), plain)?;
+        let wrapped = self.wrap_envelope(&header, plain)?;
         Ok(sealed(Letter::N, group, plain, &wrapped))
     }
 
-    /// Opens the envelope at the start of the bytes; more bytes may follow. Checks 1, 2, 5, 7, 9 and 11. An envelope with the
-    /// letter S, which is for a [`Session`](crate::Session), gets 7.
+    /// Opens the envelope at the start of the bytes; more bytes may follow. Checks 1, 2, 5, 9 and 11. An envelope with the
+    /// letter S, which is for a [`Session`](crate::Session), gets 1.
     ///
-    /// A session does not know its group's number, so the header's is handed out and not looked at. It is not under the tag: an
-    /// accepted envelope is the other end's next one, whatever its header says.
+    /// A session does not know its group's number, so the header's is handed out and not looked at. But it is under the tag: an
+    /// accepted envelope is the other end's next one, with the header that it was sealed with.
     pub fn open<'a>(&mut self, bytes: &'a [u8]) -> Result<Opened<'a>, Refusal> {
         let envelope = envelope::read(bytes)?;
-        envelope.opened(|out| {
-            let given = raw::sane_unwrap(&mut self.record, envelope.metadata, envelope.cryptogram, envelope.tag, out);
-            answer(given.number, given.count)
-        })
+        envelope.opened(|out| self.unwrap_envelope_to(&envelope, out))
     }
 
     /// The index: how many blocks the session's history has taken so far, with one more for each string, the nonce among them. It

@@ -3,13 +3,13 @@
 use std::fmt;
 
 use crate::code::Code;
-use crate::envelope::{self, Envelope, Letter, sealed};
+use crate::envelope::{self, Envelope, Letter, header_for, sealed};
 use crate::raw::{self, Answer, GroupRecord};
 use crate::record;
 use crate::refusal::{BadBytes, Number, Refusal, answer};
 use crate::secret::Secret;
 use crate::texts::{Arrival, Opened, Plain, Sealed, Unwrapped, Wrapped};
-use crate::{GROUPS, TAG_LENGTH, Tag};
+use crate::{GROUPS, Tag};
 
 /// The office's table: for each of 32 groups a session and, beside it, the group's own count of the day's permutations; and one
 /// allowance, the most that each group may count in a day.
@@ -136,9 +136,7 @@ impl Table {
 
     /// [`Session::wrap`](crate::Session::wrap) for a group. Checks 3, 5, 6, 9 and 10.
     pub fn wrap(&mut self, group: u32, plain: &Plain<'_>) -> Result<Wrapped, Refusal> {
-        let mut wrapped = Wrapped { cryptogram: vec![0; plain.message.len()], tag: [0; TAG_LENGTH], count: 0 };
-        wrapped.count = self.wrap_to(group, plain, &mut wrapped.cryptogram, &mut wrapped.tag)?;
-        Ok(wrapped)
+        Wrapped::by(plain.message.len(), |out, tag| self.wrap_to(group, plain, out, tag))
     }
 
     /// [`Session::wrap_to`](crate::Session::wrap_to) for a group. Checks 3, 5, 6 and 8 to 10.
@@ -149,9 +147,7 @@ impl Table {
 
     /// [`Session::unwrap`](crate::Session::unwrap) for a group. Checks 3, 5, 6 and 9 to 11; 11 adds its count to the group's.
     pub fn unwrap(&mut self, group: u32, arrival: &Arrival<'_>) -> Result<Unwrapped, Refusal> {
-        let mut unwrapped = Unwrapped { message: vec![0; arrival.cryptogram.len()], count: 0 };
-        unwrapped.count = self.unwrap_to(group, arrival, &mut unwrapped.message)?;
-        Ok(unwrapped)
+        Unwrapped::by(arrival.cryptogram.len(), |out| self.unwrap_to(group, arrival, out))
     }
 
     /// [`Session::unwrap_to`](crate::Session::unwrap_to) for a group. Checks 3, 5, 6 and 8 to 11; 11 adds its count to the
@@ -161,21 +157,53 @@ impl Table {
         given(raw::unwrap_group(&mut self.records[..], group, self.allowance, metadata, cryptogram, tag, out))
     }
 
+    /// [`Session::wrap_envelope`](crate::Session::wrap_envelope) for a group. Checks 1, 5, 9 and 10; a header of another group gets 1.
+    pub fn wrap_envelope(&mut self, group: u32, header: &[u8], plain: &Plain<'_>) -> Result<Wrapped, Refusal> {
+        Wrapped::by(plain.message.len(), |out, tag| self.wrap_envelope_to(group, header, plain, out, tag))
+    }
+
+    /// [`Session::wrap_envelope_to`](crate::Session::wrap_envelope_to) for a group. Checks 1, 5 and 8 to 10.
+    pub fn wrap_envelope_to(
+        &mut self,
+        group: u32,
+        header: &[u8],
+        plain: &Plain<'_>,
+        out: &mut [u8],
+        tag: &mut Tag,
+    ) -> Result<u32, Refusal> {
+        let Plain { metadata, message } = *plain;
+        let records = &mut self.records[..];
+        given(raw::wrap_envelope_group(records, group, self.allowance, header, metadata, message, out, tag))
+    }
+
+    /// [`Session::unwrap_envelope`](crate::Session::unwrap_envelope) for a group. Checks 1, 5 and 9 to 11; an envelope of another
+    /// group gets 1, and 11 adds its count to the group's.
+    pub fn unwrap_envelope(&mut self, group: u32, envelope: &Envelope<'_>) -> Result<Unwrapped, Refusal> {
+        Unwrapped::by(envelope.cryptogram.len(), |out| self.unwrap_envelope_to(group, envelope, out))
+    }
+
+    /// [`Session::unwrap_envelope_to`](crate::Session::unwrap_envelope_to) for a group. Checks 1, 5 and 8 to 11; 11 adds its count
+    /// to the group's.
+    pub fn unwrap_envelope_to(&mut self, group: u32, envelope: &Envelope<'_>, out: &mut [u8]) -> Result<u32, Refusal> {
+        let Envelope { header, metadata, cryptogram, tag, .. } = *envelope;
+        let records = &mut self.records[..];
+        given(raw::unwrap_envelope_group(records, group, self.allowance, header, metadata, cryptogram, tag, out))
+    }
+
     /// Seals a message into an envelope for a group. Checks 3, 5, 6, 9 and 10.
     pub fn seal(&mut self, group: u32, plain: &Plain<'_>) -> Result<Sealed, Refusal> {
-        let wrapped = self.wrap(group, plain)?;
+        let is_open = self.record(group).is_some_and(|record| record.session.opened);
+        let header = header_for(Letter::S, group, is_open, plain)?;
+        let wrapped = self.wrap_envelope(group, &header, plain)?;
         Ok(sealed(Letter::S, group, plain, &wrapped))
     }
 
     /// Opens the envelope at the start of the bytes, with the session of the group that its header names; more bytes may
-    /// follow. Checks 1, 2, 5, 7 and 9 to 11; 11 adds its count to the group's. An envelope with the letter N, which is for
-    /// a [`SaneSession`](crate::SaneSession), gets 7.
+    /// follow. Checks 1, 2, 5 and 9 to 11; 11 adds its count to the group's. An envelope with the letter N, which is for
+    /// a [`SaneSession`](crate::SaneSession), gets 1.
     pub fn open<'a>(&mut self, bytes: &'a [u8]) -> Result<Opened<'a>, Refusal> {
         let envelope = envelope::read(bytes)?;
-        let Envelope { group, metadata, cryptogram, tag, .. } = envelope;
-        envelope.opened(|out| {
-            given(raw::unwrap_group(&mut self.records[..], group, self.allowance, metadata, cryptogram, tag, out))
-        })
+        envelope.opened(|out| self.unwrap_envelope_to(envelope.group, &envelope, out))
     }
 
     /// [`Session::code`](crate::Session::code) of a group's session: the code of a packet, 0 to 2,047, and the permutations

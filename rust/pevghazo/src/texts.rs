@@ -4,6 +4,7 @@
 use std::fmt;
 
 use crate::TAG_LENGTH;
+use crate::refusal::Refusal;
 
 /// What is wrapped or sealed.
 ///
@@ -56,6 +57,18 @@ pub struct Wrapped<const TAG: usize = TAG_LENGTH> {
     pub count: u32,
 }
 
+impl<const TAG: usize> Wrapped<TAG> {
+    /// A message of so many bytes, whose cryptogram and tag `wrap` writes to its buffers; it gives the count.
+    pub(crate) fn by<F>(message: usize, wrap: F) -> Result<Wrapped<TAG>, Refusal>
+    where
+        F: FnOnce(&mut [u8], &mut [u8; TAG]) -> Result<u32, Refusal>,
+    {
+        let mut wrapped = Wrapped { cryptogram: vec![0; message], tag: [0; TAG], count: 0 };
+        wrapped.count = wrap(&mut wrapped.cryptogram, &mut wrapped.tag)?;
+        Ok(wrapped)
+    }
+}
+
 /// An unwrapped message. Its memory is the caller's: [`wipe`](crate::wipe) sets it to zero.
 #[must_use = "the session has gone on: the message cannot be unwrapped again"]
 pub struct Unwrapped {
@@ -63,6 +76,18 @@ pub struct Unwrapped {
     pub message: Vec<u8>,
     /// The permutations done.
     pub count: u32,
+}
+
+impl Unwrapped {
+    /// A message of so many bytes that `unwrap` writes to its buffer and gives the count of.
+    pub(crate) fn by<F>(message: usize, unwrap: F) -> Result<Unwrapped, Refusal>
+    where
+        F: FnOnce(&mut [u8]) -> Result<u32, Refusal>,
+    {
+        let mut unwrapped = Unwrapped { message: vec![0; message], count: 0 };
+        unwrapped.count = unwrap(&mut unwrapped.message)?;
+        Ok(unwrapped)
+    }
 }
 
 /// A sealed message: the envelope's bytes, and what the sealing cost.
@@ -78,7 +103,7 @@ pub struct Sealed {
 /// An opened envelope. The message's memory is the caller's: [`wipe`](crate::wipe) sets it to zero.
 #[must_use = "the session has gone on: the envelope cannot be opened again"]
 pub struct Opened<'a> {
-    /// The group that the header names, 0 to 31. The header is not under the tag.
+    /// The group that the header names, 0 to 31. The header is under the tag.
     pub group: u32,
     /// The metadata, a part of the envelope's bytes.
     pub metadata: &'a [u8],

@@ -2,9 +2,9 @@
 //!
 //! `S,group,A length,M length,` in decimal, then the metadata, the cryptogram and the tag. The letter is that of the mode: S
 //! for SANSE, N for SANE; the tag's length goes by it. More bytes may follow, so several envelopes can stand one after the
-//! other.
+//! other. A call for an envelope is handed the header, and it must be the call's own (document 02, request 7).
 
-use crate::limits::{LENGTH_MAX, SANE_TAG, TAG, check_lengths};
+use crate::limits::{LENGTH_MAX, SANE_TAG, TAG, check_lengths, check_texts};
 use crate::refusal::Number;
 
 /// The highest number of a group.
@@ -25,6 +25,8 @@ pub struct Parts<'a> {
     pub letter: u8,
     /// The group.
     pub group: u32,
+    /// The header's bytes within the envelope: all before the metadata.
+    pub header: &'a [u8],
     /// The metadata's bytes within the envelope.
     pub metadata: &'a [u8],
     /// The cryptogram's bytes within the envelope.
@@ -82,11 +84,27 @@ pub fn read(bytes: &[u8]) -> Result<Parts<'_>, Number> {
     if rest.len() < header.metadata + header.message + header.tag {
         return Err(Number::Truncated);
     }
+    let before = &bytes[..bytes.len() - rest.len()];
     let (metadata, after) = rest.split_at(header.metadata);
     let (cryptogram, after) = after.split_at(header.message);
     let (tag, after) = after.split_at(header.tag);
     let place = bytes.len() - after.len();
-    Ok(Parts { letter: header.letter, group: header.group, metadata, cryptogram, tag, place })
+    Ok(Parts { letter: header.letter, group: header.group, header: before, metadata, cryptogram, tag, place })
+}
+
+/// Check 1 of a call for an envelope: bytes that are not exactly one header, or one with another letter, another group than the
+/// call's, if it has one, or other lengths of metadata and message.
+pub(crate) fn check_header(
+    bytes: &[u8],
+    letter: u8,
+    group: Option<u32>,
+    metadata: usize,
+    message: usize,
+) -> Result<(), Number> {
+    let (found, rest) = header(bytes).ok_or(Number::Header)?;
+    let same_lengths = found.metadata == metadata && found.message == message;
+    let same_group = group.is_none_or(|group| group == found.group);
+    if rest.is_empty() && found.letter == letter && same_group && same_lengths { Ok(()) } else { Err(Number::Header) }
 }
 
 /// The header of an envelope.
@@ -105,14 +123,35 @@ pub fn write(
     tag: &[u8],
     buffer: &mut [u8],
 ) -> Result<usize, Number> {
-    let tag_length = tag_length(letter).ok_or(Number::Header)?;
-    if group > GROUP_MAX {
-        return Err(Number::Group);
-    }
+    let tag_length = check_written(letter, group)?;
     check_lengths(&[metadata.len(), cryptogram.len()], tag.len(), tag_length)?;
     let header = header_bytes(letter, group, metadata.len(), cryptogram.len());
-    let envelope = [&header, metadata, cryptogram, tag].concat();
-    let start = buffer.get_mut(..envelope.len()).ok_or(Number::Buffer)?;
-    start.copy_from_slice(&envelope);
-    Ok(envelope.len())
+    put(&[&header, metadata, cryptogram, tag].concat(), buffer)
+}
+
+/// Writes the header alone of an envelope with these lengths of metadata and message, as [`write`] writes an envelope. Meets 1, 3,
+/// 6 and 8.
+pub fn write_header(
+    letter: u8,
+    group: u32,
+    metadata: usize,
+    message: usize,
+    buffer: &mut [u8],
+) -> Result<usize, Number> {
+    check_written(letter, group)?;
+    check_texts(&[metadata, message])?;
+    put(&header_bytes(letter, group, metadata, message), buffer)
+}
+
+/// The checks 1 and 3 of writing. Gives the length of the letter's tags.
+fn check_written(letter: u8, group: u32) -> Result<usize, Number> {
+    let tag_length = tag_length(letter).ok_or(Number::Header)?;
+    if group > GROUP_MAX { Err(Number::Group) } else { Ok(tag_length) }
+}
+
+/// Puts bytes at the start of a buffer, and gives their number. Meets 8.
+fn put(bytes: &[u8], buffer: &mut [u8]) -> Result<usize, Number> {
+    let start = buffer.get_mut(..bytes.len()).ok_or(Number::Buffer)?;
+    start.copy_from_slice(bytes);
+    Ok(bytes.len())
 }

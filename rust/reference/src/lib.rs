@@ -8,7 +8,7 @@
 //! * the Farfalle paper, section 3: the construction that makes a deck function from a permutation;
 //! * the scope document, number 01: limits, counts, what a refusal leaves behind, the envelope and the office's table;
 //! * document 02: the codes for packets; counts, limits and the envelope's letter of SANE; a count of the day for each group;
-//!   the pool of unused rings.
+//!   the pool of unused rings; the header under the tag in calls for an envelope.
 //!
 //! # The layers
 //!

@@ -20,12 +20,15 @@ pub(crate) fn check_key(key: &[u8]) -> Result<(), Number> {
     if (KEY_MIN..=KEY_MAX).contains(&key.len()) { Ok(()) } else { Err(Number::Key) }
 }
 
+/// Check 6, of texts with these lengths.
+pub(crate) fn check_texts(texts: &[usize]) -> Result<(), Number> {
+    if texts.iter().any(|length| *length > LENGTH_MAX) { Err(Number::TooLong) } else { Ok(()) }
+}
+
 /// The checks 6 and 7, which sessions and envelopes share: of texts with these lengths, and of a tag that must have
 /// `tag_length` bytes.
 pub(crate) fn check_lengths(texts: &[usize], tag: usize, tag_length: usize) -> Result<(), Number> {
-    if texts.iter().any(|length| *length > LENGTH_MAX) {
-        return Err(Number::TooLong);
-    }
+    check_texts(texts)?;
     if tag != tag_length {
         return Err(Number::TagLength);
     }

@@ -7,7 +7,7 @@ use std::fmt;
 #[derive(Clone, Copy, Debug, PartialEq, Eq, PartialOrd, Ord, Hash)]
 #[repr(u8)]
 pub enum Number {
-    /// 1: the envelope's header does not follow the layout; in writing, there is no such letter.
+    /// 1: the envelope's header does not follow the layout, or is not that of the call; in writing, there is no such letter.
     Header = 1,
     /// 2: fewer bytes follow the header than its two lengths and the tag need.
     Truncated = 2,
@@ -48,7 +48,7 @@ impl Number {
     /// A plain sentence for people.
     pub fn sentence(self) -> &'static str {
         match self {
-            Number::Header => "The envelope's header does not follow the layout.",
+            Number::Header => "The envelope's header does not follow the layout, or is not that of the call.",
             Number::Truncated => "The envelope ends before all that its header announces.",
             Number::Group => "There is no such group: groups are 0 to 31, in a table of 32.",
             Number::Key => "The key must have 16 to 47 bytes.",

@@ -5,6 +5,7 @@
 //! pass over a message is enough, but no two sessions under one key may start with one nonce.
 
 use crate::deck::{Deck, blocks};
+use crate::envelope::SANE_LETTER;
 use crate::limits::{SANE_TAG, check_key, check_lengths};
 use crate::refusal::Number;
 use crate::session::{Mode, SaneSession, add_keystream, compress_metadata};
@@ -58,6 +59,7 @@ fn crypt(history: &Deck, input: &[u8], output: &mut [u8]) {
 
 impl Mode for Sane {
     const TAG: usize = SANE_TAG;
+    const LETTER: u8 = SANE_LETTER;
 
     fn count(metadata: usize, message: usize) -> u32 {
         count(metadata, message)

@@ -4,6 +4,7 @@
 //! history with metadata and tag: so two messages have one keystream only where everything up to their tags is the same.
 
 use crate::deck::{Deck, blocks};
+use crate::envelope::SANSE_LETTER;
 use crate::limits::{TAG, check_key};
 use crate::refusal::Number;
 use crate::session::{Mode, Session, add_keystream, compress_metadata};
@@ -44,6 +45,7 @@ fn with_tag(history: &Deck, toggle: bool, tag: &[u8]) -> Deck {
 
 impl Mode for Sanse {
     const TAG: usize = TAG;
+    const LETTER: u8 = SANSE_LETTER;
 
     fn count(metadata: usize, message: usize) -> u32 {
         count(metadata, message)

@@ -5,11 +5,16 @@
 //! into a *cryptogram* of the message's length and a *tag*. *Unwrapping* turns them back, or refuses. Every tag covers all
 //! messages of the session so far, those of both directions. What a call puts in the history, and where tag and keystream
 //! come from, is the mode's: see [`crate::sanse`] and [`crate::sane`].
+//!
+//! A call for an envelope is handed its header too (document 02, request 7). Its *metadata string* is the header's bytes followed
+//! by the metadata; that of a call without an envelope is the metadata. History, tag, count and growth go by the string, and
+//! only the limit on the metadata by the metadata alone.
 
 use std::fmt;
 use std::marker::PhantomData;
 
 use crate::deck::{Deck, blocks};
+use crate::envelope::check_header;
 use crate::limits::{INDEX_MAX, check_lengths};
 use crate::refusal::{Number, Refusal};
 use crate::sane::Sane;
@@ -45,11 +50,14 @@ pub trait Mode: Clone + fmt::Debug + Eq {
     /// The bytes of a tag.
     const TAG: usize;
 
-    /// The permutations of a call with metadata and message of these lengths.
+    /// The letter of the mode's envelopes.
+    const LETTER: u8;
+
+    /// The permutations of a call with a metadata string and a message of these lengths.
     fn count(metadata: usize, message: usize) -> u32;
 
-    /// The steps of wrap from this history and toggle on. They fill `cryptogram`, which has the message's length, and `tag`,
-    /// and give the history that they leave.
+    /// The steps of wrap from this history and toggle on, with the metadata string as `metadata`. They fill `cryptogram`, which
+    /// has the message's length, and `tag`, and give the history that they leave.
     fn wrap(
         history: Deck,
         toggle: bool,
@@ -59,9 +67,17 @@ pub trait Mode: Clone + fmt::Debug + Eq {
         tag: &mut [u8],
     ) -> Deck;
 
-    /// The steps of unwrap from this history and toggle on, up to the tag. They fill `message`, which has the cryptogram's
-    /// length, and give the history that they leave; the tag is the start of its output.
+    /// The steps of unwrap from this history and toggle on, likewise, up to the tag. They fill `message`, which has the
+    /// cryptogram's length, and give the history that they leave; the tag is the start of its output.
     fn unwrap(history: Deck, toggle: bool, metadata: &[u8], cryptogram: &[u8], tag: &[u8], message: &mut [u8]) -> Deck;
+}
+
+/// The header that a call for an envelope is handed; none for a call without one.
+pub type Header<'a> = Option<&'a [u8]>;
+
+/// The metadata string of a call: the header's bytes, if it is handed one, and the metadata.
+pub fn metadata_string(header: Header<'_>, metadata: &[u8]) -> Vec<u8> {
+    [header.unwrap_or_default(), metadata].concat()
 }
 
 /// The frame bits after metadata.
@@ -133,8 +149,19 @@ impl<M> Record<M> {
 }
 
 impl<M: Mode> Record<M> {
-    /// The checks 5 to 9 of a call with these lengths. Gives the call's count where none is met.
-    pub fn check(&self, metadata: usize, message: usize, tag: usize, output: usize) -> Result<u32, Number> {
+    /// Check 1 of a call with this header, or none, and the checks 5 to 9 of one with these lengths. Gives the call's count where
+    /// none is met.
+    pub(crate) fn check(
+        &self,
+        header: Header<'_>,
+        metadata: usize,
+        message: usize,
+        tag: usize,
+        output: usize,
+    ) -> Result<u32, Number> {
+        if let Some(bytes) = header {
+            check_header(bytes, M::LETTER, None, metadata, message)?;
+        }
         if !self.open {
             return Err(Number::Closed);
         }
@@ -142,10 +169,11 @@ impl<M: Mode> Record<M> {
         if output < message {
             return Err(Number::Buffer);
         }
-        if u64::from(self.index) + u64::from(growth(metadata, message)) > u64::from(INDEX_MAX) {
+        let string = header.map_or(0, <[u8]>::len) + metadata;
+        if u64::from(self.index) + u64::from(growth(string, message)) > u64::from(INDEX_MAX) {
             return Err(Number::Full);
         }
-        Ok(M::count(metadata, message))
+        Ok(M::count(string, message))
     }
 
     /// Wraps a message: the cryptogram goes to the start of `cryptogram`, whose other bytes keep their content, and the tag
@@ -157,9 +185,22 @@ impl<M: Mode> Record<M> {
         cryptogram: &mut [u8],
         tag: &mut [u8],
     ) -> Result<u32, Refusal> {
-        let count = self.check(metadata.len(), message.len(), tag.len(), cryptogram.len())?;
+        self.wrap_for(None, metadata, message, cryptogram, tag)
+    }
+
+    /// [`Record::wrap`] for the envelope with this header, which meets 1 first; or without one.
+    pub fn wrap_for(
+        &mut self,
+        header: Header<'_>,
+        metadata: &[u8],
+        message: &[u8],
+        cryptogram: &mut [u8],
+        tag: &mut [u8],
+    ) -> Result<u32, Refusal> {
+        let count = self.check(header, metadata.len(), message.len(), tag.len(), cryptogram.len())?;
         let cryptogram = &mut cryptogram[..message.len()];
-        let history = M::wrap(self.deck(), self.toggle, metadata, message, cryptogram, tag);
+        let string = metadata_string(header, metadata);
+        let history = M::wrap(self.deck(), self.toggle, &string, message, cryptogram, tag);
         self.accept(history);
         Ok(count)
     }
@@ -174,9 +215,22 @@ impl<M: Mode> Record<M> {
         tag: &[u8],
         message: &mut [u8],
     ) -> Result<u32, Refusal> {
-        let count = self.check(metadata.len(), cryptogram.len(), tag.len(), message.len())?;
+        self.unwrap_for(None, metadata, cryptogram, tag, message)
+    }
+
+    /// [`Record::unwrap`] of what arrived in the envelope with this header, which meets 1 first; or without one.
+    pub fn unwrap_for(
+        &mut self,
+        header: Header<'_>,
+        metadata: &[u8],
+        cryptogram: &[u8],
+        tag: &[u8],
+        message: &mut [u8],
+    ) -> Result<u32, Refusal> {
+        let count = self.check(header, metadata.len(), cryptogram.len(), tag.len(), message.len())?;
         let message = &mut message[..cryptogram.len()];
-        let history = M::unwrap(self.deck(), self.toggle, metadata, cryptogram, tag, message);
+        let string = metadata_string(header, metadata);
+        let history = M::unwrap(self.deck(), self.toggle, &string, cryptogram, tag, message);
         let mut found = vec![0; M::TAG];
         history.output(0, &mut found);
         if found != tag {
@@ -192,26 +246,31 @@ impl<M: Mode> Record<M> {
 pub(crate) mod tests {
     use super::*;
     use crate::deck::tests::counted;
+    use crate::envelope::header_bytes;
 
-    /// Wraps, unwraps and refuses at the edges from this session on: counts are the permutations made, and the index grows by
-    /// its formula.
+    /// Wraps, unwraps and refuses at the edges from this session on, without an envelope and for one: counts are the
+    /// permutations made, and the index grows by its formula.
     pub(crate) fn check_counts<M: Mode>(session: &Record<M>) {
-        let edges = [0, 1, 20, 31, 32, 33, 47, 48, 49, 79, 80, 81, 95, 96, 97, 1_000, 16_383, 16_384];
-        for a in edges {
-            for m in edges {
-                let (mut here, mut there, mut wrong) = (session.clone(), session.clone(), session.clone());
-                let (metadata, message) = (vec![1; a], vec![2; m]);
-                let (mut cryptogram, mut tag, mut back) = (vec![0; m], vec![0; M::TAG], vec![0; m]);
-                let (answer, made) = counted(|| here.wrap(&metadata, &message, &mut cryptogram, &mut tag));
-                assert_eq!(answer, Ok(made), "wrap of {a} and {m} bytes");
-                let (answer, made) = counted(|| there.unwrap(&metadata, &cryptogram, &tag, &mut back));
-                assert_eq!(answer, Ok(made), "unwrap of {a} and {m} bytes");
-                assert_eq!(back, message);
-                assert_eq!(here.index, session.index + growth(a, m));
-                tag[0] ^= 1;
-                let (answer, made) = counted(|| wrong.unwrap(&metadata, &cryptogram, &tag, &mut back));
-                assert_eq!(answer, Err(Refusal { number: Number::Tag, count: made }), "wrong tag, {a} and {m} bytes");
-            }
+        let edges = [0, 1, 20, 31, 32, 33, 37, 38, 47, 48, 49, 79, 80, 81, 95, 96, 97, 1_000, 16_383, 16_384];
+        for (a, m) in edges.into_iter().flat_map(|a| edges.map(|m| (a, m))) {
+            check_count(session, None, a, m);
+            check_count(session, Some(&header_bytes(M::LETTER, 7, a, m)), a, m);
         }
+    }
+
+    /// The same of a call with these lengths.
+    fn check_count<M: Mode>(session: &Record<M>, header: Header<'_>, a: usize, m: usize) {
+        let (mut here, mut there, mut wrong) = (session.clone(), session.clone(), session.clone());
+        let (metadata, message) = (vec![1; a], vec![2; m]);
+        let (mut cryptogram, mut tag, mut back) = (vec![0; m], vec![0; M::TAG], vec![0; m]);
+        let (answer, made) = counted(|| here.wrap_for(header, &metadata, &message, &mut cryptogram, &mut tag));
+        assert_eq!(answer, Ok(made), "wrap of {a} and {m} bytes");
+        let (answer, made) = counted(|| there.unwrap_for(header, &metadata, &cryptogram, &tag, &mut back));
+        assert_eq!(answer, Ok(made), "unwrap of {a} and {m} bytes");
+        assert_eq!(back, message);
+        assert_eq!(here.index, session.index + growth(metadata_string(header, &metadata).len(), m));
+        tag[0] ^= 1;
+        let (answer, made) = counted(|| wrong.unwrap_for(header, &metadata, &cryptogram, &tag, &mut back));
+        assert_eq!(answer, Err(Refusal { number: Number::Tag, count: made }), "wrong tag, {a} and {m} bytes");
     }
 }

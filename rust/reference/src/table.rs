@@ -1,11 +1,12 @@
 //! The office's table of sessions (document 01, "The row"; the counts of document 02, request 4; the lowest nearly full group of
-//! its request 5).
+//! its request 5; the calls for an envelope of its request 7).
 //!
 //! The table has 32 records, one for each group: a session and, beside it, the group's own count of the day's permutations. One
 //! allowance holds for every group.
 
+use crate::envelope::{SANSE_LETTER, check_header};
 use crate::refusal::{Number, Refusal};
-use crate::session::Session;
+use crate::session::{Header, Session};
 
 /// The number of records of a table.
 pub const GROUPS: usize = 32;
@@ -95,10 +96,24 @@ impl Table {
         cryptogram: &mut [u8],
         tag: &mut [u8],
     ) -> Result<u32, Refusal> {
+        self.wrap_for(group, None, metadata, message, cryptogram, tag)
+    }
+
+    /// [`Table::wrap`] for the envelope with this header, which meets 1 first, also for a header of another group; or without one.
+    pub fn wrap_for(
+        &mut self,
+        group: u32,
+        header: Header<'_>,
+        metadata: &[u8],
+        message: &[u8],
+        cryptogram: &mut [u8],
+        tag: &mut [u8],
+    ) -> Result<u32, Refusal> {
+        check_group_header(group, header, metadata, message)?;
         let (allowance, record) = self.group(group)?;
-        let count = record.session.check(metadata.len(), message.len(), tag.len(), cryptogram.len())?;
+        let count = record.session.check(header, metadata.len(), message.len(), tag.len(), cryptogram.len())?;
         record.check_allowance(allowance, count)?;
-        let answer = record.session.wrap(metadata, message, cryptogram, tag);
+        let answer = record.session.wrap_for(header, metadata, message, cryptogram, tag);
         record.charge(answer)
     }
 
@@ -111,10 +126,25 @@ impl Table {
         tag: &[u8],
         message: &mut [u8],
     ) -> Result<u32, Refusal> {
+        self.unwrap_for(group, None, metadata, cryptogram, tag, message)
+    }
+
+    /// [`Table::unwrap`] of what arrived in the envelope with this header, which meets 1 first, also for a header of another group;
+    /// or without one.
+    pub fn unwrap_for(
+        &mut self,
+        group: u32,
+        header: Header<'_>,
+        metadata: &[u8],
+        cryptogram: &[u8],
+        tag: &[u8],
+        message: &mut [u8],
+    ) -> Result<u32, Refusal> {
+        check_group_header(group, header, metadata, cryptogram)?;
         let (allowance, record) = self.group(group)?;
-        let count = record.session.check(metadata.len(), cryptogram.len(), tag.len(), message.len())?;
+        let count = record.session.check(header, metadata.len(), cryptogram.len(), tag.len(), message.len())?;
         record.check_allowance(allowance, count)?;
-        let answer = record.session.unwrap(metadata, cryptogram, tag, message);
+        let answer = record.session.unwrap_for(header, metadata, cryptogram, tag, message);
         record.charge(answer)
     }
 
@@ -124,5 +154,13 @@ impl Table {
         self.check_group(0)?;
         let is_nearly_full = |session: &Session| session.open && session.index > mark;
         Ok((0..).zip(&self.records).find(|(_, record)| is_nearly_full(&record.session)).map(|(group, _)| group))
+    }
+}
+
+/// Check 1 of a call for a group, where it is handed a header.
+fn check_group_header(group: u32, header: Header<'_>, metadata: &[u8], text: &[u8]) -> Result<(), Number> {
+    match header {
+        Some(bytes) => check_header(bytes, SANSE_LETTER, Some(group), metadata.len(), text.len()),
+        None => Ok(()),
     }
 }

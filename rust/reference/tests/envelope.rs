@@ -1,6 +1,6 @@
 //! The envelope at its edges, with either letter.
 
-use pevghazo_reference::envelope::{HEADER_MAX, Parts, header_bytes, read, tag_length, write};
+use pevghazo_reference::envelope::{HEADER_MAX, Parts, header_bytes, read, tag_length, write, write_header};
 use pevghazo_reference::limits::LENGTH_MAX;
 use pevghazo_reference::random::Random;
 use pevghazo_reference::refusal::Number;
@@ -22,14 +22,15 @@ fn written_and_read(random: &mut Random, letter: u8, tag: usize) {
     let (a, c) = (random.pick(&lengths), random.pick(&lengths));
     let group = random.below(32) as u32;
     let (a, c, t) = (random.bytes(a), random.bytes(c), random.bytes(tag));
-    let needed = header_bytes(letter, group, a.len(), c.len()).len() + a.len() + c.len() + tag;
+    let header = header_bytes(letter, group, a.len(), c.len());
+    let needed = header.len() + a.len() + c.len() + tag;
     let mut buffer = random.bytes(needed + random.clone().below(3));
     let before = buffer.clone();
     assert_eq!(write(letter, group, &a, &c, &t, &mut buffer[..needed - 1]), Err(Number::Buffer));
     assert_eq!(buffer, before);
     assert_eq!(write(letter, group, &a, &c, &t, &mut buffer), Ok(needed));
     assert_eq!(buffer[needed..], before[needed..]);
-    let parts = Parts { letter, group, metadata: &a, cryptogram: &c, tag: &t, place: needed };
+    let parts = Parts { letter, group, header: &header, metadata: &a, cryptogram: &c, tag: &t, place: needed };
     assert_eq!(read(&buffer), Ok(parts));
     assert_eq!(read(&buffer[..needed]), Ok(parts));
     assert_eq!(read(&buffer[..needed - 1]), Err(Number::Truncated));
@@ -44,8 +45,35 @@ fn what_is_written_is_read() {
         }
         assert_eq!(header_bytes(letter, 31, LENGTH_MAX, LENGTH_MAX).len(), HEADER_MAX);
     }
-    let refused = Parts { letter: 0, group: 0, metadata: &[], cryptogram: &[], tag: &[], place: 0 };
+    let empty: &[u8] = &[];
+    let refused =
+        Parts { letter: 0, group: 0, header: empty, metadata: empty, cryptogram: empty, tag: empty, place: 0 };
     assert_eq!(Parts::default(), refused);
+}
+
+/// A header alone is the start of the envelope with its lengths, into a buffer of just its length or a longer one.
+#[test]
+fn headers_alone() {
+    for (letter, tag) in LETTERS {
+        for (group, a, m) in [(0, 0, 0), (7, 20, 48), (31, LENGTH_MAX, LENGTH_MAX), (10, 9, 10_000)] {
+            let expected = format!("{},{group},{a},{m},", char::from(letter)).into_bytes();
+            let mut envelope = vec![0; expected.len() + a + m + tag];
+            write(letter, group, &vec![1; a], &vec![2; m], &vec![3; tag], &mut envelope).unwrap();
+            assert_eq!(read(&envelope).unwrap().header, expected);
+            let mut buffer = vec![0xA5; expected.len() + 2];
+            assert_eq!(write_header(letter, group, a, m, &mut buffer[..expected.len() - 1]), Err(Number::Buffer));
+            assert_eq!(buffer, vec![0xA5; expected.len() + 2]);
+            assert_eq!(write_header(letter, group, a, m, &mut buffer), Ok(expected.len()));
+            assert_eq!(buffer, [&expected[..], &[0xA5; 2]].concat());
+        }
+        let (long, buffer) = (LENGTH_MAX + 1, &mut [0; 7][..]);
+        assert_eq!(write_header(b'F', 32, long, 0, buffer), Err(Number::Header));
+        assert_eq!(write_header(letter, 32, long, 0, buffer), Err(Number::Group));
+        assert_eq!(write_header(letter, 31, long, 0, buffer), Err(Number::TooLong));
+        assert_eq!(write_header(letter, 31, 0, long, buffer), Err(Number::TooLong));
+        assert_eq!(write_header(letter, 0, usize::MAX, usize::MAX, buffer), Err(Number::TooLong));
+        assert_eq!(write_header(letter, 0, 0, 0, buffer), Err(Number::Buffer));
+    }
 }
 
 /// The same bytes, but for the letter, end 16 bytes earlier with N.

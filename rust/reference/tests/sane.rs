@@ -2,7 +2,7 @@
 
 mod ends;
 
-use ends::{End, check_index_limit, check_refusals, key, message, text};
+use ends::{End, check_headers_first, check_index_limit, check_refusals, key, message, text};
 use pevghazo_reference::bits;
 use pevghazo_reference::deck::{pad, xoofff};
 use pevghazo_reference::ledger::DeckFunction;
@@ -105,7 +105,9 @@ fn starts_are_refused_in_their_order() {
 
 #[test]
 fn refusals_come_in_their_order() {
-    check_refusals(&mut End::<Sane>::start(&[9; 16], b"nonce", &mut [0; 16], xoofff).unwrap().0);
+    let start = || End::<Sane>::start(&[9; 16], b"nonce", &mut [0; 16], xoofff).unwrap().0;
+    check_refusals(&mut start());
+    check_headers_first(&mut start());
 }
 
 #[test]

@@ -2,7 +2,7 @@
 
 mod ends;
 
-use ends::{End, check_index_limit, check_refusals, key, message};
+use ends::{End, check_headers_first, check_index_limit, check_refusals, key, message};
 use pevghazo_reference::bits;
 use pevghazo_reference::codes::{CODE, PACKET_MAX};
 use pevghazo_reference::deck::xoofff;
@@ -56,6 +56,7 @@ fn random_sessions_against_the_ledger_on_bits() {
 #[test]
 fn refusals_come_in_their_order() {
     check_refusals(&mut End::<Sanse>::start(&[9; 16], xoofff));
+    check_headers_first(&mut End::<Sanse>::start(&[9; 16], xoofff));
     for length in [0, 1, 15, 48, 100] {
         assert_eq!(Session::start(&vec![0; length]), Err(Number::Key));
         assert_eq!(Ledger::start(&vec![0; length], xoofff).unwrap_err(), Number::Key);

@@ -2,7 +2,7 @@
 
 use pevghazo_reference::limits::INDEX_MAX;
 use pevghazo_reference::refusal::{Number, Refusal};
-use pevghazo_reference::sanse::count;
+use pevghazo_reference::sanse::{count, growth};
 use pevghazo_reference::session::Session;
 use pevghazo_reference::table::{GROUPS, GroupRecord, Table};
 
@@ -179,6 +179,39 @@ fn the_last_check_met_before_the_tag_is_the_allowance() {
     table.start_day(3);
     assert_eq!(table.unwrap(1, &[], &[], &tag, &mut out), Err(Refusal { number: Number::Tag, count: 3 }));
     assert_eq!(counts(&table), only(1, 3));
+}
+
+/// Calls for envelopes: 1 before 3 and all others, also for a header of another group; counts and growth by the header and the
+/// metadata together.
+#[test]
+fn envelopes_of_groups() {
+    let mut table = Table::new();
+    table.start_day(100);
+    table.open_group(7, &[1; 16]).unwrap();
+    table.open_group(8, &[1; 16]).unwrap();
+    let (a, m, mut c, mut tag) = ([5; 38], [6; 48], vec![0; 48], vec![0; 32]);
+    let before = table.clone();
+    for (group, header) in [(8, "S,7,38,48,"), (32, "S,31,38,48,"), (7, "N,7,38,48,"), (7, "S,7,38,47,"), (32, "")] {
+        let header = Some(header.as_bytes());
+        assert_eq!(table.wrap_for(group, header, &a, &m, &mut c, &mut tag), Err(Number::Header.into()));
+        assert_eq!(table.unwrap_for(group, header, &a, &m, &tag, &mut c), Err(Number::Header.into()));
+    }
+    let mut short = Table { records: table.records[..31].to_vec(), ..table.clone() };
+    let header = Some(&b"S,7,38,48,"[..]);
+    assert_eq!(short.wrap_for(8, header, &a, &m, &mut c, &mut tag), Err(Number::Header.into()));
+    assert_eq!(short.wrap_for(7, header, &a, &m, &mut c, &mut tag), Err(Number::Group.into()));
+    assert_eq!((&table, &c, &tag), (&before, &vec![0; 48], &vec![0; 32]));
+
+    assert_eq!(table.wrap_for(7, header, &a, &m, &mut c, &mut tag), Ok(count(48, 48)));
+    assert_eq!((table.records[7].count, table.records[7].session.index), (1 + count(48, 48), growth(48, 48)));
+    // The other group has the same key: with the header of its own it refuses by the tag, and charges for it.
+    let readdressed = Some(&b"S,8,38,48,"[..]);
+    let wrong = Err(Refusal { number: Number::Tag, count: count(48, 48) });
+    assert_eq!(table.unwrap_for(8, readdressed, &a, &c, &tag, &mut [0; 48]), wrong);
+    assert_eq!(table.records[8].count, 1 + count(48, 48));
+    let mut back = [0; 48];
+    assert_eq!(Session::start(&[1; 16]).unwrap().unwrap_for(header, &a, &c, &tag, &mut back), Ok(count(48, 48)));
+    assert_eq!(back, m);
 }
 
 #[test]

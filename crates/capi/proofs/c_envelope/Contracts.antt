@@ -14,9 +14,10 @@ use denote.Ref.{now}
 use denote.Triple.Clauses.{AtExit}
 use denote.Triple.Entry.{Args, Res}
 use Rattle.envelope.specs.Read.{readParts}
-use Rattle.envelope_write.specs.Write.{writeAnswer, writeBuffer}
+use Rattle.envelope_write.specs.Write.{writeAnswer, writeBuffer, headerAnswer, headerBuffer}
 use Rattle.capi.proofs.c_envelope.pevghazo_read_envelope as read-envelope
 use Rattle.capi.proofs.c_envelope.pevghazo_write_envelope as write-envelope
+use Rattle.capi.proofs.c_envelope.pevghazo_write_header as write-header
 
 -- in every model of the program logic
 module _ {M : Type 1} (𝓤 : URA M) (H : Heap 𝓤) (A : Atoms 𝓤) (mem : Memory → SProp 𝓤) (run : Routine → Fun 𝓤) where
@@ -36,3 +37,13 @@ module _ {M : Type 1} (𝓤 : URA M) (H : Heap 𝓤) (A : Atoms 𝓤) (mem : Mem
       ((r ≡ writeAnswer (a .0) (a .1 .0) (now (a .1 .1 .0)) (now (a .1 .1 .1 .0)) (now (a .1 .1 .1 .1 .0)) (now (a .1 .1 .1 .1 .1 .0)))
       × (now (z .1 .1 .1 .1 .1 .0) ≡ writeBuffer (a .0) (a .1 .0) (now (a .1 .1 .0)) (now (a .1 .1 .1 .0)) (now (a .1 .1 .1 .1 .0)) (now (a .1 .1 .1 .1 .1 .0))))
   write-envelope-ensures κs a r z = refl
+
+  pub write-header-asks : (κs : Lfts 1) (a : Args write-header.signature κs) → write-header.clauses 𝓤 H A mem run κs a .requires tt ≡ connectives 𝓤 .⊤ₛ
+  write-header-asks κs a = refl
+
+  pub write-header-ensures : (κs : Lfts 1) (a : Args write-header.signature κs) (r : Res write-header.signature κs) (z : AtExit write-header.ended κs)
+      → write-header.clauses 𝓤 H A mem run κs a .ensures tt r z
+      ≡ connectives 𝓤 .⌜_⌝
+      ((r ≡ headerAnswer (a .0) (a .1 .0) (a .1 .1 .0) (a .1 .1 .1 .0) (now (a .1 .1 .1 .1 .0)))
+      × (now (z .1 .1 .1 .1 .0) ≡ headerBuffer (a .0) (a .1 .0) (a .1 .1 .0) (a .1 .1 .1 .0) (now (a .1 .1 .1 .1 .0))))
+  write-header-ensures κs a r z = refl

@@ -13,11 +13,13 @@ use contract.Notation.{Connectives, connectives}
 use denote.Ref.{now}
 use denote.Triple.Clauses.{AtExit}
 use denote.Triple.Entry.{Args, Res}
-use Rattle.sane.specs.Session.{handed}
+use Rattle.sane.specs.Session.{handed, handedFor}
 use Rattle.sane_session.specs.Lent.{Started, Wrapped, Unwrapped}
 use Rattle.capi.proofs.c_sane.pevghazo_sane_start as start
 use Rattle.capi.proofs.c_sane.pevghazo_sane_wrap as wrap
 use Rattle.capi.proofs.c_sane.pevghazo_sane_unwrap as unwrap
+use Rattle.capi.proofs.c_sane.pevghazo_sane_wrap_envelope as wrap-envelope
+use Rattle.capi.proofs.c_sane.pevghazo_sane_unwrap_envelope as unwrap-envelope
 
 -- in every model of the program logic
 module _ {M : Type 1} (𝓤 : URA M) (H : Heap 𝓤) (A : Atoms 𝓤) (mem : Memory → SProp 𝓤) (run : Routine → Fun 𝓤) where
@@ -48,3 +50,26 @@ module _ {M : Type 1} (𝓤 : URA M) (H : Heap 𝓤) (A : Atoms 𝓤) (mem : Mem
       (Unwrapped (now (a .0)) (handed (now (a .1 .0)) (now (a .1 .1 .0)) (now (a .1 .1 .1 .1 .0)) (now (a .1 .1 .1 .0))) r (now (z .0))
       (now (z .1 .1 .1 .1 .0)) (now (a .1 .1 .1 .0)))
   unwrap-ensures κs a r z = refl
+
+  pub wrap-envelope-asks : (κs : Lfts 6) (a : Args wrap-envelope.signature κs)
+      → wrap-envelope.clauses 𝓤 H A mem run κs a .requires tt ≡ connectives 𝓤 .⊤ₛ
+  wrap-envelope-asks κs a = refl
+
+  pub wrap-envelope-ensures : (κs : Lfts 6) (a : Args wrap-envelope.signature κs) (r : Res wrap-envelope.signature κs) (z : AtExit wrap-envelope.ended κs)
+      → wrap-envelope.clauses 𝓤 H A mem run κs a .ensures tt r z
+      ≡ connectives 𝓤 .⌜_⌝
+      (Wrapped (now (a .0)) (handedFor (now (a .1 .0)) (now (a .1 .1 .0)) (now (a .1 .1 .1 .0)) (now (a .1 .1 .1 .1 .0)) (now (a .1 .1 .1 .1 .1 .0))) r
+      (now (z .0)) (now (z .1 .1 .1 .1 .0)) (now (z .1 .1 .1 .1 .1 .0)))
+  wrap-envelope-ensures κs a r z = refl
+
+  pub unwrap-envelope-asks : (κs : Lfts 6) (a : Args unwrap-envelope.signature κs)
+      → unwrap-envelope.clauses 𝓤 H A mem run κs a .requires tt ≡ connectives 𝓤 .⊤ₛ
+  unwrap-envelope-asks κs a = refl
+
+  pub unwrap-envelope-ensures : (κs : Lfts 6) (a : Args unwrap-envelope.signature κs) (r : Res unwrap-envelope.signature κs)
+      (z : AtExit unwrap-envelope.ended κs)
+      → unwrap-envelope.clauses 𝓤 H A mem run κs a .ensures tt r z
+      ≡ connectives 𝓤 .⌜_⌝
+      (Unwrapped (now (a .0)) (handedFor (now (a .1 .0)) (now (a .1 .1 .0)) (now (a .1 .1 .1 .0)) (now (a .1 .1 .1 .1 .1 .0)) (now (a .1 .1 .1 .1 .0))) r
+      (now (z .0)) (now (z .1 .1 .1 .1 .1 .0)) (now (a .1 .1 .1 .1 .0)))
+  unwrap-envelope-ensures κs a r z = refl

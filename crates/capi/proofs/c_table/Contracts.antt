@@ -13,7 +13,7 @@ use contract.Notation.{Connectives, connectives}
 use denote.Ref.{now}
 use denote.Triple.Clauses.{AtExit}
 use denote.Triple.Entry.{Args, Res}
-use Rattle.sanse.specs.Session.{handed}
+use Rattle.sanse.specs.Session.{handed, handedFor}
 use Rattle.office.specs.Table.{tableOf, dayResult, tableResult, openingResult, startDayAt, wrapGroupAt, unwrapGroupAt, openGroupAt, TableFinding, nearlyFullAt}
 use Rattle.capi.specs.Found.{foundResult}
 use Rattle.capi.specs.declared.c_table.Found.{Found}
@@ -21,6 +21,8 @@ use Rattle.capi.proofs.c_table.pevghazo_start_day as start-day
 use Rattle.capi.proofs.c_table.pevghazo_open_group as open-group
 use Rattle.capi.proofs.c_table.pevghazo_wrap_group as wrap-group
 use Rattle.capi.proofs.c_table.pevghazo_unwrap_group as unwrap-group
+use Rattle.capi.proofs.c_table.pevghazo_wrap_envelope_group as wrap-envelope
+use Rattle.capi.proofs.c_table.pevghazo_unwrap_envelope_group as unwrap-envelope
 use Rattle.capi.proofs.c_table.pevghazo_nearly_full as nearly-full
 
 -- in every model of the program logic
@@ -64,6 +66,33 @@ module _ {M : Type 1} (𝓤 : URA M) (H : Heap 𝓤) (A : Atoms 𝓤) (mem : Mem
       ≡ unwrapGroupAt (a .1 .1 .0) (tableOf (now (a .0))) (a .1 .0)
       (handed (now (a .1 .1 .1 .0)) (now (a .1 .1 .1 .1 .0)) (now (a .1 .1 .1 .1 .1 .1 .0)) (now (a .1 .1 .1 .1 .1 .0))))
   unwrap-group-ensures κs a r z = refl
+
+  pub wrap-envelope-asks : (κs : Lfts 6) (a : Args wrap-envelope.signature κs)
+      → wrap-envelope.clauses 𝓤 H A mem run κs a .requires tt ≡ connectives 𝓤 .⊤ₛ
+  wrap-envelope-asks κs a = refl
+
+  pub wrap-envelope-ensures : (κs : Lfts 6) (a : Args wrap-envelope.signature κs) (r : Res wrap-envelope.signature κs) (z : AtExit wrap-envelope.ended κs)
+      → wrap-envelope.clauses 𝓤 H A mem run κs a .ensures tt r z
+      ≡ connectives 𝓤 .⌜_⌝
+      (tableResult r (now (z .0)) (now (z .1 .1 .1 .1 .1 .1 .0)) (now (z .1 .1 .1 .1 .1 .1 .1 .0))
+      ≡ wrapGroupAt (a .1 .1 .0) (tableOf (now (a .0))) (a .1 .0)
+      (handedFor (now (a .1 .1 .1 .0)) (now (a .1 .1 .1 .1 .0)) (now (a .1 .1 .1 .1 .1 .0)) (now (a .1 .1 .1 .1 .1 .1 .0))
+      (now (a .1 .1 .1 .1 .1 .1 .1 .0))))
+  wrap-envelope-ensures κs a r z = refl
+
+  pub unwrap-envelope-asks : (κs : Lfts 6) (a : Args unwrap-envelope.signature κs)
+      → unwrap-envelope.clauses 𝓤 H A mem run κs a .requires tt ≡ connectives 𝓤 .⊤ₛ
+  unwrap-envelope-asks κs a = refl
+
+  pub unwrap-envelope-ensures : (κs : Lfts 6) (a : Args unwrap-envelope.signature κs) (r : Res unwrap-envelope.signature κs)
+      (z : AtExit unwrap-envelope.ended κs)
+      → unwrap-envelope.clauses 𝓤 H A mem run κs a .ensures tt r z
+      ≡ connectives 𝓤 .⌜_⌝
+      (tableResult r (now (z .0)) (now (z .1 .1 .1 .1 .1 .1 .1 .0)) (now (a .1 .1 .1 .1 .1 .1 .0))
+      ≡ unwrapGroupAt (a .1 .1 .0) (tableOf (now (a .0))) (a .1 .0)
+      (handedFor (now (a .1 .1 .1 .0)) (now (a .1 .1 .1 .1 .0)) (now (a .1 .1 .1 .1 .1 .0)) (now (a .1 .1 .1 .1 .1 .1 .1 .0))
+      (now (a .1 .1 .1 .1 .1 .1 .0))))
+  unwrap-envelope-ensures κs a r z = refl
 
   pub nearly-full-asks : (κs : Lfts 1) (a : Args nearly-full.signature κs) → nearly-full.clauses 𝓤 H A mem run κs a .requires tt ≡ connectives 𝓤 .⊤ₛ
   nearly-full-asks κs a = refl

@@ -39,21 +39,9 @@ pub fn run(out: &mut dyn Write, run: Run) -> Result<(), Failure> {
         folder.office_sends(out, group, block)?;
     }
     label(&folder, out)?;
-    print(out, "\nThe groups return the numbers that they did not use:\n")?;
-    for (group, _, unused) in BLOCKS {
-        let envelope = folder.group_seals(group, unused)?;
-        if group == BLOCKS[0].0 {
-            print(out, &format!("  group {group:2}: an envelope of {envelope} bytes comes in, damaged in one bit:\n"))?;
-            folder.damage("from-4", "damaged")?;
-            folder.refused(out, &["office", "open", "--in", "damaged", "--out", "none"], "office.state")?;
-        }
-        let opened = folder.office_opens(group)?;
-        print(
-            out,
-            &format!("  group {group:2}: an envelope of {envelope} bytes comes in and is opened as {opened}\n"),
-        )?;
-    }
+    return_unused(&folder, out)?;
     misdirect(&folder, out)?;
+    one_key(&folder, out)?;
     keep_busy(&folder, out)?;
     with_counter(&folder, out)?;
     pool(&folder, out)?;
@@ -79,10 +67,8 @@ fn open_all(folder: &Folder) -> Result<(), Failure> {
     folder.play(&["office", "create"], "office.state")?;
     folder.day()?;
     for (group, ..) in BLOCKS {
-        let number = group.to_string();
         folder.write("key", format!("a fixed key, for the demo, of group {group}").as_bytes())?;
-        folder.play(&["office", "open-group", "--group", &number, "--key", "key"], "office.state")?;
-        folder.play(&["group", "start", "--group", &number, "--key", "key"], &format!("group-{group}.state"))?;
+        folder.open_group(group, &[])?;
     }
     Ok(())
 }
@@ -101,6 +87,25 @@ fn label(folder: &Folder, out: &mut dyn Write) -> Result<(), Failure> {
     folder.refused(out, &check("1"), "office.state")
 }
 
+/// The groups return numbers; the first envelope comes in damaged, and then whole.
+fn return_unused(folder: &Folder, out: &mut dyn Write) -> Result<(), Failure> {
+    print(out, "\nThe groups return the numbers that they did not use:\n")?;
+    for (group, _, unused) in BLOCKS {
+        let envelope = folder.group_seals(group, unused)?;
+        if group == BLOCKS[0].0 {
+            print(out, &format!("  group {group:2}: an envelope of {envelope} bytes comes in, damaged in one bit:\n"))?;
+            folder.damage("from-4", "damaged")?;
+            folder.refused(out, &["office", "open", "--in", "damaged", "--out", "none"], "office.state")?;
+        }
+        let opened = folder.office_opens(group)?;
+        print(
+            out,
+            &format!("  group {group:2}: an envelope of {envelope} bytes comes in and is opened as {opened}\n"),
+        )?;
+    }
+    Ok(())
+}
+
 /// Arrivals in the wrong place are refused.
 fn misdirect(folder: &Folder, out: &mut dyn Write) -> Result<(), Failure> {
     print(out, "\nOther arrivals that are refused:\n")?;
@@ -111,6 +116,21 @@ fn misdirect(folder: &Folder, out: &mut dyn Write) -> Result<(), Failure> {
     print(out, "  misdirected, and readdressed to 27:\n")?;
     folder.readdress("to-4", "S,4,", "S,27,", "readdressed")?;
     folder.refused(out, &["group", "open", "--in", "readdressed", "--out", "none"], "group-27.state")
+}
+
+/// An envelope for one of two groups with one key, readdressed to the other: it is refused there, and at the office.
+fn one_key(folder: &Folder, out: &mut dyn Write) -> Result<(), Failure> {
+    print(out, "\nGroups 8 and 9 were given one key, and the office sends group 8 a block:\n")?;
+    folder.write("key", b"a fixed key, for the demo, of two groups")?;
+    for group in [8, 9] {
+        folder.open_group(group, &["--reuse-key"])?;
+    }
+    folder.office_sends(out, 8, "C 12001 to C 12100")?;
+    folder.readdress("to-8", "S,8,", "S,9,", "readdressed")?;
+    print(out, "  the same envelope, with its group digit changed to 9, at group 9:\n")?;
+    folder.refused(out, &["group", "open", "--in", "readdressed", "--out", "none"], "group-9.state")?;
+    print(out, "  and at the office, where group 9 has the same key too:\n")?;
+    folder.refused(out, &["office", "open", "--in", "readdressed", "--out", "none"], "office.state")
 }
 
 /// A busy group spends its own allowance and not that of the others; the next day it goes on.
@@ -216,6 +236,15 @@ impl Folder {
     /// The office begins a day.
     fn day(&self) -> Result<String, Failure> {
         self.play(&["office", "day", "--allowance", "30"], "office.state")
+    }
+
+    /// The office opens a group, and the group starts, with the key that was written and these options at the office.
+    fn open_group(&self, group: u32, options: &[&str]) -> Result<(), Failure> {
+        let number = group.to_string();
+        let words = ["office", "open-group", "--group", &number, "--key", "key"];
+        self.play(&[&words, options].concat(), "office.state")?;
+        self.play(&["group", "start", "--group", &number, "--key", "key"], &format!("group-{group}.state"))?;
+        Ok(())
     }
 
     /// The office seals a message for a group, which opens it; prints a line on that.

@@ -31,8 +31,8 @@ pub trait Mode: Sized + fmt::Debug {
     fn from_bytes(bytes: &[u8]) -> Result<Self, BadBytes>;
     /// Seals a message into an envelope.
     fn seal(&mut self, group: u32, plain: &Plain) -> Result<Sealed, Refusal>;
-    /// Unwraps an arrival.
-    fn unwrap(&mut self, arrival: &Envelope) -> Result<Unwrapped, Refusal>;
+    /// Unwraps an arrival, whose header is under its tag.
+    fn unwrap_envelope(&mut self, arrival: &Envelope) -> Result<Unwrapped, Refusal>;
     /// The index.
     fn index(&self) -> u32;
     /// The toggle.
@@ -104,8 +104,8 @@ impl Mode for Session {
         Session::seal(self, group, plain)
     }
 
-    fn unwrap(&mut self, arrival: &Envelope) -> Result<Unwrapped, Refusal> {
-        Session::unwrap(self, &arrival.arrival()?)
+    fn unwrap_envelope(&mut self, arrival: &Envelope) -> Result<Unwrapped, Refusal> {
+        Session::unwrap_envelope(self, arrival)
     }
 
     fn index(&self) -> u32 {
@@ -141,8 +141,8 @@ impl Mode for SaneSession {
         SaneSession::seal(self, group, plain)
     }
 
-    fn unwrap(&mut self, arrival: &Envelope) -> Result<Unwrapped, Refusal> {
-        SaneSession::unwrap(self, &arrival.arrival()?)
+    fn unwrap_envelope(&mut self, arrival: &Envelope) -> Result<Unwrapped, Refusal> {
+        SaneSession::unwrap_envelope(self, arrival)
     }
 
     fn index(&self) -> u32 {

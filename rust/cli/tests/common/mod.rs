@@ -1,6 +1,7 @@
 //! What the tests of the command line share: folders, and running the program in them.
 #![allow(dead_code)] // Each test program uses a part of it.
 
+pub mod envelopes;
 pub mod sane;
 
 use std::fs;
@@ -20,10 +21,16 @@ use pevghazo_store::{Presence, Store, Wait};
 /// The program.
 pub const PROGRAM: &str = env!("CARGO_BIN_EXE_pevghazo");
 
+/// The bytes of a session.
+pub const SESSION: usize = 102;
+
 /// Where a group's session starts in the state of the office: each is followed by the group's count.
 pub const fn place_at_office(group: usize) -> usize {
-    8 + group * (102 + 4)
+    8 + group * (SESSION + 4)
 }
+
+/// Where the session starts in the state of a group, or of one end of a session in SANE.
+pub const PLACE: usize = 12;
 
 /// A folder of its own for each test, removed at the end. It is in memory where the system has such a place: syncs are fast.
 pub struct Folder(pub PathBuf);
@@ -37,6 +44,17 @@ impl Folder {
         let path = if fs::create_dir(&memory).is_ok() { memory } else { disk };
         let _ = fs::create_dir(&path);
         Folder(path)
+    }
+
+    /// A folder with copies of the files of an earlier program, closed to others; `data/README.md` says how they were made.
+    pub fn of(data: &str) -> Folder {
+        let folder = Folder::new();
+        let data = Path::new(env!("CARGO_MANIFEST_DIR")).join("tests/data").join(data);
+        for entry in fs::read_dir(data).unwrap() {
+            let entry = entry.unwrap();
+            folder.write(entry.file_name().to_str().unwrap(), &fs::read(entry.path()).unwrap());
+        }
+        folder
     }
 
     /// A copy of this folder.
@@ -75,6 +93,12 @@ impl Folder {
         let mut state = store.bytes().unwrap().to_vec();
         state[offset..offset + bytes.len()].copy_from_slice(bytes);
         store.commit(&state).unwrap();
+    }
+
+    /// The bytes of the session at an offset of a state file's state.
+    pub fn session(&self, name: &str, offset: usize) -> Vec<u8> {
+        let store = Store::open(self.0.join(name), Presence::MustExist, Wait::Never).unwrap();
+        store.bytes().unwrap()[offset..offset + SESSION].to_vec()
     }
 
     /// The program with these arguments, separated by spaces, to be run in the folder.

@@ -27,14 +27,6 @@ pub fn tag_of(folder: &Folder, key: &str, counter: u64) -> String {
     shown(&reference(&folder.read(key).unwrap(), &counter.to_le_bytes()).1)
 }
 
-/// The envelope of a message by the independent implementation.
-pub fn sealed(session: &mut SaneSession, metadata: &[u8], message: &[u8]) -> Vec<u8> {
-    let (mut cryptogram, mut tag) = (vec![0; message.len()], [0; 16]);
-    session.wrap(metadata, message, &mut cryptogram, &mut tag).unwrap();
-    let header = format!("N,5,{},{},", metadata.len(), message.len());
-    [header.as_bytes(), metadata, &cryptogram, &tag].concat()
-}
-
 /// A key and no session yet.
 pub fn with_keys() -> Folder {
     let folder = Folder::new();

@@ -23,14 +23,14 @@ pub struct Parts {
     pub place: usize,
 }
 
-/// An envelope as it was written.
+/// An envelope, or a header, as it was written.
 #[repr(C)]
 #[must_use = "the writing may have been refused"]
 #[derive(Clone, Copy, Debug, PartialEq, Eq)]
 pub struct Written {
     /// 0, or the refusal's number.
     pub number: u32,
-    /// The bytes of the envelope, or 0.
+    /// Its bytes, or 0.
     pub len: usize,
 }
 
@@ -50,6 +50,14 @@ unsafe extern "C" {
         cryptogram_len: usize,
         tag: *const u8,
         tag_len: usize,
+        out: *mut u8,
+        out_len: usize,
+    ) -> Written;
+    fn pevghazo_write_header(
+        letter: u8,
+        group: u32,
+        metadata_len: usize,
+        message_len: usize,
         out: *mut u8,
         out_len: usize,
     ) -> Written;
@@ -85,4 +93,10 @@ pub fn write_envelope(
             out.len(),
         )
     }
+}
+
+/// Writes the header of an envelope with these lengths of metadata and message. Checks 1 (for the letter), 3, 6 and 8.
+pub fn write_header(letter: u8, group: u32, metadata_len: usize, message_len: usize, out: &mut [u8]) -> Written {
+    // SAFETY: see the module's head.
+    unsafe { pevghazo_write_header(letter, group, metadata_len, message_len, out.as_mut_ptr(), out.len()) }
 }

@@ -30,12 +30,15 @@ mod stack;
 mod table;
 
 pub use codes::code;
-pub use envelope::{Parts, Written, read_envelope, write_envelope};
+pub use envelope::{Parts, Written, read_envelope, write_envelope, write_header};
 pub use pool::{PoolRecord, RunRecord, pool_add, pool_holds, pool_rings};
-pub use sane::{SaneRecord, sane_start, sane_unwrap, sane_wrap};
-pub use session::{Answer, Record, start, unwrap, wrap};
+pub use sane::{SaneRecord, sane_start, sane_unwrap, sane_unwrap_envelope, sane_wrap, sane_wrap_envelope};
+pub use session::{Answer, Record, start, unwrap, unwrap_envelope, wrap, wrap_envelope};
 pub(crate) use stack::clear_stack;
-pub use table::{Found, GroupRecord, nearly_full, open_group, start_day, unwrap_group, wrap_group};
+pub use table::{
+    Found, GroupRecord, nearly_full, open_group, start_day, unwrap_envelope_group, unwrap_group, wrap_envelope_group,
+    wrap_group,
+};
 
 /// Sets bytes to zero, also where nobody reads them afterwards.
 pub fn wipe(bytes: &mut [u8]) {

@@ -69,6 +69,32 @@ unsafe extern "C" {
         out: *mut u8,
         out_len: usize,
     ) -> Answer;
+    pub(super) fn pevghazo_sane_wrap_envelope(
+        session: *mut SaneRecord,
+        header: *const u8,
+        header_len: usize,
+        metadata: *const u8,
+        metadata_len: usize,
+        message: *const u8,
+        message_len: usize,
+        out: *mut u8,
+        out_len: usize,
+        tag: *mut u8,
+        tag_len: usize,
+    ) -> Answer;
+    pub(super) fn pevghazo_sane_unwrap_envelope(
+        session: *mut SaneRecord,
+        header: *const u8,
+        header_len: usize,
+        metadata: *const u8,
+        metadata_len: usize,
+        cryptogram: *const u8,
+        cryptogram_len: usize,
+        tag: *const u8,
+        tag_len: usize,
+        out: *mut u8,
+        out_len: usize,
+    ) -> Answer;
 }
 
 /// Starts a session in this record, and fills `tag` with the start's tag. Checks 4, 6 (for the nonce) and 7; a refused start
@@ -108,6 +134,64 @@ pub fn sane_unwrap(session: &mut SaneRecord, metadata: &[u8], cryptogram: &[u8],
     let answer = unsafe {
         pevghazo_sane_unwrap(
             session,
+            metadata.as_ptr(),
+            metadata.len(),
+            cryptogram.as_ptr(),
+            cryptogram.len(),
+            tag.as_ptr(),
+            tag.len(),
+            out.as_mut_ptr(),
+            out.len(),
+        )
+    };
+    clear_stack();
+    answer
+}
+
+/// Wraps for the envelope with this header. Check 1, for a header that is not the call's, then 5 to 9.
+pub fn sane_wrap_envelope(
+    session: &mut SaneRecord,
+    header: &[u8],
+    metadata: &[u8],
+    message: &[u8],
+    out: &mut [u8],
+    tag: &mut [u8],
+) -> Answer {
+    // SAFETY: see the module's head.
+    let answer = unsafe {
+        pevghazo_sane_wrap_envelope(
+            session,
+            header.as_ptr(),
+            header.len(),
+            metadata.as_ptr(),
+            metadata.len(),
+            message.as_ptr(),
+            message.len(),
+            out.as_mut_ptr(),
+            out.len(),
+            tag.as_mut_ptr(),
+            tag.len(),
+        )
+    };
+    clear_stack();
+    answer
+}
+
+/// Unwraps what arrived in the envelope with this header. Check 1, for a header that is not the call's, then 5 to 9 and 11.
+pub fn sane_unwrap_envelope(
+    session: &mut SaneRecord,
+    header: &[u8],
+    metadata: &[u8],
+    cryptogram: &[u8],
+    tag: &[u8],
+    out: &mut [u8],
+) -> Answer {
+    // SAFETY: see the module's head.
+    let answer = unsafe {
+        pevghazo_sane_unwrap_envelope(
+            session,
+            header.as_ptr(),
+            header.len(),
             metadata.as_ptr(),
             metadata.len(),
             cryptogram.as_ptr(),

@@ -70,6 +70,38 @@ unsafe extern "C" {
         out: *mut u8,
         out_len: usize,
     ) -> Answer;
+    pub(super) fn pevghazo_wrap_envelope_group(
+        table: *mut GroupRecord,
+        table_len: usize,
+        group: u32,
+        allowance: u32,
+        header: *const u8,
+        header_len: usize,
+        metadata: *const u8,
+        metadata_len: usize,
+        message: *const u8,
+        message_len: usize,
+        out: *mut u8,
+        out_len: usize,
+        tag: *mut u8,
+        tag_len: usize,
+    ) -> Answer;
+    pub(super) fn pevghazo_unwrap_envelope_group(
+        table: *mut GroupRecord,
+        table_len: usize,
+        group: u32,
+        allowance: u32,
+        header: *const u8,
+        header_len: usize,
+        metadata: *const u8,
+        metadata_len: usize,
+        cryptogram: *const u8,
+        cryptogram_len: usize,
+        tag: *const u8,
+        tag_len: usize,
+        out: *mut u8,
+        out_len: usize,
+    ) -> Answer;
     fn pevghazo_nearly_full(table: *const GroupRecord, table_len: usize, mark: u32) -> Found;
 }
 
@@ -145,6 +177,77 @@ pub fn unwrap_group(
             table.len(),
             group,
             allowance,
+            metadata.as_ptr(),
+            metadata.len(),
+            cryptogram.as_ptr(),
+            cryptogram.len(),
+            tag.as_ptr(),
+            tag.len(),
+            out.as_mut_ptr(),
+            out.len(),
+        )
+    };
+    clear_stack();
+    answer
+}
+
+/// Wraps for a group, for the envelope with this header. Check 1, for a header that is not the call's, then 3 and 5 to 10.
+#[allow(clippy::too_many_arguments)] // Those of the C function.
+pub fn wrap_envelope_group(
+    table: &mut [GroupRecord],
+    group: u32,
+    allowance: u32,
+    header: &[u8],
+    metadata: &[u8],
+    message: &[u8],
+    out: &mut [u8],
+    tag: &mut [u8],
+) -> Answer {
+    // SAFETY: see the module's head.
+    let answer = unsafe {
+        pevghazo_wrap_envelope_group(
+            table.as_mut_ptr(),
+            table.len(),
+            group,
+            allowance,
+            header.as_ptr(),
+            header.len(),
+            metadata.as_ptr(),
+            metadata.len(),
+            message.as_ptr(),
+            message.len(),
+            out.as_mut_ptr(),
+            out.len(),
+            tag.as_mut_ptr(),
+            tag.len(),
+        )
+    };
+    clear_stack();
+    answer
+}
+
+/// Unwraps for a group what arrived in the envelope with this header. Check 1, for a header that is not the call's, then 3 and 5 to
+/// 11; 11 adds its count to the group's, and alters nothing else in the record.
+#[allow(clippy::too_many_arguments)] // Those of the C function.
+pub fn unwrap_envelope_group(
+    table: &mut [GroupRecord],
+    group: u32,
+    allowance: u32,
+    header: &[u8],
+    metadata: &[u8],
+    cryptogram: &[u8],
+    tag: &[u8],
+    out: &mut [u8],
+) -> Answer {
+    // SAFETY: see the module's head.
+    let answer = unsafe {
+        pevghazo_unwrap_envelope_group(
+            table.as_mut_ptr(),
+            table.len(),
+            group,
+            allowance,
+            header.as_ptr(),
+            header.len(),
             metadata.as_ptr(),
             metadata.len(),
             cryptogram.as_ptr(),

@@ -3,6 +3,7 @@
 //! A *ledger* is document 01's word for this: it is fed what each call at its end is handed beside the record, and works the
 //! deck function out from the first string on at each call. Nothing is carried along but the key, the history and the toggle,
 //! and the steps of each mode are written as in the cookbook's algorithm, so it says what a record's answers should have been.
+//! Where a call is handed a header (document 02, request 7), it is fed that too, and judges it by writing the headers that fit.
 
 mod sane;
 mod sanse;
@@ -10,11 +11,12 @@ mod sanse;
 use std::marker::PhantomData;
 
 use crate::deck::{Deck, Text};
-use crate::limits::{INDEX_MAX, check_lengths};
+use crate::envelope::{GROUP_MAX, header_bytes};
+use crate::limits::{INDEX_MAX, LENGTH_MAX, check_lengths};
 use crate::refusal::{Number, Refusal};
 use crate::sane::Sane;
 use crate::sanse::Sanse;
-use crate::session::{Mode, Record, metadata_frame};
+use crate::session::{Header, Mode, Record, metadata_frame, metadata_string};
 
 /// A deck function of key, history, offset and length, all in bytes: [`crate::deck::xoofff`] or [`crate::bits::xoofff`].
 pub type DeckFunction = fn(&[u8], &[Text], usize, usize) -> Vec<u8>;
@@ -51,10 +53,10 @@ pub struct Steps {
 
 /// A mode's algorithm as the cookbook prints it, over the full history.
 pub trait Algorithm: Mode {
-    /// The steps of wrap.
+    /// The steps of wrap; the metadata are the string that a call takes for them.
     fn wrap_steps(ledger: &LedgerOf<Self>, metadata: &[u8], message: &[u8]) -> Steps;
 
-    /// The steps of unwrap, with the tag that arrived.
+    /// The steps of unwrap, likewise, with the tag that arrived.
     fn unwrap_steps(ledger: &LedgerOf<Self>, metadata: &[u8], cryptogram: &[u8], arrived: &[u8]) -> Steps;
 }
 
@@ -103,13 +105,29 @@ impl<M> LedgerOf<M> {
 }
 
 impl<M: Algorithm> LedgerOf<M> {
-    /// The checks 6 to 9; a ledger's session is always open.
-    fn check(&self, metadata: &[u8], message: &[u8], tag: &[u8], output: &[u8]) -> Result<(), Number> {
+    /// Whether a header is one of the layout's for this mode, some group, and metadata and message of these lengths.
+    fn fits(header: &[u8], metadata: usize, message: usize) -> bool {
+        let is_header = |group| header == header_bytes(M::LETTER, group, metadata, message);
+        metadata <= LENGTH_MAX && message <= LENGTH_MAX && (0..=GROUP_MAX).any(is_header)
+    }
+
+    /// Check 1, and the checks 6 to 9; a ledger's session is always open.
+    fn check(
+        &self,
+        header: Header<'_>,
+        metadata: &[u8],
+        message: &[u8],
+        tag: &[u8],
+        output: &[u8],
+    ) -> Result<(), Number> {
+        if header.is_some_and(|header| !LedgerOf::<M>::fits(header, metadata.len(), message.len())) {
+            return Err(Number::Header);
+        }
         check_lengths(&[metadata.len(), message.len()], tag.len(), M::TAG)?;
         if output.len() < message.len() {
             return Err(Number::Buffer);
         }
-        let mut history = self.after_metadata(metadata, message.len());
+        let mut history = self.after_metadata(&metadata_string(header, metadata), message.len());
         if !message.is_empty() {
             history.push(Text::new(message, &[]));
         }
@@ -124,13 +142,26 @@ impl<M: Algorithm> LedgerOf<M> {
         cryptogram: &mut [u8],
         tag: &mut [u8],
     ) -> Result<u32, Refusal> {
-        self.check(metadata, message, tag, cryptogram)?;
-        let steps = M::wrap_steps(self, metadata, message);
+        self.wrap_for(None, metadata, message, cryptogram, tag)
+    }
+
+    /// Wraps for an envelope, or without one; the arguments and answers are those of [`Record::wrap_for`].
+    pub fn wrap_for(
+        &mut self,
+        header: Header<'_>,
+        metadata: &[u8],
+        message: &[u8],
+        cryptogram: &mut [u8],
+        tag: &mut [u8],
+    ) -> Result<u32, Refusal> {
+        self.check(header, metadata, message, tag, cryptogram)?;
+        let string = metadata_string(header, metadata);
+        let steps = M::wrap_steps(self, &string, message);
         cryptogram[..message.len()].copy_from_slice(&steps.output);
         tag.copy_from_slice(&steps.tag);
         self.history = steps.history;
         self.toggle = !self.toggle;
-        Ok(M::count(metadata.len(), message.len()))
+        Ok(M::count(string.len(), message.len()))
     }
 
     /// Unwraps; the arguments and answers are those of [`Record::unwrap`].
@@ -141,9 +172,22 @@ impl<M: Algorithm> LedgerOf<M> {
         tag: &[u8],
         message: &mut [u8],
     ) -> Result<u32, Refusal> {
-        self.check(metadata, cryptogram, tag, message)?;
-        let steps = M::unwrap_steps(self, metadata, cryptogram, tag);
-        let count = M::count(metadata.len(), cryptogram.len());
+        self.unwrap_for(None, metadata, cryptogram, tag, message)
+    }
+
+    /// Unwraps for an envelope, or without one; the arguments and answers are those of [`Record::unwrap_for`].
+    pub fn unwrap_for(
+        &mut self,
+        header: Header<'_>,
+        metadata: &[u8],
+        cryptogram: &[u8],
+        tag: &[u8],
+        message: &mut [u8],
+    ) -> Result<u32, Refusal> {
+        self.check(header, metadata, cryptogram, tag, message)?;
+        let string = metadata_string(header, metadata);
+        let steps = M::unwrap_steps(self, &string, cryptogram, tag);
+        let count = M::count(string.len(), cryptogram.len());
         if steps.tag != tag {
             message[..cryptogram.len()].fill(0);
             return Err(Refusal { number: Number::Tag, count });

@@ -2,13 +2,14 @@
 #![allow(dead_code)]
 
 use pevghazo_reference::codes::CODE;
+use pevghazo_reference::envelope::header_bytes;
 use pevghazo_reference::ledger::{Algorithm, DeckFunction, Ledger, LedgerOf, SaneLedger};
 use pevghazo_reference::limits::{INDEX_MAX, LENGTH_MAX};
 use pevghazo_reference::random::Random;
 use pevghazo_reference::refusal::{Number, Refusal};
 use pevghazo_reference::sane::Sane;
 use pevghazo_reference::sanse::Sanse;
-use pevghazo_reference::session::{Record, SaneSession, Session};
+use pevghazo_reference::session::{Header, Record, SaneSession, Session, metadata_string};
 
 /// The lengths at which something changes.
 pub const EDGES: [usize; 12] = [0, 1, 2, 31, 32, 33, 47, 48, 49, 95, 96, 97];
@@ -59,13 +60,25 @@ impl End<Sane> {
 }
 
 impl<M: Algorithm> End<M> {
-    /// Wraps into these buffers.
+    /// Wraps into these buffers, without an envelope.
     pub fn wrap(&mut self, a: &[u8], m: &[u8], out: &mut [u8], tag: &mut [u8]) -> Result<u32, Refusal> {
+        self.wrap_for(None, a, m, out, tag)
+    }
+
+    /// Wraps into these buffers, for the envelope with this header, or without one.
+    pub fn wrap_for(
+        &mut self,
+        header: Header<'_>,
+        a: &[u8],
+        m: &[u8],
+        out: &mut [u8],
+        tag: &mut [u8],
+    ) -> Result<u32, Refusal> {
         let (mut out_again, mut tag_again) = (out.to_vec(), tag.to_vec());
         let before = self.session.clone();
         let (out_before, tag_before) = (out.to_vec(), tag.to_vec());
-        let answer = self.session.wrap(a, m, out, tag);
-        assert_eq!(self.ledger.wrap(a, m, &mut out_again, &mut tag_again), answer);
+        let answer = self.session.wrap_for(header, a, m, out, tag);
+        assert_eq!(self.ledger.wrap_for(header, a, m, &mut out_again, &mut tag_again), answer);
         assert_eq!((&*out, &*tag), (&*out_again, &*tag_again));
         assert_eq!(self.ledger.record(), self.session);
         if answer.is_err() {
@@ -76,12 +89,24 @@ impl<M: Algorithm> End<M> {
         answer
     }
 
-    /// Unwraps into this buffer.
+    /// Unwraps into this buffer, without an envelope.
     pub fn unwrap(&mut self, a: &[u8], c: &[u8], tag: &[u8], out: &mut [u8]) -> Result<u32, Refusal> {
+        self.unwrap_for(None, a, c, tag, out)
+    }
+
+    /// Unwraps into this buffer what arrived in the envelope with this header, or without one.
+    pub fn unwrap_for(
+        &mut self,
+        header: Header<'_>,
+        a: &[u8],
+        c: &[u8],
+        tag: &[u8],
+        out: &mut [u8],
+    ) -> Result<u32, Refusal> {
         let mut again = out.to_vec();
         let (before, out_before) = (self.session.clone(), out.to_vec());
-        let answer = self.session.unwrap(a, c, tag, out);
-        assert_eq!(self.ledger.unwrap(a, c, tag, &mut again), answer);
+        let answer = self.session.unwrap_for(header, a, c, tag, out);
+        assert_eq!(self.ledger.unwrap_for(header, a, c, tag, &mut again), answer);
         assert_eq!(&*out, &*again);
         assert_eq!(self.ledger.record(), self.session);
         match answer {
@@ -120,36 +145,71 @@ fn flipped(random: &mut Random, bytes: &[u8]) -> Vec<u8> {
     bad
 }
 
-/// One message of a random session between two ends, with damaged and repeated arrivals.
+/// One message of a random session between two ends, for an envelope or without one, with damaged and repeated arrivals.
 pub fn message<M: Algorithm>(random: &mut Random, ends: &mut [End<M>; 2], longest: usize) {
     let from = random.below(2);
     let (a, m) = (text(random, longest), text(random, longest));
-    let count = M::count(a.len(), m.len());
+    let group = random.below(32) as u32;
+    let header = random.once_in(2).then(|| header_bytes(M::LETTER, group, a.len(), m.len()));
+    let header = header.as_deref();
+    let count = M::count(metadata_string(header, &a).len(), m.len());
     let mut c = random.bytes(m.len() + random.clone().below(3));
     let mut tag = random.bytes(M::TAG);
-    assert_eq!(ends[from].wrap(&a, &m, &mut c, &mut tag), Ok(count));
+    assert_eq!(ends[from].wrap_for(header, &a, &m, &mut c, &mut tag), Ok(count));
     let c = &c[..m.len()];
     let mut out = random.bytes(m.len() + random.clone().below(3));
     let wrong = Err(Refusal { number: Number::Tag, count });
 
     let bad = flipped(random, &tag);
-    assert_eq!(ends[1 - from].unwrap(&a, c, &bad, &mut out), wrong);
+    assert_eq!(ends[1 - from].unwrap_for(header, &a, c, &bad, &mut out), wrong);
     if !m.is_empty() {
         let bad = flipped(random, c);
-        assert_eq!(ends[1 - from].unwrap(&a, &bad, &tag, &mut out), wrong);
+        assert_eq!(ends[1 - from].unwrap_for(header, &a, &bad, &tag, &mut out), wrong);
     }
     if !a.is_empty() {
         let bad = flipped(random, &a);
-        assert_eq!(ends[1 - from].unwrap(&bad, c, &tag, &mut out), wrong);
+        assert_eq!(ends[1 - from].unwrap_for(header, &bad, c, &tag, &mut out), wrong);
     }
+    other_headers(&mut ends[1 - from], (header, group), [&a, c, &tag], &mut out);
     // Handed back to the end that wrapped it.
-    assert_eq!(ends[from].unwrap(&a, c, &tag, &mut out), wrong);
+    assert_eq!(ends[from].unwrap_for(header, &a, c, &tag, &mut out), wrong);
 
-    assert_eq!(ends[1 - from].unwrap(&a, c, &tag, &mut out), Ok(count));
+    assert_eq!(ends[1 - from].unwrap_for(header, &a, c, &tag, &mut out), Ok(count));
     assert_eq!(out[..m.len()], m);
     assert_eq!(ends[0].session, ends[1].session);
     // Handed over a second time.
-    assert_eq!(ends[1 - from].unwrap(&a, c, &tag, &mut out), wrong);
+    assert_eq!(ends[1 - from].unwrap_for(header, &a, c, &tag, &mut out), wrong);
+}
+
+/// An arrival with the header of another group, without one, or with one that it was not wrapped with, is refused by 11; one with
+/// a header that does not fit by 1.
+fn other_headers<M: Algorithm>(
+    end: &mut End<M>,
+    (header, group): (Header<'_>, u32),
+    [a, c, tag]: [&[u8]; 3],
+    out: &mut [u8],
+) {
+    let of = |letter, group, a, c| header_bytes(letter, group, a, c);
+    let other = of(M::LETTER, (group + 1) % 32, a.len(), c.len());
+    let fits = [Some(&other[..]), None];
+    for instead in fits.into_iter().filter(|instead| *instead != header) {
+        let count = M::count(metadata_string(instead, a).len(), c.len());
+        assert_eq!(end.unwrap_for(instead, a, c, tag, out), Err(Refusal { number: Number::Tag, count }));
+    }
+    let whole = of(M::LETTER, group, a.len(), c.len());
+    let misfits = [
+        of(if M::LETTER == b'S' { b'N' } else { b'S' }, group, a.len(), c.len()),
+        of(M::LETTER, group, a.len() + 1, c.len()),
+        of(M::LETTER, group, a.len(), c.len() + 1),
+        of(M::LETTER, 32 + group, a.len(), c.len()),
+        [&whole[..], b"0"].concat(),
+        whole[..whole.len() - 1].to_vec(),
+        whole[1..].to_vec(),
+        Vec::new(),
+    ];
+    for misfit in misfits {
+        assert_eq!(number(end.unwrap_for(Some(&misfit), a, c, tag, out)), Number::Header);
+    }
 }
 
 /// The number of a refusal before any permutation.
@@ -157,6 +217,25 @@ fn number(answer: Result<u32, Refusal>) -> Number {
     let refusal = answer.unwrap_err();
     assert_eq!(refusal.count, 0);
     refusal.number
+}
+
+/// Number 1 of this end before every other, of its record closed too; and a length that no header has gets 1 and not 6.
+pub fn check_headers_first<M: Algorithm>(end: &mut End<M>) {
+    let long = &vec![0; LENGTH_MAX + 1];
+    let (mut out, mut short) = (vec![1; 10], vec![2; M::TAG - 1]);
+    let mut closed = Record { open: false, ..end.session.clone() };
+    let headers = [b"".to_vec(), b"X,0,16385,11,".to_vec(), header_bytes(M::LETTER, 0, long.len(), 11)];
+    for header in headers.each_ref().map(|header| Some(&header[..])) {
+        assert_eq!(number(end.wrap_for(header, long, &[0; 11], &mut out, &mut short)), Number::Header);
+        assert_eq!(number(end.unwrap_for(header, long, &[0; 11], &short, &mut out)), Number::Header);
+        assert_eq!(number(closed.wrap_for(header, long, &[0; 11], &mut out, &mut short)), Number::Header);
+        assert_eq!(number(closed.unwrap_for(header, long, &[0; 11], &short, &mut out)), Number::Header);
+    }
+    let fits = header_bytes(M::LETTER, 31, LENGTH_MAX, 11);
+    let fits = Some(&fits[..]);
+    assert_eq!(number(closed.wrap_for(fits, &long[1..], &[0; 11], &mut out, &mut short)), Number::Closed);
+    assert_eq!(number(end.wrap_for(fits, &long[1..], &[0; 11], &mut out, &mut short)), Number::TagLength);
+    assert_eq!(number(end.wrap_for(fits, &long[1..], &[0; 11], &mut out, &mut vec![2; M::TAG])), Number::Buffer);
 }
 
 /// Numbers 6, 7 and 8 of this end, and 5 of its record closed, in their order.
@@ -181,26 +260,38 @@ pub fn check_refusals<M: Algorithm>(end: &mut End<M>) {
     assert_eq!((closed, out, tag), (before, vec![1; 10], vec![2; M::TAG]));
 }
 
-/// Number 9: a call from an index close to the limit, in the mode of this session.
+/// Number 9: a call from an index close to the limit, in the mode of this session, without an envelope and for one. A header of
+/// 10 bytes takes metadata of 38 into a second block.
 pub fn check_index_limit<M: Algorithm>(started: &Record<M>) {
-    for (index, a, m, fits) in [
-        (INDEX_MAX - 2, 0, 0, true),
-        (INDEX_MAX - 1, 0, 0, false),
-        (INDEX_MAX - 5, 20, 48, true),
-        (INDEX_MAX - 4, 20, 48, false),
-        (INDEX_MAX, 0, 1, false),
-        (u32::MAX, 0, 0, false),
-        (u32::MAX, LENGTH_MAX, LENGTH_MAX, false),
+    for (index, for_envelope, a, m, fits) in [
+        (INDEX_MAX - 2, false, 0, 0, true),
+        (INDEX_MAX - 1, false, 0, 0, false),
+        (INDEX_MAX - 5, false, 20, 48, true),
+        (INDEX_MAX - 4, false, 20, 48, false),
+        (INDEX_MAX, false, 0, 1, false),
+        (u32::MAX, false, 0, 0, false),
+        (u32::MAX, false, LENGTH_MAX, LENGTH_MAX, false),
+        (INDEX_MAX - 5, false, 38, 48, true),
+        (INDEX_MAX - 5, true, 38, 48, false),
+        (INDEX_MAX - 6, true, 38, 48, true),
+        (INDEX_MAX - 4, true, 0, 1, true),
+        (INDEX_MAX - 3, true, 0, 1, false),
+        (INDEX_MAX - 2, true, 0, 0, true),
+        (INDEX_MAX - 1, true, 0, 0, false),
+        (u32::MAX, true, LENGTH_MAX, LENGTH_MAX, false),
     ] {
         let session = Record { index, ..started.clone() };
         let (metadata, message) = (vec![3; a], vec![4; m]);
+        let header = for_envelope.then(|| header_bytes(M::LETTER, 7, a, m));
+        let header = header.as_deref();
         let (mut c, mut tag) = (vec![0; m], vec![0; M::TAG]);
         let (mut here, mut there) = (session.clone(), session.clone());
-        let answer = here.wrap(&metadata, &message, &mut c, &mut tag);
-        assert_eq!(there.unwrap(&metadata, &c, &tag, &mut vec![0; m]), answer);
+        let answer = here.wrap_for(header, &metadata, &message, &mut c, &mut tag);
+        assert_eq!(there.unwrap_for(header, &metadata, &c, &tag, &mut vec![0; m]), answer);
         assert_eq!(here, there);
         if fits {
-            assert_eq!((answer, here.index), (Ok(M::count(a, m)), INDEX_MAX));
+            let count = M::count(metadata_string(header, &metadata).len(), m);
+            assert_eq!((answer, here.index), (Ok(count), INDEX_MAX));
         } else {
             assert_eq!((answer, here), (Err(Number::Full.into()), session));
         }
