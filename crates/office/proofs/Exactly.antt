@@ -20,7 +20,7 @@ use Rattle.modes.proofs.AnySession.{any-wrap, any-unwrap}
 use Rattle.modes.proofs.Envelopes.{sanse-strings}
 use Rattle.steps.proofs.Calls.{fitted-wrap, fitted-unwrap}
 use Rattle.groups.specs.Groups.{GroupState, newDay, aboveAllowance, then10, groupCheck, charged, onDay, openedUnless, chargedOpening, openOnDay}
-use Rattle.office.specs.Table.{Table, unopened, noGroup, groupAt, sessionAt, DayStart, startDayAt, TableOutcome, TableOpening, refusedBy, headerPasses, ifGroup, writtenBack, callGroupAt, wrapGroupAt, openedBack, openGroupAt}
+use Rattle.office.specs.Table.{Table, unopened, noGroup, groupAt, sessionAt, DayStart, startDayAt, TableOutcome, TableOpening, refusedBy, headerPasses, tableCheck, ifGroup, writtenBack, callGroupAt, wrapGroupAt, openedBack, openGroupAt}
 use Rattle.office.specs.Exactly.{Check1, Check3, Check10, DayExactly, NoCheckMet, CallExactly, WrapGroupExactly, UnwrapGroupExactly, WrongGroup, OpenExactly}
 
 -- ---- the tests as statements
@@ -257,7 +257,7 @@ module _ (allowance : ℕ) (t : Table) (g : ℕ) (i : CallInput) where
     exactly lone′ same ends = go (headerPasses g i) (noGroup (length t) g) (told1 g i) (told3 t g)
       where
         go : (u v : Bool) → Told (ForGroup letterS g i) (Check1 g i) u → Told (Check3 t g) ((length t ≡ 32) × (g ≤ 31)) v
-            → CallExactly allowance t g i lone (ifGroup (cond (not u) 1 (cond v 3 0)) t i (writtenBack t g (onDay allowance (groupAt t g) i lone′)))
+            → CallExactly allowance t g i lone (ifGroup (tableCheck u v) t i (writtenBack t g (onDay allowance (groupAt t g) i lone′)))
         go false v (fails c) w = by1 c
         go true true (holds own) (holds c) = by3 own c
         go true false (holds own) (fails in3) =
