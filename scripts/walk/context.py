@@ -10,6 +10,7 @@ class Context:
     The labels of the walks:
         L3, D3          the cell of local 3, and what frees it
         own-p, tok-p    what parameter p owns, and the token of its lifetime
+        lent-p          a copy of what the slice p owns, for a small function
         fin-p           what says the last contents of the buffer p
         cell, own       the cell of the record that was taken out of the borrow, and what the record owns
         others          the table's other records

@@ -141,11 +141,11 @@ use Rattle.modes.specs.Mode.{{sanse, incremental}}
 use Rattle.modes.specs.Rules.{{{rule}From5}}
 use Rattle.sanse.specs.Session.{{handedFor}}
 use Rattle.groups.specs.Groups.{{{rule}OnDay, recordOf, groupResult}}
-use Rattle.office.specs.Table.{{tableCheck, {rule}GroupAt, zeroRecord, tableOf, tableResult}}
+use Rattle.office.specs.Table.{{noGroup, tableCheck, {rule}GroupAt, zeroRecord, tableOf, tableResult}}
 use Rattle.office.proofs.Laws.{{call-refused, call-stored}}
 use Rattle.office_envelope.proofs.Laws.{{some-met, goes-on, goes-inside, goes-fits, goes-short}}''',
         environment='Rattle.session.proofs.Env',
-        small=[Small('office_envelope::first_check', 'u32', '{r} ≡ tableCheck (fitsGroup letterS {1} {3} {4} {2}) {0} {1}'),
+        small=[Small('office_envelope::first_check', 'u32', '{r} ≡ tableCheck (fitsGroup letterS {1} {3} {4} {2}) (noGroup {0} {1})'),
                Small('office_envelope::refused', 'session::Answer', '{r} ≡ record {{ number = {0}; count = 0 }}')],
         table=Table(
             index='g', record_size=108, past_end='zeroRecord', inside=f'goes-inside {first}', fits=f'goes-fits {first}',

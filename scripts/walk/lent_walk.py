@@ -258,10 +258,10 @@ class Walk(Terms):
         at, number = self.context.at(f'L{target}'), kind in WIDTHS
         width = f' w{WIDTHS[kind]}' if number else ''
         row, lawful, type_ = (kind, 'uint-lawful', f'(tyInt{width})') if number else ('Boolean', 'bool-lawful', 'tyBool')
-        spelled = f'({known} .0)' if number else known
+        spelled = f'{known} .0' if number else known
         self.put(f'peeks ! {row} (Is {row}) (shows 𝓤 H A {row}) {result} (v ∷ []) (λ {known}.')
         self.put(f'land ! (from ! (stop !)) (init ! {at} refl ({lawful} 𝓤 H A W{width} .typed {result} _ {known} .0)) $')
-        self.put(f'rewrite ! {at} (λ (u : Val). ‵ (fat fullShare {type_} l{subscript(target)} 0 u)) (ap only {spelled}) refl $ drop ! $')
+        self.put(f'rewrite ! {at} (λ (u : Val). ‵ (fat fullShare {type_} l{subscript(target)} 0 u)) (ap only ({spelled})) refl $ drop ! $')
         self.context.labels.pop(0)
 
     def call_small(self, statement, small):

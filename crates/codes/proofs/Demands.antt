@@ -9,7 +9,7 @@ use lib.ListN.{length}
 use Rattle.deck.specs.declared.DeckState.{DeckState}
 use Rattle.deck.specs.Strings.{Str}
 use Rattle.modes.specs.Call.{Side, Call}
-use Rattle.modes.specs.Mode.{incremental, sanse}
+use Rattle.modes.specs.Mode.{incremental}
 use Rattle.modes.specs.Paper.{sanseOpens}
 use Rattle.modes.specs.Ledger.{sansePaper}
 use Rattle.modes.specs.TwoEnds.{freshLedgers}

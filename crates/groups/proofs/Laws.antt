@@ -11,7 +11,6 @@ use Rattle.deck.specs.declared.DeckState.{DeckState}
 use Rattle.modes.specs.Call.{bare, under, CallInput}
 use Rattle.modes.specs.Mode.{sanse, incremental, sanseCount}
 use Rattle.modes.specs.Rules.{SessionState, Outcome, Opening, growth, firstCheck, checkFrom5, countOf, metadataString, ifNoCheck, startAt}
-use Rattle.steps.proofs.History.{passed}
 use Rattle.steps.proofs.Calls.{same-unless, bare-wrap, fitted-wrap, bare-unwrap, fitted-unwrap}
 use Rattle.sanse.specs.declared.CallResult.{CallResult}
 use Rattle.sanse.specs.Session.{startResult, callResult, handed, handedFor}
@@ -59,10 +58,6 @@ none-of-10 zero allowance spent c e = (refl, go (aboveAllowance allowance spent 
     go : (t : Bool) → aboveAllowance allowance spent c ≡ t → _≡_ {A = ℕ} (cond t 10 0) 0 → spent + c ≤ allowance
     go true g z = absurd (omega arith)
     go false g z = ltb-false allowance (spent + c) g
-
--- the lengths of a call that meets none of 5 to 9: of A's string, a header and the metadata, and of the text
-pub short-enough : (o : Bool) (k string a n t b : ℕ) → string ≤ a + 17 → firstCheck o k 32 a n t b ≡ 0 → (string ≤ 16401) × (n ≤ 16384)
-short-enough o k string a n t b h e = let p = passed o k 32 a n t b e in (omega arith, p .text)
 
 -- the first check as the program finds it: k is the index after the call, n the first of 5 to 9, u whether the allowance is too small
 module _ (o : Bool) (i string a m t b k n : ℕ) (after : k ≡ i + growth string m) (first : n ≡ firstCheck o k 32 a m t b) (allowance spent : ℕ) where

@@ -2,7 +2,7 @@
 -- its own group, and leaves the others. Assumes nothing.
 use mathlib.Core.Path.{_≡_, refl, sym, ap, _∙_}
 use mathlib.Core.Logic.{_≢_}
-use mathlib.Core.Bool.{Bool, true, false, not, cond, true≢false}
+use mathlib.Core.Bool.{Bool, true, false, cond, true≢false}
 use mathlib.Core.List.{List, [], _∷_}
 use Prim.Native.Nat.{ℕ, _<_}
 use native.Mathlib.Omega.{arith}
@@ -16,7 +16,7 @@ use Rattle.modes.specs.Rules.{Outcome, wrapFrom5, unwrapFrom5}
 use Rattle.session.specs.declared.Answer.{Answer}
 use Rattle.groups.specs.declared.Record.{Record}
 use Rattle.groups.specs.Groups.{GroupState, GroupOutcome, GroupOpening, onDay, wrapOnDay, unwrapOnDay, openOnDay, recordOf}
-use Rattle.office.specs.Table.{Table, unopened, noGroup, groupAt, sessionAt, TableOutcome, TableOpening, headerPasses, ifGroup, writtenBack, openedBack, callGroupAt, openGroupAt, tableOf, tableResult, openingResult}
+use Rattle.office.specs.Table.{Table, unopened, noGroup, groupAt, sessionAt, TableOutcome, TableOpening, headerPasses, tableCheck, ifGroup, writtenBack, openedBack, callGroupAt, openGroupAt, tableOf, tableResult, openingResult}
 use Rattle.office.specs.Exactly.{CallExactly}
 use Rattle.office.proofs.Exactly.{wrap-exactly, unwrap-exactly, open-exactly}
 use Rattle.isolation.specs.Calls.{Opened, Wrapped, Unwrapped, Request, opening, wrap, unwrap, GroupCall, Given}
@@ -109,7 +109,7 @@ module _ (allowance : ℕ) (from next : List Record) (k : ℕ) (i : CallInput) (
 
     -- by how the checks 1 and 3 come out
     by-checks : (p q : Bool) → q ≡ false
-        → ifGroup (cond (not p) 1 (cond q 3 0)) (tableOf from) i (writtenBack (tableOf from) k (onDay allowance (held from k) i lone))
+        → ifGroup (tableCheck p q) (tableOf from) i (writtenBack (tableOf from) k (onDay allowance (held from k) i lone))
         ≡ writtenBack (tableOf from) k (byHeader p i (held from k) (onDay allowance (held from k) i lone))
     by-checks true true e = absurd (true≢false e)
     by-checks true false e = refl

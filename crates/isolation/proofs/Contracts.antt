@@ -16,7 +16,7 @@ use contract.Notation.{Connectives, connectives}
 use denote.Ref.{now}
 use denote.Triple.Clauses.{AtExit}
 use denote.Triple.Entry.{Args, Res}
-use Rattle.modes.specs.Call.{CallHeader, bare, under, CallInput, withHeader}
+use Rattle.modes.specs.Call.{CallHeader, bare, under, withHeader}
 use Rattle.sanse.specs.Session.{handed, handedFor}
 use Rattle.office.proofs.start_day as start-day
 use Rattle.office.proofs.open_group as open-group

@@ -11,16 +11,17 @@ use lib.Seq.{getD-set-same, getD-set-other, set-getD, ext-getD}
 use borrow.Author.Tests.{ltb-true, ltb-false, leb-true, leb-false, eqb-true, eqb-false}
 use Rattle.deck.specs.declared.DeckState.{DeckState}
 use Rattle.envelope.specs.Layout.{letterS}
-use Rattle.modes.specs.Call.{CallInput}
-use Rattle.modes.specs.Header.{ForGroup, headerFits}
+use Rattle.modes.specs.Call.{bare, under, CallInput}
+use Rattle.modes.specs.Header.{HeaderOf, ForGroup, headerFits}
 use Rattle.modes.specs.Mode.{sanse, incremental}
 use Rattle.modes.specs.Rules.{SessionState, Outcome, Opening, longest, highestIndex, growth, metadataString, firstCheck, checkFrom5, checkNumber, countOf, refused, ifNoCheck, sameBytes, accepted, wrongTag, compareTag, wrapSteps, unwrapSteps, wrapFrom5, unwrapFrom5, wrapAt, unwrapAt, keyFits, startAt, newSession, closed}
 use Rattle.modes.proofs.Header.{fits-follows, fits-group, fits-group-not, group-follows}
 use Rattle.modes.proofs.AnySession.{any-wrap, any-unwrap}
+use Rattle.modes.proofs.Envelopes.{sanse-strings}
 use Rattle.steps.proofs.Calls.{fitted-wrap, fitted-unwrap}
 use Rattle.groups.specs.Groups.{GroupState, newDay, aboveAllowance, then10, groupCheck, charged, onDay, openedUnless, chargedOpening, openOnDay}
-use Rattle.office.specs.Table.{Table, unopened, noGroup, groupAt, sessionAt, DayStart, startDayAt, TableOutcome, TableOpening, refusedBy, headerPasses, ifGroup, writtenBack, callGroupAt, wrapGroupAt, openedBack, openGroupAt}
-use Rattle.office.specs.Exactly.{Check1, Check3, Check10, DayExactly, NoCheckMet, CallExactly, WrapGroupExactly, UnwrapGroupExactly, OpenExactly}
+use Rattle.office.specs.Table.{Table, unopened, noGroup, groupAt, sessionAt, DayStart, startDayAt, TableOutcome, TableOpening, refusedBy, headerPasses, tableCheck, ifGroup, writtenBack, callGroupAt, wrapGroupAt, openedBack, openGroupAt}
+use Rattle.office.specs.Exactly.{Check1, Check3, Check10, DayExactly, NoCheckMet, CallExactly, WrapGroupExactly, UnwrapGroupExactly, WrongGroup, OpenExactly}
 
 -- ---- the tests as statements
 
@@ -256,7 +257,7 @@ module _ (allowance : ℕ) (t : Table) (g : ℕ) (i : CallInput) where
     exactly lone′ same ends = go (headerPasses g i) (noGroup (length t) g) (told1 g i) (told3 t g)
       where
         go : (u v : Bool) → Told (ForGroup letterS g i) (Check1 g i) u → Told (Check3 t g) ((length t ≡ 32) × (g ≤ 31)) v
-            → CallExactly allowance t g i lone (ifGroup (cond (not u) 1 (cond v 3 0)) t i (writtenBack t g (onDay allowance (groupAt t g) i lone′)))
+            → CallExactly allowance t g i lone (ifGroup (tableCheck u v) t i (writtenBack t g (onDay allowance (groupAt t g) i lone′)))
         go false v (fails c) w = by1 c
         go true true (holds own) (holds c) = by3 own c
         go true false (holds own) (fails in3) =
@@ -308,6 +309,23 @@ module _ (allowance : ℕ) (t : Table) (g : ℕ) (i : CallInput) where
   unwrap-exactly =
       exactly (unwrapAt sanse incremental (sessionAt t g) i) (unwrapFrom5 sanse incremental (sessionAt t g) i)
       (λ own. sym (fitted-unwrap sanse (sessionAt t g) i (own-fits g i own))) (λ e. unwrap-worked (unwrap-number e))
+
+-- ---- a header of another group
+
+-- it is not the call's own: no two groups have one header
+another : (g other : ℕ) (i : CallInput) → HeaderOf letterS other i → other ≢ g → Check1 g i
+another g other i h n (ForGroup.without e) = let z : under _ ≡ bare = sym (h .bytes) ∙ e in let w : _≡_ {A = ℕ} 0 1 = cc in omega arith
+another g other i h n (ForGroup.its-own o) = n (sanse-strings .decides other g i i h o refl .0)
+
+pub wrong-group : WrongGroup
+wrong-group allowance t g other i h n =
+    let c = another g other i h n in
+    (by-one (wrap-exactly allowance t g i .call) c, by-one (unwrap-exactly allowance t g i) c)
+  where
+    by-one : {lone : Outcome DeckState} {o : TableOutcome} → CallExactly allowance t g i lone o → Check1 g i → o ≡ refusedBy 1 t i
+    by-one x c =
+        let e = x .one .1 c in
+        x .unaltered (λ z. omega (arith, z, e)) (λ z. omega (arith, z, e)) ∙ ap (λ (n : ℕ). refusedBy n t i) e
 
 -- ---- opening a group
 

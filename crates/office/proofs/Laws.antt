@@ -87,14 +87,14 @@ module _ (lone : SessionState DeckState → CallInput → Outcome DeckState) (al
 
   -- the first of the checks 1 and 3
   abbrev stop : ℕ
-  stop = tableCheck (headerPasses g i) (length l) g
+  stop = tableCheck (headerPasses g i) (noGroup (length l) g)
 
   -- it decides what the call gives
   call-by : (n : ℕ) → stop ≡ n → ifGroup n (tableOf l) i (writtenBack (tableOf l) g (own (groupAt (tableOf l) g))) ≡ whole
   unfolding callGroupAt
   call-by n e =
       ap (λ (k : ℕ). ifGroup k (tableOf l) i (writtenBack (tableOf l) g (own (groupAt (tableOf l) g))))
-      (sym e ∙ ap (λ (k : ℕ). tableCheck (headerPasses g i) k g) (sym (length-map l recordOf)))
+      (sym e ∙ ap (λ (k : ℕ). tableCheck (headerPasses g i) (noGroup k g)) (sym (length-map l recordOf)))
 
   pub call-refused : (n : ℕ) → stop ≡ n → n ≢ 0 → (r : Answer) → r ≡ record { number = n; count = 0 } → tableResult r l (i .out) (i .tag) ≡ whole
   call-refused zero e z r is = absurd (z refl)
@@ -112,7 +112,7 @@ module _ (lone : SessionState DeckState → CallInput → Outcome DeckState) (al
 module _ (lone : SessionState DeckState → CallInput → Outcome DeckState) (allowance : ℕ) (i : CallInput) (without : i .header ≡ bare) (l : List Record) (g : ℕ) where
   bare-stop : (t : Bool) → noGroup (length l) g ≡ t → stop lone allowance i l g ≡ cond t 3 0
   bare-stop t e =
-      ap₂ (λ (h : CallHeader) (u : Bool). cond (not (groupFits letterS g h (length (i .metadata)) (length (i .text)))) 1 (cond u 3 0)) without e
+      ap₂ (λ (h : CallHeader) (u : Bool). tableCheck (groupFits letterS g h (length (i .metadata)) (length (i .text))) u) without e
 
   pub bare-refused : noGroup (length l) g ≡ true → (r : Answer) → r ≡ refused3 → tableResult r l (i .out) (i .tag) ≡ whole lone allowance i l g
   bare-refused e r is = call-refused lone allowance i l g 3 (bare-stop true e) (λ z. omega (arith, z)) r is

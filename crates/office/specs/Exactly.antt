@@ -10,7 +10,7 @@ use lib.ListN.{length, set, replicate}
 use Rattle.deck.specs.declared.DeckState.{DeckState}
 use Rattle.envelope.specs.Layout.{letterS}
 use Rattle.modes.specs.Call.{CallInput}
-use Rattle.modes.specs.Header.{ForGroup}
+use Rattle.modes.specs.Header.{HeaderOf, ForGroup}
 use Rattle.modes.specs.Mode.{sanse, incremental}
 use Rattle.modes.specs.Rules.{Outcome, checkNumber, countOf, newSession, wrapAt, unwrapAt}
 use Rattle.groups.specs.Groups.{charged, recordOf}
@@ -85,6 +85,12 @@ pub record WrapGroupExactly (allowance : ℕ) (t : Table) (group : ℕ) (i : Cal
 abbrev pub UnwrapGroupExactly : (allowance : ℕ) → Table → (group : ℕ) → CallInput → Type 0
 UnwrapGroupExactly allowance t group i =
     CallExactly allowance t group i (unwrapAt sanse incremental (sessionAt t group) i) (unwrapGroupAt allowance t group i)
+
+-- a call with the header of another group, right in all else, as that of an envelope whose group was changed on its way: 1, and nothing is altered
+abbrev pub WrongGroup : Type 0
+WrongGroup =
+    (allowance : ℕ) (t : Table) (group other : ℕ) (i : CallInput) → HeaderOf letterS other i → other ≢ group
+    → (wrapGroupAt allowance t group i ≡ refusedBy 1 t i) × (unwrapGroupAt allowance t group i ≡ refusedBy 1 t i)
 
 -- ---- opening a group
 

@@ -72,9 +72,9 @@ refusedBy number t i = record { number = number; count = 0; table = t; out = i .
 abbrev pub headerPasses : (group : ℕ) → CallInput → Bool
 headerPasses group i = groupFits letterS group (i .header) (length (i .metadata)) (length (i .text))
 
--- the first of the checks 1 and 3 that is met, or 0: by whether the header passes, the number of records and the group
-abbrev pub tableCheck : (passes : Bool) (records group : ℕ) → ℕ
-tableCheck passes records group = cond (not passes) 1 (cond (noGroup records group) 3 0)
+-- the first of the checks 1 and 3 that is met, or 0: by whether the header passes, and whether there is no such group
+abbrev pub tableCheck : (passes none : Bool) → ℕ
+tableCheck passes none = cond (not passes) 1 (cond none 3 0)
 
 -- by that check: refused, or what a call gives that meets neither
 abbrev pub ifGroup : ℕ → Table → CallInput → TableOutcome → TableOutcome
@@ -88,7 +88,7 @@ writtenBack t group o = record { number = o .number; count = o .count; table = s
 -- a call for a group, where `lone` is what the lone call of the group's session gives that does not meet check 1
 unfoldable pub callGroupAt : (allowance : ℕ) → Table → (group : ℕ) → CallInput → (lone : Outcome DeckState) → TableOutcome
 callGroupAt allowance t group i lone =
-    ifGroup (tableCheck (headerPasses group i) (length t) group) t i (writtenBack t group (onDay allowance (groupAt t group) i lone))
+    ifGroup (tableCheck (headerPasses group i) (noGroup (length t) group)) t i (writtenBack t group (onDay allowance (groupAt t group) i lone))
 
 abbrev pub wrapGroupAt : (allowance : ℕ) → Table → (group : ℕ) → CallInput → TableOutcome
 wrapGroupAt allowance t group i = callGroupAt allowance t group i (wrapFrom5 sanse incremental (sessionAt t group) i)

@@ -1,7 +1,7 @@
 -- How the first of the checks 1 and 3 comes out, over plain values, so that a walk only hands its facts over. Assumes nothing.
 use mathlib.Core.Path.{_≡_, refl, sym, _∙_}
 use mathlib.Core.Logic.{_≢_}
-use mathlib.Core.Bool.{Bool, true, false, not, cond}
+use mathlib.Core.Bool.{Bool, true, false, not}
 use mathlib.Core.List.{List}
 use Prim.Native.Nat.{ℕ, _<_, _≤_, _*_, _^_}
 use native.Mathlib.Omega.{arith}
@@ -22,14 +22,14 @@ none-met : (n : ℕ) → Holds (not (not (eqb n 0))) → n ≡ 0
 none-met n z = eqb-true n 0 (not-false (eqb n 0) (is-false (not (eqb n 0)) z))
 
 -- where neither of them is met, the header passes and the table has the group
-neither : (passes none : Bool) → _≡_ {A = ℕ} (cond (not passes) 1 (cond none 3 0)) 0 → (passes ≡ true) × (none ≡ false)
+neither : (passes none : Bool) → tableCheck passes none ≡ 0 → (passes ≡ true) × (none ≡ false)
 neither true false e = (refl, refl)
 neither true true e = absurd (omega arith)
 neither false none e = absurd (omega arith)
 
 -- n is the first of them, of a call for group g of a table of k records, with this header and the lengths a of the metadata and m of the text
-module _ (header : List ℕ) (a m k g n : ℕ) (first : n ≡ tableCheck (fitsGroup letterS g a m header) k g) (has : Holds (not (not (eqb n 0)))) where
-  pub goes-on : tableCheck (fitsGroup letterS g a m header) k g ≡ 0
+module _ (header : List ℕ) (a m k g n : ℕ) (first : n ≡ tableCheck (fitsGroup letterS g a m header) (noGroup k g)) (has : Holds (not (not (eqb n 0)))) where
+  pub goes-on : tableCheck (fitsGroup letterS g a m header) (noGroup k g) ≡ 0
   goes-on = sym first ∙ none-met n has
 
   has-group : noGroup k g ≡ false

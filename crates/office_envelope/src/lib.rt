@@ -5,7 +5,7 @@ ghost use mathlib.Core.Path.{_≡_};
 ghost use Rattle.envelope.specs.Layout.{letterS};
 ghost use Rattle.headers.specs.Fits.{fitsGroup};
 ghost use Rattle.sanse.specs.Session.{handedFor};
-ghost use Rattle.office.specs.Table.{tableCheck, tableOf, tableResult, wrapGroupAt, unwrapGroupAt};
+ghost use Rattle.office.specs.Table.{noGroup, tableCheck, tableOf, tableResult, wrapGroupAt, unwrapGroupAt};
 use envelope::LETTER_S;
 use groups::Record;
 use session::Answer;
@@ -14,7 +14,7 @@ use session::Answer;
 
 // The first of the checks 1 and 3 that a call meets, or 0: by the number of records, the group, the header, and the lengths of metadata and text.
 fn first_check(records: usize, group: usize, header: &[u8], alen: usize, mlen: usize) -> u32
-    ensures { λ r. ⌜ r ≡ tableCheck (fitsGroup letterS group alen mlen (now (header .entry))) records group ⌝ }
+    ensures { λ r. ⌜ r ≡ tableCheck (fitsGroup letterS group alen mlen (now (header .entry))) (noGroup records group) ⌝ }
 {
     if !headers::fits_group(LETTER_S, group, header, alen, mlen) {
         return 1;

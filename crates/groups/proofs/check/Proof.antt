@@ -1,8 +1,10 @@
 -- `groups::check` meets its contract. Assumes nothing.
 use mathlib.Core.Path.{sym, _∙_}
 use mathlib.Core.Bool.{true, false}
+use native.Mathlib.Omega.{arith}
 use borrow.Author.Needs.{needs}
-use Rattle.groups.proofs.Laws.{short-enough, check-before-10, check-10}
+use Rattle.steps.proofs.History.{passed}
+use Rattle.groups.proofs.Laws.{check-before-10, check-10}
 use Rattle.groups.proofs.check.Statement.{statement}
 use Rattle.groups.proofs.check.Tie as tie
 
@@ -14,7 +16,8 @@ returns c =
 call-count-requires : tie.Need-call-count-requires
 call-count-requires c κs =
     let z = c .before .before .before .args in
-    short-enough (z .opened) (c .before .before .index-after .result) (z .string) (z .a) (z .m) (z .tag) (z .out) (c .before .before .before .pre) (sym (c .before .first-check .ensures) ∙ c .if1 .left)
+    let w = passed (z .opened) (c .before .before .index-after .result) 32 (z .a) (z .m) (z .tag) (z .out) (sym (c .before .first-check .ensures) ∙ c .if1 .left) in
+    (omega (arith, w .metadata, c .before .before .before .pre), w .text)
 
 returns-2 : tie.Need-returns-2
 returns-2 c =

@@ -196,7 +196,7 @@ module _ {M : Type 1} (𝓤 : URA M) (H : Heap 𝓤) (A : Atoms 𝓤) (W : Given
         split ! $ drop ! $ heard ! (r-no-group ≡ noGroup (length ys) g) (λ e-no-group. split ! $ drop ! $
         peeks ! Boolean (Is Boolean) (shows 𝓤 H A Boolean) r-no-group (v ∷ []) (λ is′.
         land ! (from ! (stop !)) (init ! 9 refl (bool-lawful 𝓤 H A W .typed r-no-group _ is′ .0)) $
-        rewrite ! 9 (λ (u : Val). ‵ (fat fullShare tyBool l₆ 0 u)) (ap only is′) refl $ drop ! $
+        rewrite ! 9 (λ (u : Val). ‵ (fat fullShare tyBool l₆ 0 u)) (ap only (is′)) refl $ drop ! $
         -- [L10; L9; L8; L7; L6; L5; L4; L3; L2; L1; L0; own-table; tok-table; own-key; tok-key]
         first ! $ branches ! (load ! (from ! (stop !)) (look ! 8 refl))
         (λ none.

@@ -211,7 +211,7 @@ module _ {M : Type 1} (𝓤 : URA M) (H : Heap 𝓤) (A : Atoms 𝓤) (W : Given
         split ! $ drop ! $ heard ! (r-no-group ≡ noGroup (length ys) g) (λ e-no-group. split ! $ drop ! $
         peeks ! Boolean (Is Boolean) (shows 𝓤 H A Boolean) r-no-group (v ∷ []) (λ is′.
         land ! (from ! (stop !)) (init ! 17 refl (bool-lawful 𝓤 H A W .typed r-no-group _ is′ .0)) $
-        rewrite ! 17 (λ (u : Val). ‵ (fat fullShare tyBool l₉ 0 u)) (ap only is′) refl $ drop ! $
+        rewrite ! 17 (λ (u : Val). ‵ (fat fullShare tyBool l₉ 0 u)) (ap only (is′)) refl $ drop ! $
         -- [L17; L16; L15; L14; L13; L12; L11; L10; L9; L8; L7; L6; L5; L4; L3; L2; L1; L0; own-table; tok-table; own-metadata; own-message; own-out; own-tag; tok-metadata; tok-message; tok-out; tok-tag]
         first ! $ branches ! (load ! (from ! (stop !)) (look ! 16 refl))
         (λ none.

@@ -47,7 +47,7 @@ use Rattle.modes.specs.Mode.{sanse, incremental}
 use Rattle.modes.specs.Rules.{unwrapFrom5}
 use Rattle.sanse.specs.Session.{handedFor}
 use Rattle.groups.specs.Groups.{unwrapOnDay, recordOf, groupResult}
-use Rattle.office.specs.Table.{tableCheck, unwrapGroupAt, zeroRecord, tableOf, tableResult}
+use Rattle.office.specs.Table.{noGroup, tableCheck, unwrapGroupAt, zeroRecord, tableOf, tableResult}
 use Rattle.office.proofs.Laws.{call-refused, call-stored}
 use Rattle.office_envelope.proofs.Laws.{some-met, goes-on, goes-inside, goes-fits, goes-short}
 use Rattle.groups.specs.declared.Record.{Record}
@@ -215,8 +215,8 @@ module _ {M : Type 1} (𝓤 : URA M) (H : Heap 𝓤) (A : Atoms 𝓤) (W : Given
         move ! (42 ∷ []) $ use1 W (‵ (ShrSlice (named 1) κ₁ u8 .own x-header (s-header ∷ [])) ⊛ ‵ (ShrSlice (named 1) κ₁ u8 .own x-header (s-header ∷ []))) (shr-slice-copy 𝓤 H A W (named 1) κ₁ u8 .twice x-header (s-header ∷ [])) $ split ! $ move ! (0 ∷ 48 ∷ []) $ group ! 2 $ use1 W (raw (Callee-first-check 𝓤 H A at-mem run .pre to-first-check)) goes-first-check $
         calls-at ! fm (Callee-first-check 𝓤 H A at-mem run) known-first-check to-first-check (and-then ! (load ! (from ! (stop !)) (look ! 18 refl)) (and-then ! (load ! (from ! (stop !)) (look ! 36 refl)) (and-then ! (load ! (from ! (stop !)) (look ! 32 refl)) (and-then ! (load ! (from ! (stop !)) (look ! 16 refl)) (and-then ! (load ! (from ! (stop !)) (look ! 14 refl)) (no-more !)))))) (λ v.
         use1 W (later (some (λ (r-first-check : ℕ). ((‵ (flft κ₁ q₁) ⊛ ‵ ftrue) ⊛ ‵ (u32 .own r-first-check (v ∷ []))) ⊛ raw (ensured 𝓤 H A first-check.ended (first-check.clauses 𝓤 H A at-mem run) (κ₁, tt) ((length ys), (g, (x-header, ((length (x-metadata .now)), ((length (x-cryptogram .now)), tt))))) tt r-first-check)))) (id⊢ 𝓤 _) $ await ! tt $ pick ! (λ r-first-check.
-        split ! $ move ! (1 ∷ []) $ use1 W (some (λ (zs : Unit {0} × (Unit {0} × (Unit {0} × (Unit {0} × (Unit {0} × (Unit {0})))))). ‵ (lasts first-check.ended (κ₁, tt) ((length ys), (g, (x-header, ((length (x-metadata .now)), ((length (x-cryptogram .now)), tt))))) zs) ⊛ raw (fact 𝓤 (r-first-check ≡ tableCheck (fitsGroup letterS g (length (x-metadata .now)) (length (x-cryptogram .now)) (x-header .now)) (length ys) g)))) (id⊢ 𝓤 _) $ pick ! (λ zs.
-        split ! $ drop ! $ heard ! (r-first-check ≡ tableCheck (fitsGroup letterS g (length (x-metadata .now)) (length (x-cryptogram .now)) (x-header .now)) (length ys) g) (λ e-first-check. split ! $ split ! $ move ! (1 ∷ []) $ drop ! $ move ! (1 ∷ []) $
+        split ! $ move ! (1 ∷ []) $ use1 W (some (λ (zs : Unit {0} × (Unit {0} × (Unit {0} × (Unit {0} × (Unit {0} × (Unit {0})))))). ‵ (lasts first-check.ended (κ₁, tt) ((length ys), (g, (x-header, ((length (x-metadata .now)), ((length (x-cryptogram .now)), tt))))) zs) ⊛ raw (fact 𝓤 (r-first-check ≡ tableCheck (fitsGroup letterS g (length (x-metadata .now)) (length (x-cryptogram .now)) (x-header .now)) (noGroup (length ys) g))))) (id⊢ 𝓤 _) $ pick ! (λ zs.
+        split ! $ drop ! $ heard ! (r-first-check ≡ tableCheck (fitsGroup letterS g (length (x-metadata .now)) (length (x-cryptogram .now)) (x-header .now)) (noGroup (length ys) g)) (λ e-first-check. split ! $ split ! $ move ! (1 ∷ []) $ drop ! $ move ! (1 ∷ []) $
         peeks ! u32 (Is u32) (shows 𝓤 H A u32) r-first-check (v ∷ []) (λ is-first-check.
         land ! (from ! (stop !)) (init ! 23 refl (uint-lawful 𝓤 H A W w32 .typed r-first-check _ is-first-check .0)) $
         rewrite ! 23 (λ (u : Val). ‵ (fat fullShare (tyInt w32) l₉ 0 u)) (ap only (is-first-check .0)) refl $ drop ! $
