@@ -8,7 +8,7 @@ const char *pevghazo_version(void) { return PEVGHAZO_VERSION; }
 const char *pevghazo_number_text(uint32_t number) {
     switch (number) {
     case PEVGHAZO_ACCEPTED: return "Accepted.";
-    case PEVGHAZO_BAD_HEADER: return "The envelope's header does not follow the layout, or is not the one of this call.";
+    case PEVGHAZO_BAD_HEADER: return "This is no envelope for this call: its header does not follow the layout, or is not the call's own.";
     case PEVGHAZO_TOO_FEW_BYTES: return "The envelope ends before all that its header announces.";
     case PEVGHAZO_BAD_GROUP: return "There is no such group: groups are numbered 0 to 31.";
     case PEVGHAZO_BAD_KEY: return "The key must have 16 to 47 bytes.";

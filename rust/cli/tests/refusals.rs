@@ -10,7 +10,7 @@ use pevghazo_store::{Presence, Store, Wait};
 
 /// The sentences, by number. Numbers 7 and 8 cannot be met here: this program makes the buffers itself.
 const SENTENCES: [(i32, &str); 10] = [
-    (1, "The envelope's header does not follow the layout, or is not the one of this call."),
+    (1, "This is no envelope for this call: its header does not follow the layout, or is not the call's own."),
     (2, "The envelope ends before all that its header announces."),
     (3, "There is no such group: groups are numbered 0 to 31."),
     (4, "The key must have 16 to 47 bytes."),
