@@ -83,7 +83,9 @@ impl Number {
     /// A plain sentence for people.
     pub const fn sentence(self) -> &'static str {
         match self {
-            Number::BadHeader => "This is no envelope for this call: its header does not follow the layout, or is not the call's own.",
+            Number::BadHeader => {
+                "This is no envelope for this call: its header does not follow the layout, or is not the call's own."
+            }
             Number::TooFewBytes => "The envelope ends before all that its header announces.",
             Number::BadGroup => "There is no such group: groups are numbered 0 to 31.",
             Number::BadKey => "The key must have 16 to 47 bytes.",
