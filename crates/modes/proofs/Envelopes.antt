@@ -3,8 +3,9 @@ use mathlib.Core.Bool.{Bool}
 use mathlib.Core.List.{List, [], _∷_, _++_, append-assoc}
 use mathlib.Core.Logic.{_↔_, _≢_, _⊎_, inl, inr, ⊎-elim}
 use mathlib.Core.Path.{_≡_, refl, sym, ap, _∙_, subst}
-use Prim.Native.Nat.{ℕ, _+_, _≤_, _<_}
+use Prim.Native.Nat.{ℕ, zero, suc, _+_, _≤_, _<_}
 use native.Mathlib.Omega.{arith}
+use borrow.Author.Tests.{le-ltb}
 use lib.ListN.{length, drop, replicate, length-append, length-replicate}
 use lib.Seq.{drop-at}
 use Rattle.deck.specs.Strings.{Str, framed}
@@ -18,18 +19,20 @@ use Rattle.envelope.proofs.Headers.{header-complete}
 use Rattle.envelope.proofs.Layouts.{header-length, header-longest, header-of-17}
 use Rattle.modes.specs.Call.{CallHeader, bare, under, headerBytes, CallInput, withHeader}
 use Rattle.modes.specs.Header.{HeaderOf, FollowsLayout}
-use Rattle.modes.specs.Mode.{Parameters, Mode, wholeHistory, withText, addKeystream, sivBody, siv, sivWrap, sivUnwrap, stream, streamWrap, streamUnwrap, sanseParameters, saneParameters}
+use Rattle.modes.specs.Rules.{SessionState, Outcome, metadataString, checkFrom5, checkNumber, ifNoCheck, accepted, compareTag, wrapSteps, unwrapSteps, wrapAt, unwrapAt}
+use Rattle.modes.specs.Mode.{HistoryRep, Parameters, Mode, wholeHistory, withText, addKeystream, sivBody, siv, sivWrap, sivUnwrap, stream, streamWrap, streamUnwrap, sanseParameters, saneParameters}
 use Rattle.modes.specs.Paper.{PaperResult, sanseOpens}
 use Rattle.modes.specs.PaperSane.{saneOpens}
 use Rattle.modes.specs.Ledger.{PaperMode, sansePaper, sanePaper, Ledger, stringA, wrapFinds, unwrapFinds, ledgerWrap, ledgerUnwrap}
 use Rattle.modes.specs.Exactly.{NoneBefore11, UnwrapExactly}
 use Rattle.modes.specs.TwoEnds.{ledgerAt}
 use Rattle.modes.specs.Fresh.{InLimits, BothWays}
-use Rattle.modes.specs.Envelopes.{addressed, Strings, readdressed, historyTag, Readdressed, EveryReaddressed, BothSorts, RefusedAnywhere}
+use Rattle.modes.specs.Envelopes.{addressed, withString, Strings, AsWithout, readdressed, historyTag, Readdressed, EveryReaddressed, BothSorts, RefusedAnywhere}
 use Rattle.modes.proofs.Papers.{paperOf, sanse-paper}
 use Rattle.modes.proofs.PapersSane.{sane-paper}
 use Rattle.modes.proofs.Modes.{sanse-follows, sane-follows}
 use Rattle.modes.proofs.Entries.{PaperLaws, paper-laws}
+use Rattle.modes.proofs.Header.{fits-follows}
 use Rattle.modes.proofs.Exactly.{wrap-exactly, unwrap-exactly}
 use Rattle.modes.proofs.Converse.{stopped}
 use Rattle.modes.proofs.Fresh.{past-wrap, past-arrival, both-ways}
@@ -99,6 +102,41 @@ strings-of letter known =
       );
       decides = λ g h i j. string-decides;
     }
+
+-- ---- as a call without an envelope
+
+module _ (m : Mode) {S : Type 0} (d : HistoryRep S) (s : SessionState S) (i : CallInput) (f : FollowsLayout (m .parameters .letter) i)
+    (h : length (stringA i) ≤ 16384) where
+  -- check 1 is met by neither, 6 by both or none, and the others are the same
+  same-check : checkNumber m d s i ≡ checkNumber m d s (withString i)
+  unfolding checkNumber checkFrom5 metadataString
+  same-check =
+      rw (
+        fits-follows (m .parameters .letter) i .1 f,
+        le-ltb 16384 (length (i .metadata)) (omega (arith, length-append (headerBytes (i .header)) (i .metadata))),
+        le-ltb 16384 (length (stringA i)) h,
+      )
+      refl
+
+  -- a refusal leaves the same
+  same-refused : (n : ℕ) (o : Outcome S) → ifNoCheck n s i o ≡ ifNoCheck n s (withString i) o
+  same-refused zero o = refl
+  same-refused (suc n) o = refl
+
+  wraps-as : wrapAt m d s i ≡ wrapAt m d s (withString i)
+  unfolding wrapAt metadataString
+  wraps-as =
+      let o = accepted m d s i (wrapSteps m d s i) (wrapSteps m d s i .tag) in
+      same-refused (checkNumber m d s i) o ∙ ap (λ (n : ℕ). ifNoCheck n s (withString i) o) same-check
+
+  unwraps-as : unwrapAt m d s i ≡ unwrapAt m d s (withString i)
+  unfolding unwrapAt metadataString
+  unwraps-as =
+      let o = compareTag m d s i (unwrapSteps m d s i) in
+      same-refused (checkNumber m d s i) o ∙ ap (λ (n : ℕ). ifNoCheck n s (withString i) o) same-check
+
+pub as-without : (m : Mode) → AsWithout m
+as-without m = record { wraps = λ d s i. wraps-as m d s i; unwraps = λ d s i. unwraps-as m d s i }
 
 -- ---- tag and history
 

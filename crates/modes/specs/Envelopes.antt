@@ -9,7 +9,9 @@ use Rattle.deck.specs.Strings.{Str}
 use Rattle.deck.specs.Deck.{run, deck, indexOf}
 use Rattle.envelope.specs.Layout.{header}
 use Rattle.modes.specs.Call.{bare, under, CallInput, withHeader, Side, Call, wrap, unwrap}
-use Rattle.modes.specs.Header.{HeaderOf}
+use Rattle.modes.specs.Header.{HeaderOf, FollowsLayout}
+use Rattle.modes.specs.Mode.{HistoryRep, Mode}
+use Rattle.modes.specs.Rules.{SessionState, wrapAt, unwrapAt}
 use Rattle.modes.specs.Ledger.{PaperMode, Ledger, stringA, wrapFinds, unwrapFinds, ledgerWrap, ledgerUnwrap}
 use Rattle.modes.specs.TwoEnds.{Ledgers, ledgerAt, freshLedgers}
 use Rattle.modes.specs.Delivery.{InFlight, nothing, Delivers}
@@ -18,6 +20,10 @@ use Rattle.modes.specs.Fresh.{InLimits, bothWays}
 -- what a call is handed, under the header of a group with its own lengths
 abbrev pub addressed : (letter group : ℕ) → CallInput → CallInput
 addressed letter group i = withHeader (under (header letter group (length (i .metadata)) (length (i .text)))) i
+
+-- what a call is handed, with the string of A as the metadata of a call without an envelope
+abbrev pub withString : CallInput → CallInput
+withString i = record { header = bare; metadata = stringA i; text = i .text; out = i .out; tag = i .tag }
 
 -- ---- the string of A
 
@@ -32,6 +38,14 @@ pub record Strings (letter : ℕ) : Type 0 where
   -- no two envelopes of different groups, metadata or lengths of text have the same
   pub decides : (g h : ℕ) (i j : CallInput) → HeaderOf letter g i → HeaderOf letter h j → stringA i ≡ stringA j
       → (g ≡ h) × (i .metadata ≡ j .metadata) × (length (i .text) ≡ length (j .text))
+
+-- where check 1 is not met, and the string is no longer than metadata may be, a call for an envelope gives and leaves, in any session, what the call
+-- without one gives and leaves that is handed the string as its metadata
+pub record AsWithout (m : Mode) : Type 1 where
+  pub wraps : {S : Type 0} (d : HistoryRep S) (s : SessionState S) (i : CallInput) → FollowsLayout (m .parameters .letter) i
+      → length (stringA i) ≤ 16384 → wrapAt m d s i ≡ wrapAt m d s (withString i)
+  pub unwraps : {S : Type 0} (d : HistoryRep S) (s : SessionState S) (i : CallInput) → FollowsLayout (m .parameters .letter) i
+      → length (stringA i) ≤ 16384 → unwrapAt m d s i ≡ unwrapAt m d s (withString i)
 
 -- ---- an envelope whose group was changed on its way
 
