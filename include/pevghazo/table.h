@@ -5,7 +5,7 @@
  * group's count alone, so a busy group that has used its allowance does not stop the others.
  *
  * Zeroed memory is the table before the first day, 32 records of it, and the allowance is 0 then: no group can be opened, wraps and unwraps for
- * every group get 5, and the nearly-full question finds none.
+ * every group get 5 (or 1, for a header that is not the call's), and the nearly-full question finds none.
  *
  *     static pevghazo_record office[PEVGHAZO_GROUPS];
  *     uint32_t allowance = 0;
@@ -15,8 +15,8 @@
  *
  * The day of a group is its record's count and the allowance: after the two lines office[7].count is 1, and group 7 has 999 left. The next day
  * begins with the next pevghazo_start_day. A group's session is a session like a lone one: its codes are those of &office[7].session. A
- * pevghazo_start, pevghazo_wrap or pevghazo_unwrap of it goes past the table: the allowance is not looked at, and nothing is added to the
- * group's count. */
+ * pevghazo_start, or a wrap or unwrap of session.h, of it goes past the table: the allowance is not looked at, nothing is added to the group's
+ * count, and the group in an envelope's header is not compared with 7. */
 #ifndef PEVGHAZO_TABLE_H
 #define PEVGHAZO_TABLE_H
 

@@ -31,7 +31,9 @@
 //!
 //! Versions before 0.8 did not put the header under the tag: an envelope that they sealed is refused by 11, so both ends move to
 //! this version together. What [`Session::wrap`](crate::Session::wrap) wrapped is unwrapped by
-//! [`Session::unwrap`](crate::Session::unwrap) as before, and not for an envelope.
+//! [`Session::unwrap`](crate::Session::unwrap) as before, and not for an envelope. But metadata that begin with the bytes of a
+//! header, handed to a call without an envelope, are the same text as header and metadata of a call for one: who uses both sorts
+//! in one session keeps them apart by what the metadata begin with.
 
 use crate::raw;
 use crate::refusal::{Number, Refusal, answer};

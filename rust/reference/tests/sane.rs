@@ -2,10 +2,12 @@
 
 mod ends;
 
-use ends::{End, check_headers_first, check_index_limit, check_refusals, key, message, text};
+use ends::{
+    End, check_headers_first, check_index_limit, check_ledger_limit, check_refusals, key, message, no_deck, text,
+};
 use pevghazo_reference::bits;
 use pevghazo_reference::deck::{pad, xoofff};
-use pevghazo_reference::ledger::DeckFunction;
+use pevghazo_reference::ledger::{DeckFunction, SaneLedger};
 use pevghazo_reference::limits::LENGTH_MAX;
 use pevghazo_reference::random::Random;
 use pevghazo_reference::refusal::{Number, Refusal};
@@ -113,6 +115,7 @@ fn refusals_come_in_their_order() {
 #[test]
 fn index_stops_at_its_limit() {
     check_index_limit(&SaneSession::start(&[1; 47], &[], &mut [0; 16]).unwrap().0);
+    check_ledger_limit(&SaneLedger::start(&[1; 47], &[], &mut [0; 16], no_deck).unwrap().0);
 }
 
 /// What the toggle is for (cookbook, section 4.1): metadata in one message and text in the next do not pass for one message.

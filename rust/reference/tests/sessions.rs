@@ -2,7 +2,7 @@
 
 mod ends;
 
-use ends::{End, check_headers_first, check_index_limit, check_refusals, key, message};
+use ends::{End, check_headers_first, check_index_limit, check_ledger_limit, check_refusals, key, message, no_deck};
 use pevghazo_reference::bits;
 use pevghazo_reference::codes::{CODE, PACKET_MAX};
 use pevghazo_reference::deck::xoofff;
@@ -100,4 +100,5 @@ fn codes_follow_the_tag() {
 #[test]
 fn index_stops_at_its_limit() {
     check_index_limit(&Session::start(&[1; 47]).unwrap());
+    check_ledger_limit(&Ledger::start(&[1; 47], no_deck).unwrap());
 }

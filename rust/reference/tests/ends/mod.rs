@@ -2,6 +2,7 @@
 #![allow(dead_code)]
 
 use pevghazo_reference::codes::CODE;
+use pevghazo_reference::deck::Text;
 use pevghazo_reference::envelope::header_bytes;
 use pevghazo_reference::ledger::{Algorithm, DeckFunction, Ledger, LedgerOf, SaneLedger};
 use pevghazo_reference::limits::{INDEX_MAX, LENGTH_MAX};
@@ -260,26 +261,29 @@ pub fn check_refusals<M: Algorithm>(end: &mut End<M>) {
     assert_eq!((closed, out, tag), (before, vec![1; 10], vec![2; M::TAG]));
 }
 
-/// Number 9: a call from an index close to the limit, in the mode of this session, without an envelope and for one. A header of
-/// 10 bytes takes metadata of 38 into a second block.
+/// Calls close to the limit of the index: the index before, whether for an envelope, the lengths of metadata and message, and whether
+/// the index after it is just the limit; otherwise it is above. A header of 10 bytes takes metadata of 38 into a second block.
+const CLOSE_TO_THE_LIMIT: [(u32, bool, usize, usize, bool); 15] = [
+    (INDEX_MAX - 2, false, 0, 0, true),
+    (INDEX_MAX - 1, false, 0, 0, false),
+    (INDEX_MAX - 5, false, 20, 48, true),
+    (INDEX_MAX - 4, false, 20, 48, false),
+    (INDEX_MAX, false, 0, 1, false),
+    (u32::MAX, false, 0, 0, false),
+    (u32::MAX, false, LENGTH_MAX, LENGTH_MAX, false),
+    (INDEX_MAX - 5, false, 38, 48, true),
+    (INDEX_MAX - 5, true, 38, 48, false),
+    (INDEX_MAX - 6, true, 38, 48, true),
+    (INDEX_MAX - 4, true, 0, 1, true),
+    (INDEX_MAX - 3, true, 0, 1, false),
+    (INDEX_MAX - 2, true, 0, 0, true),
+    (INDEX_MAX - 1, true, 0, 0, false),
+    (u32::MAX, true, LENGTH_MAX, LENGTH_MAX, false),
+];
+
+/// Number 9: such a call, in the mode of this session.
 pub fn check_index_limit<M: Algorithm>(started: &Record<M>) {
-    for (index, for_envelope, a, m, fits) in [
-        (INDEX_MAX - 2, false, 0, 0, true),
-        (INDEX_MAX - 1, false, 0, 0, false),
-        (INDEX_MAX - 5, false, 20, 48, true),
-        (INDEX_MAX - 4, false, 20, 48, false),
-        (INDEX_MAX, false, 0, 1, false),
-        (u32::MAX, false, 0, 0, false),
-        (u32::MAX, false, LENGTH_MAX, LENGTH_MAX, false),
-        (INDEX_MAX - 5, false, 38, 48, true),
-        (INDEX_MAX - 5, true, 38, 48, false),
-        (INDEX_MAX - 6, true, 38, 48, true),
-        (INDEX_MAX - 4, true, 0, 1, true),
-        (INDEX_MAX - 3, true, 0, 1, false),
-        (INDEX_MAX - 2, true, 0, 0, true),
-        (INDEX_MAX - 1, true, 0, 0, false),
-        (u32::MAX, true, LENGTH_MAX, LENGTH_MAX, false),
-    ] {
+    for (index, for_envelope, a, m, fits) in CLOSE_TO_THE_LIMIT {
         let session = Record { index, ..started.clone() };
         let (metadata, message) = (vec![3; a], vec![4; m]);
         let header = for_envelope.then(|| header_bytes(M::LETTER, 7, a, m));
@@ -296,4 +300,22 @@ pub fn check_index_limit<M: Algorithm>(started: &Record<M>) {
             assert_eq!((answer, here), (Err(Number::Full.into()), session));
         }
     }
+}
+
+/// The same of a ledger, whose history is one string that leads to the index.
+pub fn check_ledger_limit<M: Algorithm>(started: &LedgerOf<M>) {
+    for (index, for_envelope, a, m, fits) in CLOSE_TO_THE_LIMIT.into_iter().filter(|(index, ..)| *index <= INDEX_MAX) {
+        let mut ledger = started.clone();
+        ledger.history = vec![Text::new(&vec![0; (index as usize - 2) * 48], &[])];
+        let header = for_envelope.then(|| header_bytes(M::LETTER, 7, a, m));
+        let answer =
+            ledger.wrap_for(header.as_deref(), &vec![3; a], &vec![4; m], &mut vec![0; m], &mut vec![0; M::TAG]);
+        let count = M::count(header.map_or(0, |header| header.len()) + a, m);
+        assert_eq!(answer, if fits { Ok(count) } else { Err(Number::Full.into()) }, "{index}, {a} and {m} bytes");
+    }
+}
+
+/// Any output for a deck function, where the checks alone are looked at.
+pub fn no_deck(_: &[u8], _: &[Text], _: usize, length: usize) -> Vec<u8> {
+    vec![0; length]
 }
