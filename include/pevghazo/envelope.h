@@ -1,7 +1,7 @@
 /* Pevghazo: envelopes, the bytes in which messages travel. What all functions share is said in pevghazo.h.
  *
- * An envelope is its header, the metadata, the cryptogram and the tag. The header is `S,group,metadata length,message length,` in decimal, the
- * longest of 17 bytes.
+ * An envelope is its header, the metadata, the cryptogram and the tag. The header is `S,group,metadata length,message length,`, or with N
+ * in SANE, the numbers in decimal; the longest has 17 bytes.
  *
  * The header belongs under the tag: the calls for an envelope (pevghazo_wrap_envelope and the others of session.h, sane.h and table.h) are handed
  * it, and what they take for metadata in history, tag and count is the header's bytes followed by the metadata. So an envelope whose header was

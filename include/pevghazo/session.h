@@ -56,12 +56,12 @@ PEVGHAZO_MUST_USE pevghazo_answer pevghazo_unwrap(pevghazo_session *session, con
 
 /* pevghazo_wrap for the envelope with this header, whose bytes then stand under the tag, before the metadata (envelope.h). Check 1, exactly where
  * the header is not `S,group,metadata length,message length,` with a group up to 31 and this call's two lengths, and nothing before or after it;
- * then 5 to 9. Count, index and 9 go by header and metadata together. */
+ * then 5 and 7 to 9, as a length that is too long gets 1. Count, index and 9 go by header and metadata together. */
 PEVGHAZO_MUST_USE pevghazo_answer pevghazo_wrap_envelope(pevghazo_session *session, const uint8_t *header, size_t header_len,
                                                          const uint8_t *metadata, size_t metadata_len, const uint8_t *message,
                                                          size_t message_len, uint8_t *out, size_t out_len, uint8_t *tag, size_t tag_len);
 
-/* pevghazo_unwrap of what arrived in the envelope with this header. Check 1 as for wrapping, by the cryptogram's length; then 5 to 9 and 11. */
+/* pevghazo_unwrap of what arrived in the envelope with this header. Check 1 as for wrapping, by the cryptogram's length; then 5, 7 to 9 and 11. */
 PEVGHAZO_MUST_USE pevghazo_answer pevghazo_unwrap_envelope(pevghazo_session *session, const uint8_t *header, size_t header_len,
                                                            const uint8_t *metadata, size_t metadata_len, const uint8_t *cryptogram,
                                                            size_t cryptogram_len, const uint8_t *tag, size_t tag_len, uint8_t *out,

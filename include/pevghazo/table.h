@@ -74,13 +74,14 @@ PEVGHAZO_MUST_USE pevghazo_answer pevghazo_unwrap_group(pevghazo_record *table, 
 
 /* pevghazo_wrap_group for the envelope with this header, whose bytes then stand under the tag, before the metadata (envelope.h). Check 1, exactly
  * where the header is not `S,group,metadata length,message length,` with this call's group and its two lengths, and nothing before or after it;
- * then 3 and 5 to 10. Count, index, 9 and 10 go by header and metadata together. A group above 31 gets 1, as no header has it. */
+ * then 3, 5 and 7 to 10, as a length that is too long gets 1, and so does a group above 31. Count, index, 9 and 10 go by header and metadata
+ * together. */
 PEVGHAZO_MUST_USE pevghazo_answer pevghazo_wrap_envelope_group(pevghazo_record *table, size_t table_len, uint32_t group, uint32_t allowance,
                                                                const uint8_t *header, size_t header_len, const uint8_t *metadata,
                                                                size_t metadata_len, const uint8_t *message, size_t message_len,
                                                                uint8_t *out, size_t out_len, uint8_t *tag, size_t tag_len);
 
-/* pevghazo_unwrap_group of what arrived in the envelope with this header. Check 1 as for wrapping, by the cryptogram's length; then 3 and 5 to
+/* pevghazo_unwrap_group of what arrived in the envelope with this header. Check 1 as for wrapping, by the cryptogram's length; then 3, 5 and 7 to
  * 11. */
 PEVGHAZO_MUST_USE pevghazo_answer pevghazo_unwrap_envelope_group(pevghazo_record *table, size_t table_len, uint32_t group, uint32_t allowance,
                                                                  const uint8_t *header, size_t header_len, const uint8_t *metadata,

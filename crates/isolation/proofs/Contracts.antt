@@ -1,5 +1,5 @@
 -- What the lists of calls know of a call is the `ensures` of the function, all of it; and each wrap and unwrap of a list is a call of one of the
--- functions (`BothSorts` of `specs/Isolation.antt`). Assumes nothing.
+-- functions (`EitherSort` of `specs/Isolation.antt`). Assumes nothing.
 use mathlib.Core.List.{List}
 use mathlib.Core.Logic.{_⊎_, inl, inr}
 use mathlib.Core.Path.{_≡_, refl, ap}
@@ -25,7 +25,7 @@ use Rattle.office.proofs.unwrap_group as unwrap-group
 use Rattle.office_envelope.proofs.wrap_envelope_group as wrap-envelope
 use Rattle.office_envelope.proofs.unwrap_envelope_group as unwrap-envelope
 use Rattle.isolation.specs.Calls.{Opened, Wrapped, Unwrapped, DayStarted}
-use Rattle.isolation.specs.Isolation.{BothSorts}
+use Rattle.isolation.specs.Isolation.{EitherSort}
 
 -- in every model of the program logic
 module _ {M : Type 1} (𝓤 : URA M) (H : Heap 𝓤) (A : Atoms 𝓤) (mem : Memory → SProp 𝓤) (run : Routine → Fun 𝓤) where
@@ -74,8 +74,8 @@ module _ {M : Type 1} (𝓤 : URA M) (H : Heap 𝓤) (A : Atoms 𝓤) (mem : Mem
 
 -- ---- both sorts of calls
 
-pub both-sorts : BothSorts
-both-sorts i = go (i .header) refl
+pub either-sort : EitherSort
+either-sort i = go (i .header) refl
   where
     go : (h : CallHeader) → i .header ≡ h
         → (i ≡ handed (i .metadata) (i .text) (i .out) (i .tag)) ⊎ ((x : List ℕ) × (i ≡ handedFor x (i .metadata) (i .text) (i .out) (i .tag)))

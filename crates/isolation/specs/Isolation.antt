@@ -51,8 +51,8 @@ AsAlone =
 
 -- a wrap or an unwrap is handed what the function without an envelope is handed, or what the one for an envelope is; so each of a list is known by
 -- the promise of one of them (`proofs/Contracts.antt`)
-abbrev pub BothSorts : Type 0
-BothSorts =
+abbrev pub EitherSort : Type 0
+EitherSort =
     (i : CallInput) → (i ≡ handed (i .metadata) (i .text) (i .out) (i .tag)) ⊎ ((x : List ℕ) × (i ≡ handedFor x (i .metadata) (i .text) (i .out) (i .tag)))
 
 -- every list of calls has a run, from any records and under any allowance, and a day can be started over any records

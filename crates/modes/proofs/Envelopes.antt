@@ -8,6 +8,7 @@ use native.Mathlib.Omega.{arith}
 use borrow.Author.Tests.{le-ltb}
 use lib.ListN.{length, drop, replicate, length-append, length-replicate}
 use lib.Seq.{drop-at}
+use Rattle.deck.specs.declared.DeckState.{DeckState}
 use Rattle.deck.specs.Strings.{Str, framed}
 use Rattle.deck.specs.Deck.{indexOf}
 use Rattle.decimal.specs.Decimal.{decimal, decimalWithin}
@@ -20,17 +21,20 @@ use Rattle.envelope.proofs.Layouts.{header-length, header-longest, header-of-17
 use Rattle.modes.specs.Call.{CallHeader, bare, under, headerBytes, CallInput, withHeader}
 use Rattle.modes.specs.Header.{HeaderOf, FollowsLayout}
 use Rattle.modes.specs.Rules.{SessionState, Outcome, metadataString, checkFrom5, checkNumber, ifNoCheck, accepted, compareTag, wrapSteps, unwrapSteps, wrapAt, unwrapAt}
-use Rattle.modes.specs.Mode.{HistoryRep, Parameters, Mode, wholeHistory, withText, addKeystream, sivBody, siv, sivWrap, sivUnwrap, stream, streamWrap, streamUnwrap, sanseParameters, saneParameters}
+use Rattle.modes.specs.Mode.{HistoryRep, incremental, Parameters, Mode, wholeHistory, withText, addKeystream, sivBody, siv, sivWrap, sivUnwrap, stream, streamWrap, streamUnwrap, sanseParameters, saneParameters}
 use Rattle.modes.specs.Paper.{PaperResult, sanseOpens}
 use Rattle.modes.specs.PaperSane.{saneOpens}
 use Rattle.modes.specs.Ledger.{PaperMode, sansePaper, sanePaper, Ledger, stringA, wrapFinds, unwrapFinds, ledgerWrap, ledgerUnwrap}
 use Rattle.modes.specs.Exactly.{NoneBefore11, UnwrapExactly}
 use Rattle.modes.specs.TwoEnds.{ledgerAt}
 use Rattle.modes.specs.Fresh.{InLimits, BothWays}
-use Rattle.modes.specs.Envelopes.{addressed, withString, Strings, AsWithout, readdressed, historyTag, Readdressed, EveryReaddressed, BothSorts, RefusedAnywhere}
+use Rattle.modes.specs.Promises.{Kind, Promises}
+use Rattle.modes.specs.Envelopes.{addressed, withString, Strings, AsWithout, readdressed, historyTag, Readdressed, EveryReaddressed, ReaddressedOf, BothSorts, RefusedAnywhere}
 use Rattle.modes.proofs.Papers.{paperOf, sanse-paper}
 use Rattle.modes.proofs.PapersSane.{sane-paper}
-use Rattle.modes.proofs.Modes.{sanse-follows, sane-follows}
+use Rattle.modes.proofs.Modes.{Follows, sanse-follows, sane-follows}
+use Rattle.modes.proofs.Ledgers.{unwrap-by-ledger}
+use Rattle.modes.proofs.Demands.{ByRules}
 use Rattle.modes.proofs.Entries.{PaperLaws, paper-laws}
 use Rattle.modes.proofs.Header.{fits-follows}
 use Rattle.modes.proofs.Exactly.{wrap-exactly, unwrap-exactly}
@@ -275,6 +279,17 @@ module _ {m : PaperMode} (laws : PaperLaws m) (own : HistoryLaws m) (l : Ledger)
           λ h. numbers .eleven .1 (passed (h .0), λ q. h .1 (sym sent-tag ∙ q ∙ found-tag)),
         );
       }
+
+-- of a program whose promises are the rules' equations
+module _ {r : Mode} {m : PaperMode} {k : Kind} {p : Promises k} (rules : ByRules r p) (f : Follows r m) (every : EveryReaddressed m) where
+  pub readdressed-of : ReaddressedOf k m p
+  readdressed-of l group other i out its h n given room s q out′ tag e w = (
+    every l group other i out its h n given room,
+    ap (λ (o : Outcome DeckState). o .number)
+        (rules .unwraps s (readdressed m l i other out) q out′ tag .0 w
+        ∙ ap (λ (z : SessionState DeckState). unwrapAt r incremental z (readdressed m l i other out)) e
+        ∙ unwrap-by-ledger f l (readdressed m l i other out)),
+  )
 
 -- ---- lists with calls of both sorts
 

@@ -13,6 +13,8 @@ use Rattle.modes.specs.Header.{HeaderOf, FollowsLayout}
 use Rattle.modes.specs.Mode.{HistoryRep, Mode}
 use Rattle.modes.specs.Rules.{SessionState, wrapAt, unwrapAt}
 use Rattle.modes.specs.Ledger.{PaperMode, Ledger, stringA, wrapFinds, unwrapFinds, ledgerWrap, ledgerUnwrap}
+use Rattle.modes.specs.OneCall.{sessionOf}
+use Rattle.modes.specs.Promises.{Kind, Promises}
 use Rattle.modes.specs.TwoEnds.{Ledgers, ledgerAt, freshLedgers}
 use Rattle.modes.specs.Delivery.{InFlight, nothing, Delivers}
 use Rattle.modes.specs.Fresh.{InLimits, bothWays}
@@ -81,6 +83,16 @@ EveryReaddressed m =
     (l : Ledger) (group other : ℕ) (i : CallInput) (out : List ℕ)
     → HeaderOf (m .letter) group i → other ≤ 31 → other ≢ group → ledgerWrap m l i .answer .number ≡ 0 → length (i .text) ≤ length out
     → Readdressed m l i other out
+
+-- and of functions over the records of a program, of which only promises are known: an unwrap that is handed the record of that ledger's history gets the
+-- number that the ledger gives
+abbrev pub ReaddressedOf : (k : Kind) → PaperMode → Promises k → Type 0
+ReaddressedOf k m p =
+    (l : Ledger) (group other : ℕ) (i : CallInput) (out : List ℕ)
+    → HeaderOf (m .letter) group i → other ≤ 31 → other ≢ group → ledgerWrap m l i .answer .number ≡ 0 → length (i .text) ≤ length out
+    → (s : k .Record) (r : k .Result) (out′ tag : List ℕ) → k .stateOf s ≡ sessionOf (l .key) (l .history) (l .toggle)
+    → p .unwraps s (readdressed m l i other out) r out′ tag
+    → Readdressed m l i other out × (k .number r ≡ ledgerUnwrap m l (readdressed m l i other out) .answer .number)
 
 -- ---- lists with calls of both sorts
 

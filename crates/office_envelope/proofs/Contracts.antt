@@ -20,24 +20,24 @@ use Rattle.office_envelope.proofs.unwrap_envelope_group as unwrap-envel
 
 -- in every model of the program logic
 module _ {M : Type 1} (𝓤 : URA M) (H : Heap 𝓤) (A : Atoms 𝓤) (mem : Memory → SProp 𝓤) (run : Routine → Fun 𝓤) where
-  pub wrap-asks : (κs : Lfts 6) (a : Args wrap-envelope.signature κs) → wrap-envelope.clauses 𝓤 H A mem run κs a .requires tt ≡ connectives 𝓤 .⊤ₛ
-  wrap-asks κs a = refl
+  pub wrap-envelope-asks : (κs : Lfts 6) (a : Args wrap-envelope.signature κs) → wrap-envelope.clauses 𝓤 H A mem run κs a .requires tt ≡ connectives 𝓤 .⊤ₛ
+  wrap-envelope-asks κs a = refl
 
-  pub wrap-ensures : (κs : Lfts 6) (a : Args wrap-envelope.signature κs) (r : Res wrap-envelope.signature κs) (z : AtExit wrap-envelope.ended κs)
+  pub wrap-envelope-ensures : (κs : Lfts 6) (a : Args wrap-envelope.signature κs) (r : Res wrap-envelope.signature κs) (z : AtExit wrap-envelope.ended κs)
       → wrap-envelope.clauses 𝓤 H A mem run κs a .ensures tt r z
       ≡ connectives 𝓤 .⌜_⌝
       (tableResult r (now (z .0)) (now (z .1 .1 .1 .1 .1 .1 .0)) (now (z .1 .1 .1 .1 .1 .1 .1 .0))
       ≡ wrapGroupAt (a .1 .1 .0) (tableOf (now (a .0))) (a .1 .0)
       (handedFor (now (a .1 .1 .1 .0)) (now (a .1 .1 .1 .1 .0)) (now (a .1 .1 .1 .1 .1 .0)) (now (a .1 .1 .1 .1 .1 .1 .0)) (now (a .1 .1 .1 .1 .1 .1 .1 .0))))
-  wrap-ensures κs a r z = refl
+  wrap-envelope-ensures κs a r z = refl
 
-  pub unwrap-asks : (κs : Lfts 6) (a : Args unwrap-envelope.signature κs) → unwrap-envelope.clauses 𝓤 H A mem run κs a .requires tt ≡ connectives 𝓤 .⊤ₛ
-  unwrap-asks κs a = refl
+  pub unwrap-envelope-asks : (κs : Lfts 6) (a : Args unwrap-envelope.signature κs) → unwrap-envelope.clauses 𝓤 H A mem run κs a .requires tt ≡ connectives 𝓤 .⊤ₛ
+  unwrap-envelope-asks κs a = refl
 
-  pub unwrap-ensures : (κs : Lfts 6) (a : Args unwrap-envelope.signature κs) (r : Res unwrap-envelope.signature κs) (z : AtExit unwrap-envelope.ended κs)
+  pub unwrap-envelope-ensures : (κs : Lfts 6) (a : Args unwrap-envelope.signature κs) (r : Res unwrap-envelope.signature κs) (z : AtExit unwrap-envelope.ended κs)
       → unwrap-envelope.clauses 𝓤 H A mem run κs a .ensures tt r z
       ≡ connectives 𝓤 .⌜_⌝
       (tableResult r (now (z .0)) (now (z .1 .1 .1 .1 .1 .1 .1 .0)) (now (a .1 .1 .1 .1 .1 .1 .0))
       ≡ unwrapGroupAt (a .1 .1 .0) (tableOf (now (a .0))) (a .1 .0)
       (handedFor (now (a .1 .1 .1 .0)) (now (a .1 .1 .1 .1 .0)) (now (a .1 .1 .1 .1 .1 .0)) (now (a .1 .1 .1 .1 .1 .1 .1 .0)) (now (a .1 .1 .1 .1 .1 .1 .0))))
-  unwrap-ensures κs a r z = refl
+  unwrap-envelope-ensures κs a r z = refl

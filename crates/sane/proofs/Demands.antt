@@ -16,6 +16,8 @@ use Rattle.modes.specs.NonceStart.{NonceExactly}
 use Rattle.modes.specs.Promises.{Promises, Records, Run, sessionsHeld}
 use Rattle.modes.specs.Demands.{AnyCallOf, OneCallOf, RunsExist}
 use Rattle.modes.specs.SaneDemands.{SaneDemand3, NonceStarts, NonceStartOf, SaneDemand3Of, NonceStartsExist, AcceptedStartsExist}
+use Rattle.modes.specs.Envelopes.{ReaddressedOf}
+use Rattle.modes.proofs.Envelopes.{readdressed-of, sane-readdressed}
 use Rattle.modes.proofs.Modes.{sane-follows}
 use Rattle.modes.proofs.Demands.{ByRules, Whole, both-by-rules, any-call-of, one-call-of, runs-exist, kept}
 use Rattle.modes.proofs.SaneDemands.{nonce-start-of, nonce-starts-exist, accepted-starts-exist, sane-demand-3-of}
@@ -78,6 +80,10 @@ any-call = any-call-of program
 -- demands 1 and 2: one call of the record of a history
 pub one-call : OneCallOf saneKind sanePaper promises
 one-call = one-call-of program sane-follows
+
+-- an envelope whose group was changed on its way: another history, and 11 exactly where the tags differ
+pub readdressed : ReaddressedOf saneKind sanePaper promises
+readdressed = readdressed-of program sane-follows sane-readdressed
 
 -- demand 3, one claim about the whole list
 pub demand-3 : SaneDemand3Of saneKind StartPromise promises

@@ -4,6 +4,8 @@ use Rattle.modes.specs.Mode.{sane}
 use Rattle.modes.specs.Ledger.{sanePaper}
 use Rattle.modes.specs.Demands.{AnyCallOf, OneCallOf, RunsExist}
 use Rattle.modes.specs.SaneDemands.{NonceStartOf, SaneDemand3Of, NonceStartsExist, AcceptedStartsExist}
+use Rattle.modes.specs.Envelopes.{ReaddressedOf}
+use Rattle.modes.proofs.Envelopes.{readdressed-of, sane-readdressed}
 use Rattle.modes.proofs.Modes.{sane-follows}
 use Rattle.modes.proofs.Demands.{ByRules, rules-by-rules, any-call-of, one-call-of, runs-exist, kept}
 use Rattle.modes.proofs.SaneDemands.{nonce-by-rules, nonce-start-of, nonce-starts-exist, accepted-starts-exist, sane-demand-3-of}
@@ -25,6 +27,10 @@ any-call = any-call-of lent
 -- demands 1 and 2: one call of the record of a history
 pub one-call : OneCallOf saneKind sanePaper lentPromises
 one-call = one-call-of lent sane-follows
+
+-- an envelope whose group was changed on its way: another history, and 11 exactly where the tags differ
+pub readdressed : ReaddressedOf saneKind sanePaper lentPromises
+readdressed = readdressed-of lent sane-follows sane-readdressed
 
 -- demand 3, one claim about the whole list: each call is lent the record that the last call at its end left
 pub demand-3 : SaneDemand3Of saneKind lentStarts lentPromises

@@ -17,6 +17,8 @@ use Rattle.modes.specs.Start.{StartExactly}
 use Rattle.modes.specs.Demand3.{Demand3}
 use Rattle.modes.specs.Promises.{Promises, Records, Run, sessionsHeld}
 use Rattle.modes.specs.Demands.{StartOf, AnyCallOf, WrapOf, UnwrapOf, OneCallOf, Demand3Of, StartsExist, RunsExist}
+use Rattle.modes.specs.Envelopes.{ReaddressedOf}
+use Rattle.modes.proofs.Envelopes.{readdressed-of, sanse-readdressed}
 use Rattle.modes.proofs.Modes.{sanse-follows}
 use Rattle.modes.proofs.Demands.{ByRules, Whole, both-by-rules, start-of, any-call-of, one-call-of, demand-3-of, runs-exist, kept, starts-exist}
 use Rattle.sanse.specs.declared.Session.{Session}
@@ -92,6 +94,10 @@ any-call = any-call-of program
 -- demands 1 and 2: one call of the record of a history
 pub one-call : OneCallOf sanseKind sansePaper promises
 one-call = one-call-of program sanse-follows
+
+-- an envelope whose group was changed on its way: another history, and 11 exactly where the tags differ
+pub readdressed : ReaddressedOf sanseKind sansePaper promises
+readdressed = readdressed-of program sanse-follows sanse-readdressed
 
 -- demand 3, one claim about the whole list
 pub demand-3 : Demand3Of sanseKind StartPromise promises

@@ -3,6 +3,8 @@
 use Rattle.modes.specs.Mode.{sanse}
 use Rattle.modes.specs.Ledger.{sansePaper}
 use Rattle.modes.specs.Demands.{StartOf, AnyCallOf, OneCallOf, Demand3Of, StartsExist, RunsExist}
+use Rattle.modes.specs.Envelopes.{ReaddressedOf}
+use Rattle.modes.proofs.Envelopes.{readdressed-of, sanse-readdressed}
 use Rattle.modes.proofs.Modes.{sanse-follows}
 use Rattle.modes.proofs.Demands.{ByRules, rules-by-rules, start-by-rules, start-of, any-call-of, one-call-of, demand-3-of, runs-exist, kept, starts-exist}
 use Rattle.sanse.specs.Session.{sanseKind}
@@ -23,6 +25,10 @@ any-call = any-call-of lent
 -- demands 1 and 2: one call of the record of a history
 pub one-call : OneCallOf sanseKind sansePaper lentPromises
 one-call = one-call-of lent sanse-follows
+
+-- an envelope whose group was changed on its way: another history, and 11 exactly where the tags differ
+pub readdressed : ReaddressedOf sanseKind sansePaper lentPromises
+readdressed = readdressed-of lent sanse-follows sanse-readdressed
 
 -- demand 3, one claim about the whole list: each call is lent the record that the last call at its end left
 pub demand-3 : Demand3Of sanseKind lentStarts lentPromises

@@ -38,7 +38,7 @@ pub fn index_after(index: u32, alen: usize, mlen: usize) -> u64
 }
 
 // The first of the checks 5 to 9 that is met, or 0: by whether the session is open, the index after the call, the length `wanted` of a tag in this
-// mode, and the lengths of A, of the text, of the tag and of the output buffer.
+// mode, and the lengths of the metadata, of the text, of the tag and of the output buffer.
 pub fn first_check(
     opened: bool,
     index: u64,
