@@ -4,7 +4,7 @@
  *
  *   - group is 0 to 31, first and last are 1 to 99,999,999, in decimal without leading zeros, and first is not above last;
  *   - size is one letter, A to H;
- *   - day is eight digits, any eight.
+ *   - day is eight digits, any eight; season.h has additions that ask more of it.
  *
  * A pool holds runs of rings of one size, from a first number to a last one, up to 256 of them. Runs of one size that touch, the last of one
  * plus 1 being the first of the other, become one run. Zeroed memory is the empty pool.
