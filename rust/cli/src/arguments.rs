@@ -87,11 +87,10 @@ impl Arguments {
         self.number(name)?.ok_or_else(|| Failure::Usage(format!("The option --{name} is missing.")))
     }
 
-    /// The year that an option has as its value, if it was given.
-    pub fn year(&self, name: &str) -> Result<Option<u32>, Failure> {
-        let Some(value) = self.value(name) else { return Ok(None) };
-        let year = value.to_str().and_then(digits).filter(|year| YEARS.contains(year));
-        year.map(Some).ok_or_else(|| {
+    /// The year that an option has as its value.
+    pub fn required_year(&self, name: &str) -> Result<u32, Failure> {
+        let year = self.required(name)?.to_str().and_then(digits).filter(|year| YEARS.contains(year));
+        year.ok_or_else(|| {
             let (first, last) = YEARS.into_inner();
             Failure::Usage(format!("The option --{name} needs a year from {first} to {last}, in digits."))
         })
@@ -292,7 +291,7 @@ fn check(command: &'static Command, given: Given, operands: &[&str]) -> Result<A
             Value::Number(..) => arguments.number(option.name).map(drop)?,
             Value::Range(..) => arguments.required_range(option.name).map(drop)?,
             Value::Counter(_) => arguments.counter(option.name).map(drop)?,
-            Value::Year => arguments.year(option.name).map(drop)?,
+            Value::Year => arguments.required_year(option.name).map(drop)?,
             Value::Word(words) => arguments.word(option.name, words).map(drop)?,
             Value::None | Value::File | Value::Text(_) => {}
         }
@@ -380,7 +379,7 @@ mod tests {
     fn years_are_those_whose_days_exist() {
         let line = |text: &str| format!("season show --windows f --year={text}");
         for (text, year) in [("1900", 1900), ("2024", 2024), ("2199", 2199)] {
-            assert_eq!(options(&line(text)).year("year").ok(), Some(Some(year)), "{text}");
+            assert_eq!(options(&line(text)).required_year("year").ok(), Some(year), "{text}");
         }
         for text in ["", "0", "24", "1899", "2200", "20240", "-2024", "+2024", "2024.0", "year", "4294969320"] {
             let said = parsed(&line(text)).unwrap_err().to_string();
