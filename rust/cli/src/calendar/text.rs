@@ -30,7 +30,10 @@ fn windows(calendar: &Calendar) -> String {
         let meaning = calendar.meaning(season);
         let _ = writeln!(text, "{size:5} {opening}-{closing}  {:4}  {meaning}", open.len());
     }
-    calendar.note().map_or(text.clone(), |note| format!("{text}{note}\n"))
+    if let Some(note) = calendar.note() {
+        let _ = writeln!(text, "{note}");
+    }
+    text
 }
 
 /// The names of months.
