@@ -80,7 +80,8 @@ fn bash_words(text: &mut String) {
             None => firsts.push((name, words)),
             Some((_, same)) if *same == words => {}
             Some(_) => {
-                let _ = writeln!(others, "        '{} {} --{name}') {} ;;", command.area, command.name, offered(&words));
+                let _ =
+                    writeln!(others, "        '{} {} --{name}') {} ;;", command.area, command.name, offered(&words));
             }
         }
     }

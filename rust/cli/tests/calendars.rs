@@ -5,8 +5,20 @@ mod common;
 use common::seasons::{WINDOWS, days_of, file_of, folder, open_on};
 use common::{Folder, Run};
 
-const MONTHS: [&str; 12] =
-    ["January", "February", "March", "April", "May", "June", "July", "August", "September", "October", "November", "December"];
+const MONTHS: [&str; 12] = [
+    "January",
+    "February",
+    "March",
+    "April",
+    "May",
+    "June",
+    "July",
+    "August",
+    "September",
+    "October",
+    "November",
+    "December",
+];
 
 /// The calendar of a year, as text.
 fn text_of(folder: &Folder, year: u32) -> String {
@@ -43,7 +55,7 @@ E     0229-0228   365  every day *
 F     0301-0930   214  1 Mar to 30 Sep
 G     1001-0229   151  1 Jan to 28 Feb and 1 Oct to 31 Dec, over New Year *
 H     0101-1231   365  every day
-* 2023 has no 29 February: an opening on it means 1 March, a closing 28 February.
+* 2023 has no 29 February: an opening on it is 1 March, a closing 28 February.
 
 The letters of the sizes that are open on each day:
 
@@ -65,6 +77,22 @@ H     0101-1231   366  every day
 
 The letters ";
     assert!(text_of(&folder, 2024).contains(leap), "{}", text_of(&folder, 2024));
+}
+
+/// The example of the manual: its windows file, and what is shown of it.
+#[test]
+fn the_calendar_of_the_manual() {
+    let folder = folder();
+    let manual = include_str!("../../../docs/COMMANDS.md");
+    let blocks = manual.split("\n\n").filter(|block| block.starts_with("    "));
+    let blocks: Vec<String> =
+        blocks.map(|block| block.lines().map(|line| format!("{}\n", &line[4..])).collect()).collect();
+    let block = |start: &str| blocks.iter().find(|block| block.starts_with(start)).unwrap();
+    folder.write("windows", block("A,0101,1231\n").as_bytes());
+    let text = text_of(&folder, 2025);
+    for start in ["size  window", "day  January"] {
+        assert!(text.contains(block(start).as_str()), "{}{text}", block(start));
+    }
 }
 
 /// The ends of February and of the year, by their rows.
@@ -136,8 +164,12 @@ fn a_window_with_a_date_that_no_year_has() {
     assert!(text.contains("\nH     0001-1231     0  no day: opens on 0001, which no year has\n"), "{text}");
     assert_eq!(in_text(&text, 1, 1), "-B-DE-G-");
     assert_eq!(in_text(&text, 7, 1), "---DEF--");
-    let page = String::from_utf8(folder.run("season show --windows windows --year 2024 --format html").printed).unwrap();
-    assert!(page.contains("<td>0230</td><td>0930</td><td>0</td><td>no day: opens on 0230, which no year has</td>"), "{page}");
+    let page =
+        String::from_utf8(folder.run("season show --windows windows --year 2024 --format html").printed).unwrap();
+    assert!(
+        page.contains("<td>0230</td><td>0930</td><td>0</td><td>no day: opens on 0230, which no year has</td>"),
+        "{page}"
+    );
     assert_eq!(cells(&page)[0][0].letters, "-B-DE-G-");
 }
 
@@ -159,7 +191,10 @@ fn cells(page: &str) -> Vec<Vec<Cell>> {
     let table = page.split("<table class=\"days\">").nth(1).unwrap();
     let body = table.split("<tbody>").nth(1).unwrap().split("</tbody>").next().unwrap();
     let rows: Vec<&str> = body.split("<tr>").skip(1).collect();
-    let cell = |cell: &str| Cell { letters: without_tags(&format!("<td{cell}")).trim_end().to_string(), is_none: cell.starts_with(" class=\"none\"") };
+    let cell = |cell: &str| Cell {
+        letters: without_tags(&format!("<td{cell}")).trim_end().to_string(),
+        is_none: cell.starts_with(" class=\"none\""),
+    };
     rows.iter().map(|row| row.split("<td").skip(1).map(cell).collect()).collect()
 }
 
@@ -264,8 +299,14 @@ fn wrong_command_lines() {
     for (line, said) in [
         ("show --windows windows", "The option --year is missing."),
         ("show --year 2024", "The option --windows is missing."),
-        ("show --windows windows --year 2024 --format csv", "The option --format needs one of these words: text, html."),
-        ("show 2024 --windows windows --year 2024", "The word \"2024\" is one too many: see `pevghazo season show --help`."),
+        (
+            "show --windows windows --year 2024 --format csv",
+            "The option --format needs one of these words: text, html.",
+        ),
+        (
+            "show 2024 --windows windows --year 2024",
+            "The word \"2024\" is one too many: see `pevghazo season show --help`.",
+        ),
     ] {
         assert_eq!(folder.fails(2, &format!("season {line}")), format!("pevghazo: {said}\n"), "{line}");
     }

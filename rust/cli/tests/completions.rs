@@ -71,7 +71,10 @@ fn bash_offers_words_options_and_files() {
     assert_eq!(offered(&folder, &["office", "codes", "--packets", ""]), [""; 0]);
     assert_eq!(offered(&folder, &["group", "--format", "html", "co"]), ["codes"]);
     // The words of a command after `help`.
-    assert_eq!(offered(&folder, &["help", ""]), ["office", "group", "sane", "pool", "season", "keygen", "demo", "help"]);
+    assert_eq!(
+        offered(&folder, &["help", ""]),
+        ["office", "group", "sane", "pool", "season", "keygen", "demo", "help"]
+    );
     assert_eq!(offered(&folder, &["help", "office", "op"]), ["open-group", "open"]);
     assert_eq!(offered(&folder, &["help", "office", "open", ""]), [""; 0]);
     // A value after `=`, which may be a word of its own.

@@ -60,8 +60,11 @@ fn a_size_and_a_day() {
 #[test]
 fn the_lines_of_an_input() {
     let folder = folder();
-    let lines: String =
-        FIRST.iter().zip(0..).map(|((size, day, _), place)| format!("{},{size},{},{},{day}\n", place % 32, 1 + place, 50 + place)).collect();
+    let lines: String = FIRST
+        .iter()
+        .zip(0..)
+        .map(|((size, day, _), place)| format!("{},{size},{},{},{day}\n", place % 32, 1 + place, 50 + place))
+        .collect();
     let answers: String = FIRST.iter().map(|(_, _, first)| format!("{first}\n")).collect();
     folder.write("lines", lines.as_bytes());
     let names = folder.names();
@@ -90,7 +93,10 @@ fn refused_lines_among_others() {
     let run = folder.run(ASK);
     assert_eq!(run.status, 23, "{}", run.said);
     let with_return = " It ends with carriage return and line feed: take the carriage return away.";
-    assert_eq!(run.said, format!("pevghazo: Refused, number 13, at line 1: {BAD_LINE}{with_return} Lines refused: 2.\n"));
+    assert_eq!(
+        run.said,
+        format!("pevghazo: Refused, number 13, at line 1: {BAD_LINE}{with_return} Lines refused: 2.\n")
+    );
 }
 
 /// The lines of a size whose window has a date that no year has are refused; 13 comes first, and 17 is not asked.
@@ -102,7 +108,9 @@ fn a_window_with_a_date_that_no_year_has() {
     folder.write("windows", file_of(windows).as_bytes());
     let warning = "pevghazo: windows, line 6: size F closes on 0931, which no year has: its lines get number 16.\n";
     let wrong = "Size F closes on 0931, which no year has.";
-    for (day, reason) in [("20250304", wrong.to_string()), ("20250101", wrong.to_string()), ("20250229", format!("{NO_DAY} {wrong}"))] {
+    for (day, reason) in
+        [("20250304", wrong.to_string()), ("20250101", wrong.to_string()), ("20250229", format!("{NO_DAY} {wrong}"))]
+    {
         let run = folder.run(&format!("season first-day F {day} --windows windows"));
         assert_eq!((run.status, &run.printed[..]), (26, &b""[..]));
         assert_eq!(run.said, format!("{warning}pevghazo: Refused, number 16: {reason}\n"));
@@ -117,7 +125,10 @@ fn a_window_with_a_date_that_no_year_has() {
 #[test]
 fn days_that_do_not_exist() {
     let folder = folder();
-    for day in ["18991231", "22000101", "19000229", "21000229", "20250229", "20250431", "20250001", "20251301", "20250100", "00000000", "99999999"] {
+    for day in [
+        "18991231", "22000101", "19000229", "21000229", "20250229", "20250431", "20250001", "20251301", "20250100",
+        "00000000", "99999999",
+    ] {
         let said = folder.fails(26, &format!("season first-day E {day} --windows windows"));
         assert_eq!(said, format!("pevghazo: Refused, number 16: {NO_DAY}\n"), "{day}");
     }
@@ -130,7 +141,9 @@ fn every_day_of_some_years() {
     for years in [[2023, 2024], [1999, 2000], [2099, 2100]] {
         let days: Vec<(u32, u32, u32)> = years
             .into_iter()
-            .flat_map(|year| (1..=12).flat_map(move |month| (1..=days_of(year, month)).map(move |day| (year, month, day))))
+            .flat_map(|year| {
+                (1..=12).flat_map(move |month| (1..=days_of(year, month)).map(move |day| (year, month, day)))
+            })
             .collect();
         for size in 'B'..='H' {
             let number = |(year, month, day): (u32, u32, u32)| year * 10_000 + month * 100 + day;
@@ -181,7 +194,11 @@ fn wrong_command_lines() {
     ] {
         assert_eq!(folder.fails(2, &format!("season {line}")), format!("pevghazo: {said}\n"), "{line}");
     }
-    assert!(folder.done("season first-day --help").contains("\n  pevghazo season first-day [SIZE DAY] --windows FILE [--in FILE]\n"));
+    assert!(
+        folder
+            .done("season first-day --help")
+            .contains("\n  pevghazo season first-day [SIZE DAY] --windows FILE [--in FILE]\n")
+    );
 }
 
 #[test]
@@ -193,9 +210,16 @@ fn inputs_and_outputs_that_cannot_be_used() {
     assert!(said.starts_with("pevghazo: Could not read .: "), "{said}");
     for line in [ASK, "season first-day F 20250101 --windows windows"] {
         let run = Run::of(folder.command_after("exec >&-", line));
-        assert_eq!((run.status, run.said.as_str()), (4, "pevghazo: Could not write to standard output: it is closed.\n"));
+        assert_eq!(
+            (run.status, run.said.as_str()),
+            (4, "pevghazo: Could not write to standard output: it is closed.\n")
+        );
         let run = Run::of(folder.command_after("exec >/dev/full", line));
-        assert!(run.status == 4 && run.said.starts_with("pevghazo: Could not write to standard output: "), "{}", run.said);
+        assert!(
+            run.status == 4 && run.said.starts_with("pevghazo: Could not write to standard output: "),
+            "{}",
+            run.said
+        );
     }
 }
 
@@ -203,7 +227,9 @@ fn inputs_and_outputs_that_cannot_be_used() {
 #[test]
 fn a_long_input() {
     let folder: Folder = folder();
-    let line = |place: u32| if place % 1_000 == 999 { "nothing\n".to_string() } else { format!("7,F,1,5,2{:03}0304\n", place % 200) };
+    let line = |place: u32| {
+        if place % 1_000 == 999 { "nothing\n".to_string() } else { format!("7,F,1,5,2{:03}0304\n", place % 200) }
+    };
     let answer = |place: u32| match place % 1_000 {
         999 => format!("line {}: number 13: {BAD_LINE}\n", place + 1),
         place => format!("2{:03}0304\n", place % 200),
@@ -211,5 +237,8 @@ fn a_long_input() {
     folder.write("lines", (0..20_000).map(line).collect::<String>().as_bytes());
     let run = folder.run(ASK);
     assert!(String::from_utf8(run.printed).unwrap() == (0..20_000).map(answer).collect::<String>());
-    assert_eq!((run.status, run.said), (23, format!("pevghazo: Refused, number 13, at line 1000: {BAD_LINE} Lines refused: 20.\n")));
+    assert_eq!(
+        (run.status, run.said),
+        (23, format!("pevghazo: Refused, number 13, at line 1000: {BAD_LINE} Lines refused: 20.\n"))
+    );
 }

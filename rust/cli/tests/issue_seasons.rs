@@ -28,7 +28,8 @@ fn refused(folder: &Folder, line: &str, number: i32, reason: &str) {
         let run = folder.run(&format!("{ADD}{all}"));
         let printed = format!("line 1: number {number}: {reason}\nadded 0 of 1 lines, 0 rings\n");
         assert_eq!(String::from_utf8(run.printed).unwrap(), printed, "{line}");
-        let said = format!("pevghazo: Refused, number {number}, at line 1: {reason} Lines refused: 1. Lines added: 0.\n");
+        let said =
+            format!("pevghazo: Refused, number {number}, at line 1: {reason} Lines refused: 1. Lines added: 0.\n");
         assert!(run.said.ends_with(&said), "{line}: {}", run.said);
         assert_eq!(run.status, 10 + number, "{line}");
     }
@@ -134,7 +135,10 @@ fn edges_of_windows() {
     ] {
         refused(&folder, line, 17, &outside(size, window, then));
     }
-    for day in ["18991231", "22000101", "19000229", "21000229", "20230229", "20250001", "20251301", "20250100", "00000000", "99999999"] {
+    for day in [
+        "18991231", "22000101", "19000229", "21000229", "20230229", "20250001", "20251301", "20250100", "00000000",
+        "99999999",
+    ] {
         refused(&folder, &format!("0,H,9,9,{day}\n"), 16, NO_DAY);
     }
 }
@@ -162,12 +166,24 @@ fn refused_lines_among_others() {
     );
     let before = folder.read("pool");
     let run = folder.run(&format!("{ADD} --all-or-none"));
-    assert_eq!((String::from_utf8(run.printed).unwrap(), run.status), (format!("{list}added 0 of 8 lines, 0 rings\n"), 27));
+    assert_eq!(
+        (String::from_utf8(run.printed).unwrap(), run.status),
+        (format!("{list}added 0 of 8 lines, 0 rings\n"), 27)
+    );
     assert!(folder.read("pool") == before);
     let run = folder.run(ADD);
-    assert_eq!((String::from_utf8(run.printed).unwrap(), run.status), (format!("{list}added 3 of 8 lines, 7 rings\n"), 27));
-    assert_eq!(run.said, format!("pevghazo: Refused, number 17, at line 2: {later} Lines refused: 5. Lines added: 3.\n"));
-    assert_eq!(folder.done("pool --state pool show --runs --csv"), "size,first,last,rings\nB,1,1,1\nC,1,1,1\nF,1,5,5\n");
+    assert_eq!(
+        (String::from_utf8(run.printed).unwrap(), run.status),
+        (format!("{list}added 3 of 8 lines, 7 rings\n"), 27)
+    );
+    assert_eq!(
+        run.said,
+        format!("pevghazo: Refused, number 17, at line 2: {later} Lines refused: 5. Lines added: 3.\n")
+    );
+    assert_eq!(
+        folder.done("pool --state pool show --runs --csv"),
+        "size,first,last,rings\nB,1,1,1\nC,1,1,1\nF,1,5,5\n"
+    );
     // The refused ones again, from the standard input: the first is another.
     let run = folder.run_on(&ADD.replace("lines", "-"), b"7,F,5,5,20250229\n7,F,6,9,20251001\n");
     assert_eq!(run.status, 26, "{}", run.said);
@@ -188,7 +204,10 @@ fn a_wrong_windows_file_is_told_before_the_state_file_is_opened() {
         "pool --state nothing add --in lines --windows wrong",
         "pool --state pool add --in nothing --windows wrong",
     ] {
-        assert!(folder.fails(4, line).starts_with("pevghazo: wrong ends after line 1 and has no line for B, "), "{line}");
+        assert!(
+            folder.fails(4, line).starts_with("pevghazo: wrong ends after line 1 and has no line for B, "),
+            "{line}"
+        );
     }
     assert!(folder.names() == names && folder.read("pool").unwrap() == older);
     // Taken from a good one, the older copy is the newest afterwards.

@@ -92,7 +92,9 @@ fn bytes_that_are_no_text() {
 #[test]
 fn a_size_that_is_given_twice() {
     let folder = folder();
-    let said = |line, size, before| format!("windows, line {line}: size {size} has its window in line {before} already. {A_FILE}");
+    let said = |line, size, before| {
+        format!("windows, line {line}: size {size} has its window in line {before} already. {A_FILE}")
+    };
     wrong(&folder, &with_third(b"A,0301,0930"), &said(3, 'A', 1));
     wrong(&folder, &with_third(b"B,0101,0105"), &said(3, 'B', 2));
     wrong(&folder, &with_third(b"H,0301,0930"), &said(8, 'H', 3));
@@ -176,7 +178,9 @@ fn dates_that_no_year_has_are_warned_of() {
         folder.write("windows", &with_third(format!("C,{window}").as_bytes()));
         let warned: String = warnings
             .iter()
-            .map(|wrong| format!("pevghazo: windows, line 3: size C {wrong}, which no year has: its lines get number 16.\n"))
+            .map(|wrong| {
+                format!("pevghazo: windows, line 3: size C {wrong}, which no year has: its lines get number 16.\n")
+            })
             .collect();
         for line in ["season first-day H 20250304 --windows windows", COMMANDS[3]] {
             let run = folder.run(line);
@@ -192,11 +196,17 @@ fn dates_that_no_year_has_are_warned_of() {
 #[test]
 fn warnings_of_several_lines() {
     let folder = folder();
-    let text = "H,0230,0101\nG,0101,1231\nF,0101,1231\nE,0101,1232\nD,0101,1231\nC,0101,1231\nB,0101,1231\nA,0001,1300\n";
+    let text =
+        "H,0230,0101\nG,0101,1231\nF,0101,1231\nE,0101,1232\nD,0101,1231\nC,0101,1231\nB,0101,1231\nA,0001,1300\n";
     folder.write("windows", text.as_bytes());
     let run = folder.run("season first-day C 20250304 --windows windows");
-    let warning = |line, wrong| format!("pevghazo: windows, line {line}: size {wrong}, which no year has: its lines get number 16.\n");
-    let warned = warning(1, "H opens on 0230") + &warning(4, "E closes on 1232") + &warning(8, "A opens on 0001") + &warning(8, "A closes on 1300");
+    let warning = |line, wrong| {
+        format!("pevghazo: windows, line {line}: size {wrong}, which no year has: its lines get number 16.\n")
+    };
+    let warned = warning(1, "H opens on 0230")
+        + &warning(4, "E closes on 1232")
+        + &warning(8, "A opens on 0001")
+        + &warning(8, "A closes on 1300");
     assert_eq!((run.status, &run.printed[..], run.said), (0, &b"20250304\n"[..], warned));
 }
 
@@ -209,7 +219,10 @@ fn windows_may_come_from_the_standard_input() {
     let run = folder.run_on("pool --state pool add --in lines --windows -", text.as_bytes());
     assert_eq!((run.status, &run.printed[..], run.said.as_str()), (0, &b"added 1 of 1 lines, 100 rings\n"[..], ""));
     let run = folder.run_on("season first-day F 20250101 --windows -", b"A,0101\n");
-    assert_eq!((run.status, run.said), (4, format!("pevghazo: standard input, line 1: it has 2 fields and not three. {A_LINE}\n")));
+    assert_eq!(
+        (run.status, run.said),
+        (4, format!("pevghazo: standard input, line 1: it has 2 fields and not three. {A_LINE}\n"))
+    );
     let before = folder.read("pool");
     for line in ["pool --state pool add --in - --windows -", "season first-day --in - --windows -"] {
         assert_eq!(folder.fails(2, line), "pevghazo: Only one input may be `-`, the standard input.\n");

@@ -12,7 +12,17 @@ use crate::windows::{Date, WindowsFile, exists, line_of, wrong_dates};
 
 /// The months.
 const MONTHS: [&str; 12] = [
-    "January", "February", "March", "April", "May", "June", "July", "August", "September", "October", "November",
+    "January",
+    "February",
+    "March",
+    "April",
+    "May",
+    "June",
+    "July",
+    "August",
+    "September",
+    "October",
+    "November",
     "December",
 ];
 
@@ -43,11 +53,7 @@ impl Calendar {
     pub fn new(file: &WindowsFile, year: u32) -> Calendar {
         let all = (1..=12).flat_map(|month| (1..=31).map(move |day| year * 10_000 + month * 100 + day));
         let days: Vec<u32> = all.filter(|day| exists(*day)).collect();
-        let season = |size| Season {
-            size,
-            window: file.windows.of(size),
-            open: open_days(&file.windows, size, &days),
-        };
+        let season = |size| Season { size, window: file.windows.of(size), open: open_days(&file.windows, size, &days) };
         let seasons = Size::ALL.into_iter().map(season).collect();
         Calendar { year, file: file.name.clone(), days, seasons }
     }
@@ -73,7 +79,8 @@ impl Calendar {
         if !wrong.is_empty() {
             return format!("no day: {}, which no year has", wrong.join(", "));
         }
-        let spans: Vec<String> = season.open.chunk_by(|day, next| day + 1 == *next).map(|span| self.span(span)).collect();
+        let spans: Vec<String> =
+            season.open.chunk_by(|day, next| day + 1 == *next).map(|span| self.span(span)).collect();
         let spans = match &spans[..] {
             [] => "no day".to_string(),
             _ if season.open.len() == self.days.len() => "every day".to_string(),
@@ -106,7 +113,7 @@ impl Calendar {
         let moved = self.seasons.iter().any(|season| self.moves(season.window));
         moved.then(|| {
             let year = self.year;
-            format!("* {year} has no 29 February: an opening on it means 1 March, a closing 28 February.")
+            format!("* {year} has no 29 February: an opening on it is 1 March, a closing 28 February.")
         })
     }
 }

@@ -199,9 +199,13 @@ fn pool(folder: &Folder, out: &mut dyn Write) -> Result<(), Failure> {
 
 /// A group returns rings outside their season, and the office asks when these may be issued.
 fn seasons(folder: &Folder, out: &mut dyn Write) -> Result<(), Failure> {
-    const WINDOWS: &str = "A,0101,1231\nB,0101,1231\nC,0301,0930\nD,0101,1231\nE,1001,0229\nF,0101,1231\nG,0101,1231\nH,0101,1231\n";
+    const WINDOWS: &str =
+        "A,0101,1231\nB,0101,1231\nC,0301,0930\nD,0101,1231\nE,1001,0229\nF,0101,1231\nG,0101,1231\nH,0101,1231\n";
     const LINES: &str = "4,C,20151,20160,20251115\n27,E,721,740,20251115\n";
-    print(out, "\nRings of size C are issued from 1 March to 30 September, and those of size E over New Year. Two lines come:\n")?;
+    print(
+        out,
+        "\nRings of size C are issued from 1 March to 30 September, and those of size E over New Year. Two lines come:\n",
+    )?;
     print(out, &indented(LINES))?;
     folder.write("windows", WINDOWS.as_bytes())?;
     folder.write("lines", LINES.as_bytes())?;

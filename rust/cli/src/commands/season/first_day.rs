@@ -37,7 +37,9 @@ fn read_size(text: &str) -> Result<Size, Failure> {
 fn read_day(text: &str) -> Result<u32, Failure> {
     let day = digits(text).filter(|_| text.len() == 8);
     day.ok_or_else(|| {
-        Failure::Usage(format!("DAY is {text:?}. A day is eight digits, of the year, the month and the day, as 20250304."))
+        Failure::Usage(format!(
+            "DAY is {text:?}. A day is eight digits, of the year, the month and the day, as 20250304."
+        ))
     })
 }
 
