@@ -72,7 +72,10 @@ fn try_lines<R: Read>(pool: &mut Pool, lines: &mut Lines<R>, windows: Option<&Wi
     let (mut tally, mut progress) = (Tally::default(), Progress::new());
     while let Some(line) = lines.next()? {
         tally.lines += 1;
-        let added = windows.map_or_else(|| pool.add(line), |windows| pool.add_in_season(windows, line));
+        let added = match windows {
+            Some(windows) => pool.add_in_season(windows, line),
+            None => pool.add(line),
+        };
         if let Err(refusal) = added {
             tally.refused.add(tally.lines, Reason::of(refusal, line, windows));
         }
