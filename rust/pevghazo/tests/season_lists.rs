@@ -9,7 +9,8 @@ use common::lists::{any_memory, close_line, near_line, nearly_full};
 use common::pools::{Memory, Pools, any_size};
 use common::seasons::{Seasons, any_seasons, day_for};
 use common::{cases, damaged, least_times};
-use pevghazo::raw::{First, WindowsRecord};
+use pevghazo::Window;
+use pevghazo::raw::First;
 use pevghazo_reference::random::Random;
 use pevghazo_reference::{days, issue};
 
@@ -129,8 +130,8 @@ fn add_to_both(inside: &mut Memory, plain: &mut Memory, seasons: &Seasons, line:
 /// Windows of any bytes, or such as `any_seasons` gives.
 fn any_windows(random: &mut Random) -> Seasons {
     let mut byte = || random.bits() as u8;
-    let mut window = || pevghazo::Window { open_month: byte(), open_day: byte(), close_month: byte(), close_day: byte() };
-    let WindowsRecord { sizes } = WindowsRecord { sizes: [(); 8].map(|()| window()) };
+    let mut window = || Window { open_month: byte(), open_day: byte(), close_month: byte(), close_day: byte() };
+    let sizes = [(); 8].map(|()| window());
     if random.once_in(8) { Seasons::of(sizes) } else { any_seasons(random) }
 }
 
