@@ -21,21 +21,63 @@ fn found(day: u32) -> First {
 /// A window, days from which the question is asked, and the answers, by hand; 0 for none.
 const BY_HAND: [(u32, u32, &[(u32, u32)]); 12] = [
     // Within a year, both ends included.
-    (301, 930, &[(20_250_228, 20_250_301), (20_250_301, 20_250_301), (20_250_930, 20_250_930), (20_251_001, 20_260_301)]),
+    (
+        301,
+        930,
+        &[(20_250_228, 20_250_301), (20_250_301, 20_250_301), (20_250_930, 20_250_930), (20_251_001, 20_260_301)],
+    ),
     (301, 930, &[(19_000_101, 19_000_301), (21_990_930, 21_990_930), (21_991_001, 0), (21_991_231, 0)]),
     (101, 105, &[(21_990_201, 0), (21_990_106, 0), (21_990_105, 21_990_105), (21_980_106, 21_990_101)]),
     // Over New Year.
-    (1231, 101, &[(20_250_102, 20_251_231), (20_251_230, 20_251_231), (20_251_231, 20_251_231), (20_260_101, 20_260_101)]),
-    (1231, 101, &[(19_000_101, 19_000_101), (19_000_102, 19_001_231), (21_990_102, 21_991_231), (21_991_231, 21_991_231)]),
-    (301, 228, &[(20_230_228, 20_230_228), (20_240_228, 20_240_228), (20_240_229, 20_240_301), (20_000_229, 20_000_301)]),
+    (
+        1231,
+        101,
+        &[(20_250_102, 20_251_231), (20_251_230, 20_251_231), (20_251_231, 20_251_231), (20_260_101, 20_260_101)],
+    ),
+    (
+        1231,
+        101,
+        &[(19_000_101, 19_000_101), (19_000_102, 19_001_231), (21_990_102, 21_991_231), (21_991_231, 21_991_231)],
+    ),
+    (
+        301,
+        228,
+        &[(20_230_228, 20_230_228), (20_240_228, 20_240_228), (20_240_229, 20_240_301), (20_000_229, 20_000_301)],
+    ),
     // 29 February and 29 February: empty in common years.
-    (229, 229, &[(20_960_301, 21_040_229), (21_960_301, 0), (19_000_101, 19_040_229), (20_000_229, 20_000_229), (21_960_229, 21_960_229)]),
+    (
+        229,
+        229,
+        &[
+            (20_960_301, 21_040_229),
+            (21_960_301, 0),
+            (19_000_101, 19_040_229),
+            (20_000_229, 20_000_229),
+            (21_960_229, 21_960_229),
+        ],
+    ),
     // An opening on it means 1 March in a common year, after the direction is told.
-    (229, 301, &[(20_230_101, 20_230_301), (20_230_302, 20_240_229), (19_000_228, 19_000_301), (21_000_101, 21_000_301)]),
-    (229, 227, &[(20_230_228, 20_230_301), (20_240_228, 20_240_229), (20_230_227, 20_230_227), (20_240_302, 20_240_302)]),
+    (
+        229,
+        301,
+        &[(20_230_101, 20_230_301), (20_230_302, 20_240_229), (19_000_228, 19_000_301), (21_000_101, 21_000_301)],
+    ),
+    (
+        229,
+        227,
+        &[(20_230_228, 20_230_301), (20_240_228, 20_240_229), (20_230_227, 20_230_227), (20_240_302, 20_240_302)],
+    ),
     // A closing on it means 28 February in a common year.
-    (1101, 229, &[(20_230_228, 20_230_228), (20_230_301, 20_231_101), (20_240_229, 20_240_229), (20_240_301, 20_241_101)]),
-    (228, 229, &[(20_230_301, 20_240_228), (20_240_229, 20_240_229), (21_000_228, 21_000_228), (21_000_301, 21_010_228)]),
+    (
+        1101,
+        229,
+        &[(20_230_228, 20_230_228), (20_230_301, 20_231_101), (20_240_229, 20_240_229), (20_240_301, 20_241_101)],
+    ),
+    (
+        228,
+        229,
+        &[(20_230_301, 20_240_228), (20_240_229, 20_240_229), (21_000_228, 21_000_228), (21_000_301, 21_010_228)],
+    ),
     // One day.
     (704, 704, &[(20_250_703, 20_250_704), (20_250_704, 20_250_704), (20_250_705, 20_260_704), (21_990_705, 0)]),
 ];
@@ -48,7 +90,11 @@ fn first_days_by_hand() {
             let expected = if *first == 0 { NONE } else { found(*first) };
             assert_eq!(seasons.first_day(&line_on(*day)), expected, "{opening:04} to {closing:04} from {day}");
             let number = if first == day { 0 } else { 17 };
-            assert_eq!(Pools::new().add_in_season(&seasons, &line_on(*day)), number, "{opening:04} to {closing:04}, {day}");
+            assert_eq!(
+                Pools::new().add_in_season(&seasons, &line_on(*day)),
+                number,
+                "{opening:04} to {closing:04}, {day}"
+            );
         }
     }
 }
@@ -58,7 +104,9 @@ fn first_days_by_hand() {
 fn windows_that_hold_every_day() {
     for (opening, closing) in [(229, 228), (301, 229), (101, 1231), (102, 101), (1231, 1230), (705, 704)] {
         let seasons = Seasons::all(window(opening, closing));
-        for day in days::all().iter().filter(|day| [1900, 1999, 2000, 2023, 2024, 2100, 2199].contains(&(*day / 10_000))) {
+        for day in
+            days::all().iter().filter(|day| [1900, 1999, 2000, 2023, 2024, 2100, 2199].contains(&(*day / 10_000)))
+        {
             assert_eq!(seasons.first_day(&line_on(*day)), found(*day), "{opening:04} to {closing:04} from {day}");
         }
     }
@@ -93,7 +141,9 @@ fn days_that_do_not_exist_get_16() {
 #[test]
 fn the_29th_of_february() {
     let seasons = Seasons::all(window(101, 1231));
-    for (year, exists) in [(1900, false), (1904, true), (1999, false), (2000, true), (2096, true), (2100, false), (2104, true)] {
+    for (year, exists) in
+        [(1900, false), (1904, true), (1999, false), (2000, true), (2096, true), (2100, false), (2104, true)]
+    {
         let day = year * 10_000 + 229;
         assert_eq!(seasons.first_day(&line_on(day)), if exists { found(day) } else { NO_DAY }, "{day}");
         assert_eq!(Pools::new().add_in_season(&seasons, &line_on(day)), if exists { 0 } else { 16 }, "{day}");
@@ -125,7 +175,10 @@ fn every_date_of_two_bytes() {
             let seasons = Seasons::for_c(own, inside);
             let number = if in_leap_year(month, day) { 0 } else { 16 };
             // The line's day is an end of the window, so that it is inside.
-            assert_eq!(seasons.first_day(&line), First { number, ..if number == 0 { found(20_250_704) } else { NONE } });
+            assert_eq!(
+                seasons.first_day(&line),
+                First { number, ..if number == 0 { found(20_250_704) } else { NONE } }
+            );
             assert_eq!(Memory::zeroed().add_in_season(&seasons, &line), number, "{own:?}");
         }
     }
@@ -179,7 +232,8 @@ impl Wrong {
 
     /// The number: that of the first check which is met.
     fn number(self) -> u32 {
-        let checks = [(self.line, 13), (self.day || self.window, 16), (self.season, 17), (self.pooled, 14), (self.full, 15)];
+        let checks =
+            [(self.line, 13), (self.day || self.window, 16), (self.season, 17), (self.pooled, 14), (self.full, 15)];
         checks.into_iter().find(|(met, _)| *met).map_or(0, |(_, number)| number)
     }
 

@@ -43,8 +43,10 @@ fn windows_are_compared_by_all_their_dates() {
     let copy = windows;
     assert_eq!(windows, copy);
     let mut all = HashSet::from([windows]);
+    let changes: [fn(&mut Window); 4] =
+        [|own| own.open_month += 1, |own| own.open_day += 1, |own| own.close_month += 1, |own| own.close_day += 1];
     for size in 0..8 {
-        for change in [|w: &mut Window| w.open_month += 1, |w| w.open_day += 1, |w| w.close_month += 1, |w| w.close_day += 1] {
+        for change in changes {
             let mut sizes = months();
             change(&mut sizes[size]);
             assert!(all.insert(Windows::new(sizes)), "{size}");

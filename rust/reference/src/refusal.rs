@@ -67,7 +67,9 @@ impl Number {
             Number::Line => "The bytes are not exactly one issue line.",
             Number::Pooled => "A number of the line is pooled already.",
             Number::Runs => "The pool would have more than 256 runs.",
-            Number::NoDay => "There is no such day in 1900 to 2199, or no such date in any year in the window of the size.",
+            Number::NoDay => {
+                "There is no such day in 1900 to 2199, or no such date in any year in the window of the size."
+            }
             Number::OutOfSeason => "The line's day is outside the window of its size.",
         }
     }

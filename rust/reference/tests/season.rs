@@ -30,16 +30,24 @@ fn the_calendar() {
     assert_eq!((all()[0], *all().last().unwrap()), (19_000_101, 21_991_231));
     assert!(all().is_sorted_by(|one, next| one < next));
     let leap = (1900..2200).filter(|year| is_leap(*year)).count();
-    assert_eq!((leap, is_leap(1900), is_leap(2000), is_leap(2100), is_leap(2024), is_leap(2023)), (73, false, true, false, true, false));
+    assert_eq!(
+        (leap, is_leap(1900), is_leap(2000), is_leap(2100), is_leap(2024), is_leap(2023)),
+        (73, false, true, false, true, false)
+    );
     // Days whose distance from 1 January 1900 is known.
-    for (day, place) in [(19_700_101, 25_567), (20_000_101, 36_524), (20_000_301, 36_584), (20_380_119, 50_422), (21_000_301, 73_108)] {
+    for (day, place) in
+        [(19_700_101, 25_567), (20_000_101, 36_524), (20_000_301, 36_584), (20_380_119, 50_422), (21_000_301, 73_108)]
+    {
         assert_eq!(all()[place], day);
     }
 }
 
 #[test]
 fn days_that_do_not_exist() {
-    for day in [18_991_231, 19_000_229, 19_001_301, 20_230_229, 20_240_230, 20_240_431, 20_240_631, 20_240_931, 20_241_131, 20_240_132] {
+    for day in [
+        18_991_231, 19_000_229, 19_001_301, 20_230_229, 20_240_230, 20_240_431, 20_240_631, 20_240_931, 20_241_131,
+        20_240_132,
+    ] {
         assert!(!exists(day), "{day}");
     }
     for day in [0, 20_240_001, 20_240_100, 20_241_232, 20_241_301, 21_000_229, 22_000_101, 99_999_999, u32::MAX] {
@@ -87,7 +95,11 @@ fn first_days_by_hand() {
         let windows = Windows([window(opening, closing); 8]);
         assert_eq!(windows.first_day(&line(day)), Ok(first), "{opening:04} to {closing:04} from {day}");
         let inside = if first == Some(day) { Ok(()) } else { Err(Number::OutOfSeason) };
-        assert_eq!(Pool::default().add_in_season(&windows, &line(day)), inside, "{opening:04} to {closing:04} on {day}");
+        assert_eq!(
+            Pool::default().add_in_season(&windows, &line(day)),
+            inside,
+            "{opening:04} to {closing:04} on {day}"
+        );
     }
 }
 

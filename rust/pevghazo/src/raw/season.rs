@@ -27,7 +27,8 @@ pub struct First {
 }
 
 // The layouts of the header on x86-64.
-const _: () = assert!(size_of::<Window>() == 4 && offset_of!(Window, open_month) == 0 && offset_of!(Window, open_day) == 1);
+const _: () =
+    assert!(size_of::<Window>() == 4 && offset_of!(Window, open_month) == 0 && offset_of!(Window, open_day) == 1);
 const _: () = assert!(offset_of!(Window, close_month) == 2 && offset_of!(Window, close_day) == 3);
 const _: () = assert!(size_of::<WindowsRecord>() == 32);
 const _: () = assert!(size_of::<First>() == 12 && offset_of!(First, found) == 4 && offset_of!(First, day) == 8);

@@ -160,10 +160,8 @@ fn no_day(random: &mut Random) -> u32 {
 /// A day for a window: one of its ends in some year, or at most two days from it; any day; now and then one that does not exist.
 pub fn day_for(random: &mut Random, window: Window) -> u32 {
     let years = [1900, 1903, 1904, 1999, 2000, 2023, 2024, 2096, 2100, 2103, 2104, 2196, 2199];
-    let [opening, closing] =
-        [(window.open_month, window.open_day), (window.close_month, window.close_day)].map(|(month, day)| {
-            random.pick(&years) * 10_000 + u32::from(month) * 100 + u32::from(day)
-        });
+    let [opening, closing] = [(window.open_month, window.open_day), (window.close_month, window.close_day)]
+        .map(|(month, day)| random.pick(&years) * 10_000 + u32::from(month) * 100 + u32::from(day));
     match random.below(8) {
         0 => no_day(random),
         1 | 2 => any_day(random),
