@@ -18,8 +18,11 @@ fn found(day: u32) -> First {
     First { number: 0, found: true, day }
 }
 
-/// A window, days from which the question is asked, and the answers, by hand; 0 for none.
-const BY_HAND: [(u32, u32, &[(u32, u32)]); 12] = [
+/// Days from which the question is asked, and the answers; 0 for none.
+type Answers = &'static [(u32, u32)];
+
+/// Windows, and the answers by hand.
+const BY_HAND: [(u32, u32, Answers); 12] = [
     // Within a year, both ends included.
     (
         301,

@@ -14,8 +14,8 @@ static ALL: LazyLock<Vec<u32>> = LazyLock::new(|| YEARS.flat_map(days_of_year).c
 
 /// Whether a year has a 29 February: every fourth has, but of the full centuries only every fourth.
 pub fn is_leap(year: u32) -> bool {
-    let counted = if year % 100 == 0 { year / 100 } else { year };
-    counted % 4 == 0
+    let counted = if year.is_multiple_of(100) { year / 100 } else { year };
+    counted.is_multiple_of(4)
 }
 
 /// The days of a month, which is 1 to 12.
