@@ -2,3 +2,4 @@
 pub mod Steps
 pub mod Right
 pub mod Search
+pub mod Examples
