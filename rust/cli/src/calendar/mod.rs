@@ -8,7 +8,7 @@ mod text;
 
 use pevghazo::{Size, Window, Windows};
 
-use crate::windows::{Date, WindowsFile, exists, line_of, wrong_dates};
+use crate::windows::{Date, WindowsFile, has_day, line_of, wrong_dates};
 
 /// The months.
 const MONTHS: [&str; 12] = [
@@ -52,7 +52,7 @@ impl Calendar {
     /// The calendar of a year.
     pub fn new(file: &WindowsFile, year: u32) -> Calendar {
         let all = (1..=12).flat_map(|month| (1..=31).map(move |day| year * 10_000 + month * 100 + day));
-        let days: Vec<u32> = all.filter(|day| exists(*day)).collect();
+        let days: Vec<u32> = all.filter(|day| has_day(&line_of(Size::A, *day))).collect();
         let season = |size| Season { size, window: file.windows.of(size), open: open_days(&file.windows, size, &days) };
         let seasons = Size::ALL.into_iter().map(season).collect();
         Calendar { year, file: file.name.clone(), days, seasons }

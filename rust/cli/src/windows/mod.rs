@@ -61,19 +61,13 @@ pub fn line_of(size: Size, day: u32) -> Vec<u8> {
     format!("0,{size},1,1,{day:08}\n").into_bytes()
 }
 
-/// Whether a day exists, as the library has it: with windows that hold every day, a line of any other day is refused.
-pub fn exists(day: u32) -> bool {
+/// Whether the day of an issue line exists, as the library has it: with windows that hold every day, a line of any other day is refused.
+pub fn has_day(line: &[u8]) -> bool {
     const EVERY_DAY: Window = Window { open_month: 1, open_day: 1, close_month: 12, close_day: 31 };
-    Windows::new([EVERY_DAY; 8]).first_day(&line_of(Size::A, day)).is_ok()
+    Windows::new([EVERY_DAY; 8]).first_day(line).is_ok()
 }
 
-/// The day of an issue line that the library has taken for one.
-fn day_of(line: &[u8]) -> Option<u32> {
-    let digits = line.strip_suffix(b"\n")?.rsplit(|byte| *byte == b',').next()?;
-    std::str::from_utf8(digits).ok()?.parse().ok()
-}
-
-/// The size of such a line.
+/// The size of an issue line that the library has taken for one.
 fn size_of(line: &[u8]) -> Option<Size> {
     match line.split(|byte| *byte == b',').nth(1)? {
         [letter] => Size::try_from(*letter).ok(),

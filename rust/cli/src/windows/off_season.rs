@@ -4,7 +4,7 @@ use std::fmt;
 
 use pevghazo::{DAY_MAX, Number, Size, Window, Windows};
 
-use super::{Date, day_of, exists, size_of, wrong_dates};
+use super::{Date, has_day, size_of, wrong_dates};
 
 /// Why a line was refused. The display is a sentence, or two.
 #[derive(Clone, Copy, Debug, PartialEq, Eq)]
@@ -33,7 +33,7 @@ impl OffSeason {
     pub fn of(number: Number, line: &[u8], windows: &Windows) -> Option<OffSeason> {
         let size = size_of(line)?;
         let why = match number {
-            Number::NoSuchDay if day_of(line).is_some_and(exists) => Why::WrongWindow,
+            Number::NoSuchDay if has_day(line) => Why::WrongWindow,
             Number::NoSuchDay => Why::NoDay,
             Number::OutOfSeason => Why::Outside(windows.first_day(line).ok().flatten()),
             _ => return None,

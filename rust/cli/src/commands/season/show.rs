@@ -14,11 +14,10 @@ pub fn show(arguments: &Arguments, out: &mut dyn Write) -> Result<(), Failure> {
     let year = arguments.required_year("year")?;
     let format = arguments.word("format", &CALENDARS)?.unwrap_or(CALENDARS[0]);
     let output = Output::of(arguments, "out", |_| false)?.unwrap_or(Output::Standard);
-    output.must_be_new()?;
     let calendar = Calendar::new(&WindowsFile::open(arguments)?, year);
     output.write(calendar.text(format).as_bytes(), Time::First, out)?;
     if !output.is_standard() {
-        tell(&format!("Showed the issue seasons of {year}."));
+        tell(&format!("Wrote the issue seasons of {year}."));
     }
     Ok(())
 }
