@@ -1,0 +1,3 @@
+-- What the contracts of the crate `seasons` cite.
+pub mod Seasons
+pub mod FirstDay

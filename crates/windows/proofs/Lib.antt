@@ -1,0 +1,5 @@
+-- Laws and theorems that belong to no one function.
+pub mod Steps
+pub mod Right
+pub mod February
+pub mod Examples
