@@ -10,7 +10,11 @@ use seasons::Windows;
 // Adds an issue line to a pool, its line feed included, in the season of its size. The pool stays as it was where the call is refused. Checks 13, 16,
 // 17, 14 and 15, in this order.
 #[no_mangle]
-pub extern "C" fn pevghazo_pool_add_in_season(pool: &mut Pool, windows: &Windows, line: &[u8]) -> u32
+pub extern "C" fn pevghazo_pool_add_in_season(
+    pool: &mut Pool,
+    windows: &Windows,
+    line: &[u8],
+) -> u32
     ensures { λ r. ⌜ addedResult r (now (pool .exit)) ≡ addInSeason (now (windows .entry)) (now (pool .entry)) (now (line .entry)) ⌝ }
 {
     lent_season::add_line(pool, windows, line)
