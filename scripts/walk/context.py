@@ -16,6 +16,8 @@ class Context:
         others          the table's other records
         obor, obs, auth the open borrow, and what observes and sets its value
         bor             the borrow of a lent record, closed
+        shared          the borrow of a record that is lent to be read
+        cell-p, own-p, obor-p, shared-p    the same of another record p, which is lent to be read
     """
 
     def __init__(self, labels):

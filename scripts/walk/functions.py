@@ -202,6 +202,26 @@ use Rattle.pool.specs.Pool.{runsOf}''',
         environment='Rattle.session.proofs.Env'),
 ]
 
+# ---- with windows that are lent to be read, over a lent pool or alone: lent_season
+
+SEASON = [
+    Lent(
+        path='lent_season::add_line', core='season_lines::add_in_season', record='pool::Pool', result='pool::Added', session=('pool', 1),
+        answer='u32', answer_field=('number', 0), answer_parts=[],
+        params=[('p', 'record'), ('w', '&seasons::Windows'), ('line', 'bytes')], core_args=['p', 'w', 'line'],
+        gives='r ≡ addInSeason w h line', says='addedResult res p′ ≡ addInSeason w p line', proof='e',
+        uses='''use Rattle.lent_pool.specs.Lent.{addedResult}
+use Rattle.season_lines.specs.Lines.{addInSeason}''',
+        environment='Rattle.session.proofs.Env'),
+    Lent(
+        path='lent_season::first_day', core='season_lines::first_day_of_line', record='seasons::Windows', result='seasons::First', session=None,
+        answer='seasons::First', answer_field=None, answer_parts=[],
+        params=[('w', 'read'), ('line', 'bytes')], core_args=['w', 'line'],
+        gives='LineFirst h line r', says='LineFirst w line res', proof='e',
+        uses='use Rattle.season_lines.specs.FirstDay.{LineFirst}',
+        environment='Rattle.session.proofs.Env'),
+]
+
 # ---- that hand all their parameters on: capi
 
 PASSING = (
@@ -210,4 +230,5 @@ PASSING = (
     + [f'capi::c_sane::pevghazo_sane_{function}' for function in ('start', 'wrap', 'unwrap', 'wrap_envelope', 'unwrap_envelope')]
     + [f'capi::c_table::pevghazo_{function}'
        for function in ('start_day', 'open_group', 'wrap_group', 'unwrap_group', 'wrap_envelope_group', 'unwrap_envelope_group')]
-    + [f'capi::c_pool::pevghazo_pool_{function}' for function in ('add', 'holds', 'rings')])
+    + [f'capi::c_pool::pevghazo_pool_{function}' for function in ('add', 'holds', 'rings')]
+    + [f'capi::c_season::pevghazo_{function}' for function in ('pool_add_in_season', 'first_day')])

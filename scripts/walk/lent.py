@@ -3,6 +3,7 @@
 The shapes, beside other parameters:
     fn f(s: &mut S, ..) -> R       { let r = core(*s, ..); *s = r.session; R of r's fields }
     fn f(s: &S, ..) -> R           { core(*s, ..) }
+    either with other records that are lent to be read, t: &T, each handed to the core as *t
     fn f(table: &mut [S], g: usize, ..) -> R
         { if test(table.len(), g) { return refusal(..); } let r = core(table[g], ..); table[g] = r.session; r.answer }
         { let n = number(table.len(), g, ..); if n != 0 { return refusal(n); } let r = core(table[g], ..); table[g] = r.session; r.answer }
@@ -16,7 +17,7 @@ from dataclasses import dataclass, field
 from typing import Optional
 
 import mir
-from text import last, subscript
+from text import last, subscript, tuple_of
 
 WIDTHS = {'u8': 8, 'u16': 16, 'u32': 32, 'u64': 64, 'usize': 64}
 DENOTED = {'bool': 'Bool', **{kind: 'ℕ' for kind in WIDTHS}}      # the values of these
@@ -54,8 +55,8 @@ class Lent:
     answer: str                      # the path of R, or 'bool', u8 .. usize
     answer_field: Optional[tuple]    # R is this field of the core's result, (name, number) ..
     answer_parts: list               # .. or is made of these, [(name, number)]; neither where R is the core's result itself
-    params: list                     # [(name, kind)]; 'record': &mut S, 'read': &S, 'table': &mut [S], 'bytes': &[u8], 'buffer': &mut [u8], 'bool', u8 .. usize, or the path of a struct
-    core_args: list                  # the core's parameters by the names of these; the lent one stands for the record's copy
+    params: list                     # [(name, kind)]; 'record': &mut S, 'read': &S, 'table': &mut [S], 'bytes': &[u8], 'buffer': &mut [u8], 'bool', u8 .. usize, the path of a struct, or & and such a path: another record, &T
+    core_args: list                  # the core's parameters by the names of these; a record that is lent stands for its copy
     uses: str                        # imports for the clauses and the terms
     gives: str                       # what the core ensures: h is the record, r the result; a buffer's last contents have a prime
     says: str                        # what f ensures: res is the result; what the lent one and the buffers hold last has a prime
@@ -64,6 +65,17 @@ class Lent:
     requires: str = ''               # what the core requires of the same, if anything; for a table only
     small: list = field(default_factory=list)       # the small functions that it calls
     table: Optional[Table] = None
+
+
+@dataclass
+class Record:
+    """How the proof writes a lent record."""
+    module: str                      # its type's module
+    value: str                       # its value
+    place: str                       # where it lies: block and offset
+    machine: str                     # its machine value
+    known: str                       # what is known of that once the borrow is open
+    suffix: str = ''                 # what the labels for it end in
 
 
 class Terms:
@@ -78,16 +90,22 @@ class Terms:
         self.names = [name for name, _ in config.params]
         self.lent = next(name for name, kind in config.params if kind in ('record', 'read', 'table'))
         self.reads = self.kind[self.lent] == 'read'
+        self.others = [name for name in self.names if self.kind[name].startswith('&')]
         self.table = config.table
         # a parameter's local, and the lifetime of a reference by its place among the lifetimes
         self.local_of = {name: place + 1 for place, name in enumerate(self.names)}
-        self.refs = self.of_kind('record', 'read', 'table', 'bytes', 'buffer')
+        self.refs = self.of_kind('record', 'read', 'table', 'bytes', 'buffer', *[self.kind[name] for name in self.others])
         self.lifetime = {name: place for place, name in enumerate(self.refs)}
         self.slices = self.of_kind('bytes', 'buffer')
         self.integers = self.of_kind(*WIDTHS)
-        self.structs = [name for name in self.names if '::' in self.kind[name]]
         self.plain = [name for name in self.names if name not in self.refs]
-        self.struct_module = {name: f'D{place}' for place, name in enumerate(self.structs)}
+        self.structs = [name for name in self.plain if '::' in self.kind[name]]
+        self.struct_path = {name: self.kind[name].strip('&') for name in self.structs + self.others}
+        self.struct_module = {name: f'D{place}' for place, name in enumerate(self.struct_path)}
+        # the records, the references to a lone one, and those that are only read
+        self.records = {self.lent: Record('T', 'h', 'b o', 'mach h', 'was')} | {name: self.other(name) for name in self.others}
+        self.pointers = [name for name in self.records if self.kind[name] != 'table']
+        self.looked = ([self.lent] if self.reads else []) + self.others
         # what the core is handed beside the record
         self.core_refs = [name for name in config.core_args if name in self.slices]
         self.core_buffers = [name for name in config.core_args if self.kind[name] == 'buffer']
@@ -99,7 +117,7 @@ class Terms:
         self.answer = (f'(r .{config.answer_field[0]})' if config.answer_field else 'r' if not config.answer_parts else
                        '(record { ' + '; '.join(f'{name} = r .{name}' for name, _ in config.answer_parts) + ' })')
         # the context at a way out: at the one that refuses, and at the last
-        self.front = ([f'own-{self.lent}'] if self.table else [] if self.reads else ['obs', 'bor']) + [f'tok-{self.lent}']
+        self.front = ([f'own-{self.lent}'] if self.table else [] if self.reads else ['obs', 'bor']) + [f'tok-{name}' for name in self.records]
         self.refused_order = self.front + [f'own-{name}' for name in self.core_refs] + [f'tok-{name}' for name in self.core_refs]
         self.exit_order = self.front + [f'tok-{name}' for name in self.core_refs] + [f'fin-{name}' for name in self.core_buffers]
 
@@ -108,6 +126,11 @@ class Terms:
     def of_kind(self, *kinds):
         """The parameters of some kinds."""
         return [name for name in self.names if self.kind[name] in kinds]
+
+    def other(self, name):
+        """Another record, which is lent to be read."""
+        value = f'(x-{name} .now)'
+        return Record(self.struct_module[name], value, f'(x-{name} .ptr .0) (x-{name} .ptr .1)', f'mach-{name} {value}', f'was-{name}', f'-{name}')
 
     def κ(self, name):
         """A reference's lifetime."""
@@ -121,13 +144,15 @@ class Terms:
         """A parameter's value."""
         if name == self.lent:
             return 'x ys' if self.table else 'x'
-        return f'x-{name}' if name in self.slices else name
+        return f'x-{name}' if name in self.refs else name
 
     def machine(self, name):
         """Its machine value."""
         kind = self.kind[name]
         if name == self.lent:
             return 's' if self.table else 'vptr b o'
+        if name in self.others:
+            return f'vptr {self.records[name].place}'
         if name in self.slices:
             return f's-{name}'
         return self.machine_of(kind, name, name)
@@ -147,15 +172,25 @@ class Terms:
             return 'Boolean'
         if name in self.structs:
             return f'{self.struct_module[name]}.the-row'
-        shape = {'record': 'MutRef', 'read': 'ShrRef', 'table': 'MutSlice', 'bytes': 'ShrSlice', 'buffer': 'MutSlice'}[kind]
-        return f"{shape} (named {self.lifetime[name]}) {self.κ(name)} {'T.the-row' if name == self.lent else 'u8'}"
+        shape = {'record': 'MutRef', 'table': 'MutSlice', 'bytes': 'ShrSlice', 'buffer': 'MutSlice'}.get(kind, 'ShrRef')
+        return f'{shape} (named {self.lifetime[name]}) {self.κ(name)} {self.row_behind(name)}'
+
+    def row_behind(self, name):
+        """The type that a reference refers to."""
+        return f'{self.records[name].module}.the-row' if name in self.records else 'u8'
 
     def denoted(self, name):
         """The type of its value."""
         kind = self.kind[name]
+        if name in self.others:
+            return f'RefT {self.read_type(name)}'
         if name in self.refs:
             return {'record': f'RefT {self.S}', 'read': f'RefT {self.S}', 'table': f'RefT (List {self.S})'}.get(kind, 'RefT (List ℕ)')
         return 'Bool' if kind == 'bool' else last(kind) if name in self.structs else 'ℕ'
+
+    def read_type(self, name):
+        """The type of another record's values."""
+        return last(self.struct_path[name])
 
     def owns(self, kind, value, known, name=None):
         """A step that makes what a number, a bool or a struct owns."""
@@ -183,8 +218,17 @@ class Terms:
         return f'{name}-fits' if name in self.integers else f'{name}-is'
 
     def contents(self):
-        """What the slices hold that the core is handed."""
-        return [f'(x-{name} .now)' for name in self.core_refs]
+        """What the other records and the slices hold that the core is handed."""
+        return [f'(x-{name} .now)' for name in self.others + self.core_refs]
+
+    def handed_core(self):
+        """The labels of what the core is handed: what the records own, what the slices do, and the tokens of those."""
+        copies = [f'own{record.suffix}' for name, record in self.records.items() if name in self.config.core_args]
+        return copies + [f'own-{name}' for name in self.core_refs] + [f'tok-{name}' for name in self.core_refs]
+
+    def core_values(self):
+        """The values of the core's parameters."""
+        return tuple_of([self.records[name].value if name in self.records else self.value(name) for name in self.config.core_args])
 
     def number_answer(self):
         """Whether the answer is a number."""

@@ -16,23 +16,25 @@ class Proof(Walk):
 
     def head(self):
         """The file's comment."""
-        opened = 'The borrow is opened' + (', and the record is copied out whole' if self.lent in self.config.core_args else '')
+        of, copies = (f' of {self.lent}', 'copies') if self.others else ('', 'copy')
+        opened = f'The borrow{of} is opened' + (', and the record is copied out whole' if self.lent in self.config.core_args else '')
         if self.table:
             opened = 'A branch refuses, with the borrows as they came in. Else the table is opened, and one record is taken out and copied whole'
-        called = f"`{self.config.core}` is called{' on the copy' if self.lent in self.config.core_args else ''}"
+        called = f"`{self.config.core}` is called{f' on the {copies}' if self.lent in self.config.core_args else ''}"
         known = ' and '.join(f'`{path}`' for path in [self.config.core] + [small.path for small in self.config.small])
         knows = 'it meets its contract' if not self.config.small else 'they meet their contracts'
         done = 'the record that it gave is stored whole, and the borrow is closed'
         if self.reads:
-            opened, done = 'The borrow is looked into, the record is copied out whole, and the borrow is shut', 'and what it gave is returned'
+            opened, done = f'The borrow{of} is looked into, the record is copied out whole, and the borrow is shut', 'and what it gave is returned'
+        opened = ''.join(f'The borrow of {name} is looked into, its record is copied out whole, and the borrow is shut. ' for name in self.others) + opened
         text = (f'-- `{self.config.path}` meets its contract: a walk of its MIR in the program logic. {opened}; {called}, {done}. All that the proof knows of {known} is that {knows}. Assumes nothing.')
         return '\n-- '.join(textwrap.wrap(text, 138))
 
     def imports(self):
         """The imports; those that are not used go at the end."""
         config, crate = self.config, self.crate
-        types = [config.record, config.result] + [self.kind[name] for name in self.structs] + [config.answer]
-        modules = ['T', 'B'] + [self.struct_module[name] for name in self.structs] + ['R']
+        types = [config.record, config.result, *self.struct_path.values(), config.answer]
+        modules = ['T', 'B', *self.struct_module.values(), 'R']
         if self.reads:                                             # the core's result is the answer
             types, modules = types[:1] + types[2:], modules[:1] + modules[2:]
         if self.plain_answer():                                    # a number or a bool is not declared
@@ -54,11 +56,12 @@ class Proof(Walk):
         lists = lambda names, prime='': ''.join(f' ({name}{prime} : List ℕ)' for name in names)
         plain = lambda names: ''.join(f' ({name} : {self.denoted(name)})' for name in names)
         lent = f'List {self.S}' if self.table else self.S
-        gives = f'(h : {self.S}){lists(self.core_refs)}{plain(self.core_plain)} (r : {self.O}){lists(self.core_buffers, "′")}'
-        given = ' '.join(['h', *self.core_refs, *self.core_plain, 'r', *[f'{name}′' for name in self.core_buffers]])
+        read = ''.join(f' ({name} : {self.read_type(name)})' for name in self.others)
+        gives = f'(h : {self.S}){read}{lists(self.core_refs)}{plain(self.core_plain)} (r : {self.O}){lists(self.core_buffers, "′")}'
+        given = ' '.join(['h', *self.others, *self.core_refs, *self.core_plain, 'r', *[f'{name}′' for name in self.core_buffers]])
         after = '' if self.reads else f' ({self.lent}′ : {lent})'
-        says = f'({self.lent} : {lent}){lists(self.core_refs)}{plain(self.plain)} (res : {self.R}){after}{lists(self.core_buffers, "′")}'
-        said = ' '.join([self.lent, *self.core_refs, *self.plain, 'res', *([] if self.reads else [f'{self.lent}′']), *[f'{name}′' for name in self.core_buffers]])
+        says = f'({self.lent} : {lent}){read}{lists(self.core_refs)}{plain(self.plain)} (res : {self.R}){after}{lists(self.core_buffers, "′")}'
+        said = ' '.join([self.lent, *self.others, *self.core_refs, *self.plain, 'res', *([] if self.reads else [f'{self.lent}′']), *[f'{name}′' for name in self.core_buffers]])
         return f'''-- what the core ensures, and what this function ensures: the clauses of the two contracts
 
 abbrev Gives : {gives} → Type 0
@@ -69,12 +72,12 @@ Says {said} = {self.config.says}
 '''
 
     def structs_by_value(self):
-        """The machine values of the parameters that are structs."""
+        """The machine values of the parameters that are structs, and of the other records."""
         return ''.join(f'''-- the machine value of the struct {name}
-abbrev mach-{name} : {last(self.kind[name])} → Val
+abbrev mach-{name} : {last(path)} → Val
 mach-{name} d = LL.tuple-val {self.struct_module[name]}.the-type {self.struct_module[name]}′.the-laws ({self.struct_module[name]}.the-type .to d)
 
-''' for name in self.structs)
+''' for name, path in self.struct_path.items())
 
     def stays(self, name):
         """What is had of a parameter at exit: how it is said, and the law of it."""
@@ -85,8 +88,8 @@ mach-{name} d = LL.tuple-val {self.struct_module[name]}.the-type {self.struct_mo
             element = f"tt (plain (λ _. {'u8' if kind == 'buffer' else 'T.the-row'}))"
             place = self.lifetime[name]
             return f'{says}-{shape} ({place} ∷ []) {element}', f'{goes}-{shape} 𝓤 H A W {count} {place} {element}'
-        if kind == 'read':
-            type_ = f'(shrRefTo ({self.lifetime[name]} ∷ []) tt (plain (λ _. T.the-row)))'
+        if name in self.looked:
+            type_ = f'(shrRefTo ({self.lifetime[name]} ∷ []) tt (plain (λ _. {self.row_behind(name)})))'
         elif kind == 'bytes':
             type_ = f'(shrSliceOf ({self.lifetime[name]} ∷ []) tt (plain (λ _. u8)))'
         else:
@@ -105,7 +108,7 @@ mach-{name} d = LL.tuple-val {self.struct_module[name]}.the-type {self.struct_mo
         """What the walk is over: lifetimes, shares, the values of the parameters, and what is known of them."""
         text = ''.join(f' ({self.κ(name)} : Lft)' for name in self.refs) + ''.join(f' ({self.q(name)} : Share)' for name in self.refs)
         text += ' (b o : ℕ) (γ : GName)' + (f' (ys : List {self.S})' if self.table else f' (h : {self.S})')
-        text += ''.join(f' (x-{name} : RefT (List ℕ))' for name in self.slices) + ''.join(f' ({name} : {self.denoted(name)})' for name in self.plain)
+        text += ''.join(f' (x-{name} : {self.denoted(name)})' for name in self.others + self.slices) + ''.join(f' ({name} : {self.denoted(name)})' for name in self.plain)
         text += ''.join(f' ({name}-fits : {name} < 2 ^ {WIDTHS[self.kind[name]]})' for name in self.integers)
         text += ''.join(f' ({name}-is : Is {self.struct_module[name]}.the-row {name} (mach-{name} {name} ∷ []))' for name in self.structs)
         text += ' (room : Room T.the-row (length ys))' if self.table else ''
@@ -117,7 +120,7 @@ mach-{name} d = LL.tuple-val {self.struct_module[name]}.the-type {self.struct_mo
         lent = at(self.lent)
         text = ''.join(f' (κs{part(self.lifetime[name])})' for name in self.refs) + ''.join(f' (qs{part(self.lifetime[name])})' for name in self.refs)
         text += f' (a{lent} .ptr .0) (a{lent} .ptr .1) (a{lent} .name) (a{lent} .now)'
-        text += ''.join(f' (a{at(name)})' for name in self.slices + self.plain) + ''.join(f' (are{at(name)} .1)' for name in self.integers)
+        text += ''.join(f' (a{at(name)})' for name in self.others + self.slices + self.plain) + ''.join(f' (are{at(name)} .1)' for name in self.integers)
         text += ''.join(f' (are{at(name)})' for name in self.structs) + (f' (are{lent} .0 .1)' if self.table else '')
         return text + ''.join(f' (are{at(name)} .0 .1)' for name in self.slices)
 
@@ -192,6 +195,8 @@ mach-{name} d = LL.tuple-val {self.struct_module[name]}.the-type {self.struct_mo
         if label == 'own':
             return '‵ (T.the-row .own h (mach h ∷ []))'
         name = label[4:]
+        if label == f'own-{name}' and name in self.others:
+            return f'‵ ({self.row_behind(name)} .own {self.records[name].value} ({self.records[name].machine} ∷ []))'
         if label.startswith('tok-'):
             return self.token(name)
         if label.startswith('fin-'):
@@ -272,14 +277,14 @@ mach-{name} d = LL.tuple-val {self.struct_module[name]}.the-type {self.struct_mo
     def goes_core(self):
         """What the core is handed, and that it is what the core asks."""
         arguments = self.config.core_args
-        labels = (['own'] if self.lent in arguments else []) + [f'own-{name}' for name in self.core_refs] + [f'tok-{name}' for name in self.core_refs]
+        labels = self.handed_core()
         context = Context(labels)
         steps = context.push('owned', 'nothing !')
         steps += self.hands(context, [(None, self.owns(self.kind[name], name, self.known(name), name)) if name in self.plain else
                                       ('own' if name == self.lent else f'own-{name}', None) for name in arguments], self.core_refs)
         items = list_of(self.item(label) for label in labels)
         lifetimes, shares = tuple_of([self.κ(name) for name in self.core_refs]), tuple_of([self.q(name) for name in self.core_refs])
-        machines = tuple_of(['mach h ∷ []' if name == self.lent else f'{self.machine(name)} ∷ []' for name in arguments])
+        machines = tuple_of([f'{self.records[name].machine if name in self.records else self.machine(name)} ∷ []' for name in arguments])
         asks, given, steps = (f'{self.config.requires} → ', ' required', f'says ! required $ {steps}done !') if self.config.requires else ('', '', f'{steps}frame ! $ done !')
         return f'''
   -- the core is called: of the record a copy, the slices at their own lifetimes, shares and names
@@ -339,7 +344,9 @@ mach-{name} d = LL.tuple-val {self.struct_module[name]}.the-type {self.struct_mo
         kind = self.kind[name]
         if name in self.structs:
             return f'LL.vals {self.struct_module[name]}.the-type {self.struct_module[name]}′.the-laws'
-        return {'record': 'ptr-vals', 'read': 'ptr-vals', 'table': 'slice-vals', 'bytes': 'slice-vals', 'buffer': 'slice-vals', 'bool': 'bool-vals'}.get(kind) or f'uint-vals w{WIDTHS[kind]}'
+        if name in self.pointers:
+            return 'ptr-vals'
+        return 'slice-vals' if name in self.refs else 'bool-vals' if kind == 'bool' else f'uint-vals w{WIDTHS[kind]}'
 
     def tells(self, name):
         """That its type tells them."""
@@ -348,9 +355,9 @@ mach-{name} d = LL.tuple-val {self.struct_module[name]}.the-type {self.struct_mo
             return f'LL.tells {self.struct_module[name]}.the-type {self.struct_module[name]}′.the-laws'
         if name in self.plain:
             return 'bool-tells' if kind == 'bool' else f'uint-tells w{WIDTHS[kind]}'
-        law = {'record': 'mut-tells', 'read': 'shr-tells', 'table': 'mut-slice-tells', 'bytes': 'shr-slice-tells', 'buffer': 'mut-slice-tells'}[kind]
+        law = {'record': 'mut-tells', 'table': 'mut-slice-tells', 'bytes': 'shr-slice-tells', 'buffer': 'mut-slice-tells'}.get(kind, 'shr-tells')
         place = self.lifetime[name]
-        return f"{law} (named {place}) (κs{part(place)}) {'T.the-row' if name == self.lent else 'u8'}"
+        return f'{law} (named {place}) (κs{part(place)}) {self.row_behind(name)}'
 
     def meets(self):
         """The function meets its contract: from the walk, for any arguments."""

@@ -37,8 +37,8 @@ class Walk(Terms):
         self.lines = []                                            # the walk's text so far
         self.context = None                                        # what the proof holds
         self.locals = {}                                           # Local by number, of those that are written
-        self.cell_typed = ''                                       # that the record's value has its type, where the borrow is open
         self.cells = {}                                            # a local that is a pointer: the label of the cell that it points to
+        self.cell_typed = {}                                       # that the record in a cell has its type, by the cell's label
         self.handed = {}                                           # what each small function is handed, by its path
         self.numbers = {}                                          # the numbers that small functions gave: their kinds, and that each is one of its kind
         self.is_plain = 'is'                                       # that a core's result that is the answer is one of its type
@@ -68,7 +68,7 @@ class Walk(Terms):
             return f'load ! (from ! (stop !)) (look ! {at} refl)', local.typed
         if steps == ['*']:                                         # the record behind a pointer
             cell = self.cells[number]
-            return f'load ! (from ! (hop ! (look ! {at} refl) (stop !))) (look-raw ! {self.context.at(cell)} refl)', self.cell_typed
+            return f'load ! (from ! (hop ! (look ! {at} refl) (stop !))) (look-raw ! {self.context.at(cell)} refl)', self.cell_typed[cell]
         [number] = steps                                           # a field
         return f'load ! (from ! (fld ! refl (stop !))) (look-in ! {at} (sub ! {number} refl (whole !)))', local.fields[number]
 
@@ -131,20 +131,13 @@ class Walk(Terms):
     # ---- the borrow
 
     def opens(self):
-        """The borrow is opened; of a table one record is taken out."""
+        """The borrow of what is lent to be altered is opened; of a table one record is taken out."""
         if self.table:
             self.note('the borrow is opened, and record g is taken out of the table')
             moved = self.context.move(f'own-{self.lent}', f'tok-{self.lent}')
             self.put(moved + 'fsplit ! $ drop ! $ fsplit ! $ opens-slice ! tt T.the-row ys b o $')
             self.put(f'elem-out ! T.the-row (Is T.the-row) (shows 𝓤 H A T.the-row) (LL.vals T.the-type T′.the-laws) (LL.tells T.the-type T′.the-laws) fullShare ys {self.table.index} {self.table.past_end} b o ({self.table.inside}) (λ was.')
             self.context.replace(2, 'cell', 'own', 'others', 'obor', 'obs', 'auth')
-        elif self.reads:
-            self.note('the borrow is looked into')
-            laws = '(Is T.the-row) (shows 𝓤 H A T.the-row) (LL.vals T.the-type T′.the-laws) (LL.tells T.the-type T′.the-laws)'
-            self.put(self.context.move('shared', f'tok-{self.lent}') + f'looks ! tt T.the-row {laws} (LL.copy T.the-type T′.the-copy 𝓤 H A W) h b o (λ q′ vs. spelt ! T.the-row {laws} q′ h vs b o $')
-            self.put('move ! (1 ∷ []) $ peeks ! T.the-row (Is T.the-row) (shows 𝓤 H A T.the-row) h (mach h ∷ []) (λ was. move ! (1 ∷ 0 ∷ []) $')
-            self.context.replace(2, 'cell', 'own', 'obor', 'shared')
-            self.cells[self.local_of[self.lent]] = 'cell'
         else:
             self.note('the borrow is opened')
             moved = self.context.move('obs', 'bor', f'tok-{self.lent}')
@@ -152,14 +145,30 @@ class Walk(Terms):
             self.put('move ! (1 ∷ []) $ peeks ! T.the-row (Is T.the-row) (shows 𝓤 H A T.the-row) h (mach h ∷ []) (λ was. move ! (1 ∷ 0 ∷ []) $')
             self.context.replace(3, 'cell', 'own', 'obor', 'obs', 'auth')
             self.cells[self.local_of[self.lent]] = 'cell'
-        self.cell_typed = self.typed('T', 'h', 'was')
+        self.cell_typed['cell'] = self.typed('T', 'h', 'was')
         self.show()
 
-    def shuts(self):
+    def looks(self, name):
+        """The borrow of a record that is lent to be read is looked into."""
+        one, module = self.records[name], self.records[name].module
+        self.note(f"the borrow{'' if name == self.lent else f' of {name}'} is looked into")
+        row, given = f'{module}.the-row', f'{module}.the-type {module}′'
+        laws = f'(Is {row}) (shows 𝓤 H A {row}) (LL.vals {given}.the-laws) (LL.tells {given}.the-laws)'
+        moved = self.context.move(f'shared{one.suffix}', f'tok-{name}')
+        self.put(moved + f'looks ! tt {row} {laws} (LL.copy {given}.the-copy 𝓤 H A W) {one.value} {one.place} (λ q′ vs. spelt ! {row} {laws} q′ {one.value} vs {one.place} $')
+        self.put(f'move ! (1 ∷ []) $ peeks ! {row} (Is {row}) (shows 𝓤 H A {row}) {one.value} ({one.machine} ∷ []) (λ {one.known}. move ! (1 ∷ 0 ∷ []) $')
+        self.context.replace(2, *[label + one.suffix for label in ('cell', 'own', 'obor', 'shared')])
+        self.cells[self.local_of[name]] = f'cell{one.suffix}'
+        self.cell_typed[f'cell{one.suffix}'] = self.typed(one.module, one.value, one.known)
+        self.show()
+
+    def shuts(self, name):
         """The borrow that was looked into is shut, and nothing more of it is needed."""
-        self.put(self.context.move('cell', 'own', 'obor') + 'shuts ! tt T.the-row q′ h (mach h ∷ []) b o $')
-        self.context.replace(3, f'tok-{self.lent}')
-        self.put(self.context.drop('shared').strip())
+        one = self.records[name]
+        moved = self.context.move(*[label + one.suffix for label in ('cell', 'own', 'obor')])
+        self.put(moved + f'shuts ! tt {one.module}.the-row q′ {one.value} ({one.machine} ∷ []) {one.place} $')
+        self.context.replace(3, f'tok-{name}')
+        self.put(self.context.drop(f'shared{one.suffix}').strip())
         self.show()
 
     def closes(self):
@@ -187,10 +196,9 @@ class Walk(Terms):
         """The core is called, and its result lands in a local."""
         config, context = self.config, self.context
         arguments, (target, _) = mir.items(statement[2]), mir.place(statement[3])
-        self.note('the core is called on the copy')
-        handed = (['own'] if self.lent in config.core_args else []) + [f'own-{name}' for name in self.core_refs] + [f'tok-{name}' for name in self.core_refs]
-        moved = context.push('own', 'owned ! T.the-row (Is T.the-row) (LL.makes T.the-type T′.the-plain 𝓤 H A) h _ was') if self.reads else ''
-        moved += context.move(*handed) + (f'group ! {len(handed)} $ ' if len(handed) > 1 else '')
+        self.note(f"the core is called on the {'copies' if self.others else 'copy'}")
+        handed = self.handed_core()
+        moved = self.owns_copies() + context.move(*handed) + (f'group ! {len(handed)} $ ' if len(handed) > 1 else '')
         goes = f'(goes-core ({self.table.required}))' if config.requires else 'goes-core'
         self.put(moved + f'use1 W (raw (Core 𝓤 H A at-mem run .pre to-core)) {goes} $')
         context.replace(len(handed), 'called')
@@ -236,6 +244,14 @@ class Walk(Terms):
         for _, number in config.answer_parts:
             self.locals[target].fields[number] = fits(f'LL.owed B.the-type B′.the-laws r _ is{part(number)} .1')
         self.show()
+
+    def owns_copies(self):
+        """What the copies own of the records that are only read, whose borrows are shut."""
+        steps = ''
+        for one in [self.records[name] for name in self.looked]:
+            made = f'owned ! {one.module}.the-row (Is {one.module}.the-row) (LL.makes {one.module}.the-type {one.module}′.the-plain 𝓤 H A) {one.value} _ {one.known}'
+            steps += self.context.push(f'own{one.suffix}', made)
+        return steps
 
     def lands(self, module, result, target):
         """The result of a call, a struct at the head, lands in a local, at its machine value written out; what it owns stays at the head."""
@@ -331,10 +347,6 @@ class Walk(Terms):
         """The name of a small function's contract in the file."""
         return f'Callee-{dashed(last(small.path))}'
 
-    def core_values(self):
-        """The values of the core's parameters."""
-        return tuple_of(['h' if name == self.lent else self.value(name) for name in self.config.core_args])
-
     def last_contents(self, name):
         """The last contents of a buffer that the core was handed."""
         return f'(zs{part(self.config.core_args.index(name))})'
@@ -353,13 +365,14 @@ class Walk(Terms):
         for name in self.names:
             steps += context.split(f'own-{name}', 'owned')
             steps += context.move('owned') if name in self.refs else context.drop(f'own-{name}')
-        if self.reads:
-            steps += context.move(f'own-{self.lent}') + 'fsplit3 ! $ drop ! $ drop ! $ '
-            context.replace(1, 'shared')
-        elif not self.table:
+        if not self.reads and not self.table:
             steps += context.move(f'own-{self.lent}') + 'fsplit3 ! $ drop ! $ '
             context.replace(1, 'obs', 'bor')
-        steps += context.keep(*(['shared'] if self.reads else []), *self.front, *[f'own-{name}' for name in self.core_refs], *[f'tok-{name}' for name in self.core_refs])
+        shared = [f'shared{self.records[name].suffix}' for name in self.looked]
+        for name, label in zip(self.looked, shared):
+            steps += context.move(f'own-{name}') + 'fsplit3 ! $ drop ! $ drop ! $ '
+            context.replace(1, label)
+        steps += context.keep(*shared, *self.front, *[f'own-{name}' for name in self.core_refs], *[f'tok-{name}' for name in self.core_refs])
         types = list_of(self.type_of(name) for name in self.names)
         self.put(f'qed W (({tokens}) ∷ ‵ (owns ({types}) a at) ∷ []) ∵ {steps.strip()}')
         self.show()
@@ -376,7 +389,7 @@ class Walk(Terms):
     def parameter(self, name):
         """What is known of a parameter at entry."""
         kind = self.kind[name]
-        if kind in ('record', 'read'):
+        if name in self.pointers:
             return Local('(tt, tt)')
         if name in self.plain:
             typed = fits(self.known(name)) if kind in WIDTHS else '(tt, tt)' if kind == 'bool' else self.typed(self.struct_module[name], name, self.known(name))
@@ -446,12 +459,20 @@ class Walk(Terms):
                 else:
                     self.call_core(statement)
             else:
-                # a lent record is opened before the first assignment, a table before the record is first copied
-                copies = statement[2][0] == 'rvOpd' and statement[2][1][0] == 'copy' and '*' in mir.place(statement[2][1][1])[1]
-                if not opened and (copies or not self.table):
-                    self.opens()
-                    opened = True
-                self.assign(statement)
-                if copies and self.reads:
-                    self.shuts()
+                opened = self.assigns(statement, opened)
         return '\n        '.join(line.rstrip() for line in self.lines) + unclosed(self.lines)
+
+    def assigns(self, statement, opened):
+        """An assignment, with the borrow opened that it needs; gives whether what is lent to be altered is open."""
+        source = mir.place(statement[2][1][1]) if statement[2][0] == 'rvOpd' and statement[2][1][0] == 'copy' else (0, [])
+        read = next((name for name in self.looked if source == (self.local_of[name], ['*'])), None)
+        if read:
+            self.looks(read)
+        elif not opened and not self.reads and ('*' in source[1] or not self.table):
+            # a lent record is opened before the first assignment, a table before the record is first copied
+            self.opens()
+            opened = True
+        self.assign(statement)
+        if read:
+            self.shuts(read)
+        return opened

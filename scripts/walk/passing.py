@@ -2,7 +2,7 @@
 
     fn f(p, ..) -> R { other::g(p, ..) }
 
-Parameters: integers, bools, plain structs by value, &mut S, &[T] and &mut [T], each reference at a lifetime of its own. An unsigned integer
+Parameters: integers, bools, plain structs by value, &S, &mut S, &[T] and &mut [T], each reference at a lifetime of its own. An unsigned integer
 may be handed on at a greater width (`group as usize`). The result is an integer, a bool, or a plain struct.
 
 Both functions have one signature and one contract, but for the width. So what f owns at entry is what the callee asks, and what the callee

@@ -6,7 +6,7 @@ import os
 import sys
 
 import mir
-from functions import CODES, OFFICE, OFFICE_ENVELOPE, PASSING, POOL, SESSION
+from functions import CODES, OFFICE, OFFICE_ENVELOPE, PASSING, POOL, SEASON, SESSION
 from lent_file import Proof
 from passing import Passing
 
@@ -19,7 +19,8 @@ def proof_file(path):
 
 def makers():
     """What makes each function's proof, from its crate's MIR."""
-    found = {config.path: (lambda program, config=config: Proof(config, program).proof()) for config in SESSION + CODES + OFFICE + OFFICE_ENVELOPE + POOL}
+    lent = SESSION + CODES + OFFICE + OFFICE_ENVELOPE + POOL + SEASON
+    found = {config.path: (lambda program, config=config: Proof(config, program).proof()) for config in lent}
     return found | {path: (lambda program, path=path: Passing(path, program).proof()) for path in PASSING}
 
 

@@ -6,3 +6,4 @@ mod c_codes; // codes of packets
 mod c_table; // the office's table and its day
 mod c_envelope; // envelopes
 mod c_pool; // a pool of unused rings
+mod c_season; // issue seasons

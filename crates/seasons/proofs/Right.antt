@@ -61,18 +61,18 @@ module _ (w : Window) (day : ℕ) where
     where
       same : (s t : Bool) → leb d k ≡ s → leb k d ≡ t → d ≡ k
       same true true p q = omega (arith, leb-true d k p, leb-true k d q)
-      same false t p q = absurd (f .no-earlier k (g .exists) (g .is-open) (g .not-before) (leb-false d k p))
-      same true false p q = absurd (g .no-earlier d (f .exists) (f .is-open) (f .not-before) (leb-false k d q))
+      same false t p q = absurd (f .no-earlier k (g .exists) (g .is-open) (omega (arith, g .not-before)) (leb-false d k p))
+      same true false p q = absurd (g .no-earlier d (f .exists) (f .is-open) (omega (arith, f .not-before)) (leb-false k d q))
 
   one-answer : {r s : First} → FirstDay w day r → FirstDay w day s → r ≡ s
   one-answer (refused a) (refused b) = refl
   one-answer (refused a) (found d n f) = absurd (n a)
   one-answer (refused a) (none n f) = absurd (n a)
   one-answer (found d n f) (refused a) = absurd (n a)
-  one-answer (found d n f) (none m g) = absurd (g d (f .exists) (f .is-open) (f .not-before))
+  one-answer (found d n f) (none m g) = absurd (g d (f .exists) (f .is-open) (omega (arith, f .not-before)))
   one-answer (found d n f) (found k m g) = ap foundDay (first-same f g)
   one-answer (none n f) (refused a) = absurd (n a)
-  one-answer (none n f) (found d m g) = absurd (f d (g .exists) (g .is-open) (g .not-before))
+  one-answer (none n f) (found d m g) = absurd (f d (g .exists) (g .is-open) (omega (arith, g .not-before)))
   one-answer (none n f) (none m g) = refl
 
   -- All that is claimed of an answer.

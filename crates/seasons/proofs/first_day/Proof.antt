@@ -39,7 +39,7 @@ loop-holds c =
 returns-3 : tie.Need-returns-3 Inv-loop μ-loop
 returns-3 c =
     let l = c .before .before .before in
-    answer-found _ _ _ (l .before .before .before .before .before .window-of .ensures) _ (l .loop .inv .0) (l .loop .inv .1) (c .before .before .loop-test .taken)
+    answer-found _ _ _ (l .before .before .before .before .before .window-of .ensures) _ (l .loop .inv .0) (l .loop .inv .1) (omega (arith, c .before .before .loop-test .taken))
     (sym (c .before .open-on .ensures) ∙ c .if3 .taken)
 
 loop-less : tie.Need-loop-less Inv-loop μ-loop
@@ -48,7 +48,7 @@ loop-less c = omega (arith, c .next-day .ensures, next-later (c .before .before 
 loop-again : tie.Need-loop-again Inv-loop μ-loop
 loop-again c =
     let l = c .before .before .before .before in
-    let next = step _ _ _ (l .loop .inv .1) (c .before .before .before .loop-test .taken) (sym (c .before .before .open-on .ensures) ∙ c .before .if3 .left) in
+    let next = step _ _ _ (l .loop .inv .1) (omega (arith, c .before .before .before .loop-test .taken)) (sym (c .before .before .open-on .ensures) ∙ c .before .if3 .left) in
     (l .loop .inv .0, subst (At _ _) (sym (c .next-day .ensures)) next)
 
 returns-4 : tie.Need-returns-4 Inv-loop μ-loop

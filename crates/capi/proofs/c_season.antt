@@ -1,0 +1,2 @@
+-- What the clauses of the exported functions for issue seasons are.
+pub mod Contracts

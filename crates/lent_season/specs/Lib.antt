@@ -1,0 +1,2 @@
+-- What is said of calls of the crate `lent_season`.
+pub mod Lent
