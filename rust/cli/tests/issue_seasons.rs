@@ -157,7 +157,8 @@ fn without_windows_it_is_as_before() {
 #[test]
 fn refused_lines_among_others() {
     let folder = folder();
-    let lines = "7,F,1,5,20250304\n7,F,6,9,20251001\n7,F,10,10,20251002\n7,B,1,1,20250102\nnothing\n7,F,5,5,20250229\n7,F,3,6,20250305\n7,C,1,1,20250101\n";
+    let lines = "7,F,1,5,20250304\n7,F,6,9,20251001\n7,F,10,10,20251002\n7,B,1,1,20250102\nnothing\n7,F,5,5,20250229\n\
+                 7,F,3,6,20250305\n7,C,1,1,20250101\n";
     folder.write("lines", lines.as_bytes());
     let later = outside('F', "0301,0930", "The first permitted day is 20260301.");
     let list = format!(
