@@ -90,7 +90,7 @@ class Terms:
         self.names = [name for name, _ in config.params]
         self.lent = next(name for name, kind in config.params if kind in ('record', 'read', 'table'))
         self.reads = self.kind[self.lent] == 'read'
-        self.others = [name for name in self.names if self.kind[name].startswith('&')]
+        self.others = [name for name in self.names if self.kind[name].startswith('&')]        # other records, lent to be read
         self.table = config.table
         # a parameter's local, and the lifetime of a reference by its place among the lifetimes
         self.local_of = {name: place + 1 for place, name in enumerate(self.names)}
