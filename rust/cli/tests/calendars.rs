@@ -115,22 +115,24 @@ fn the_days_of_february() {
     assert!(common.ends_with(last) && leap.ends_with(last), "{common}{leap}");
 }
 
+/// A day, or one that the year does not have, is as worked out by hand in both formats.
+fn is_right(text: &str, cells: &[Vec<Cell>], (year, month, day): (u32, u32, u32)) {
+    let is_there = day <= days_of(year, month);
+    let open = if is_there { open_on(year, month, day) } else { String::new() };
+    let (month, day) = (month as usize, day as usize);
+    assert_eq!(in_text(text, month, day), open, "{year}-{month}-{day}");
+    let cell = &cells[day - 1][month - 1];
+    assert_eq!((cell.letters.as_str(), cell.is_none), (open.as_str(), !is_there), "{year}-{month}-{day}");
+}
+
 /// Every day of years of all kinds, in both formats.
 #[test]
 fn every_day_of_some_years() {
     let folder = folder();
     for year in [1900, 1999, 2000, 2023, 2024, 2100, 2199] {
-        let (text, page) = (text_of(&folder, year), page_of(&folder, year));
-        let cells = cells(&page);
-        for month in 1..=12 {
-            for day in 1..=31 {
-                let is_there = day <= days_of(year, month);
-                let open = if is_there { open_on(year, month, day) } else { String::new() };
-                assert_eq!(in_text(&text, month as usize, day as usize), open, "{year}-{month}-{day}");
-                let cell = &cells[day as usize - 1][month as usize - 1];
-                assert_eq!((cell.letters.as_str(), cell.is_none), (open.as_str(), !is_there), "{year}-{month}-{day}");
-            }
-        }
+        let (text, cells) = (text_of(&folder, year), cells(&page_of(&folder, year)));
+        let days = (1..=12).flat_map(|month| (1..=31).map(move |day| (year, month, day)));
+        days.for_each(|day| is_right(&text, &cells, day));
     }
 }
 
@@ -215,40 +217,44 @@ fn is_well_formed(page: &str) {
     assert_eq!(open, [""; 0]);
 }
 
+/// A page is a whole document that loads nothing and runs nothing.
+fn stands_alone(page: &str) {
+    assert!(page.starts_with("<!DOCTYPE html>\n<html lang=\"en\">\n<head>\n<meta charset=\"utf-8\">\n"), "{page}");
+    assert!(page.ends_with("</main>\n</body>\n</html>\n") && page.is_ascii(), "{page}");
+    is_well_formed(page);
+    for part in ["src=", "href", "url(", "@import", "<script", "<link", "<img", "//", "onload", "style="] {
+        assert_eq!(page.matches(part).count(), 0, "{part}");
+    }
+}
+
 #[test]
 fn the_page_is_whole_and_stands_alone() {
     let folder = folder();
     for year in [2023, 2024] {
         let page = page_of(&folder, year);
-        assert!(page.starts_with("<!DOCTYPE html>\n<html lang=\"en\">\n<head>\n<meta charset=\"utf-8\">\n"), "{page}");
-        assert!(page.ends_with("</main>\n</body>\n</html>\n") && page.is_ascii(), "{page}");
-        is_well_formed(&page);
-        for part in ["src=", "href", "url(", "@import", "<script", "<link", "<img", "//", "onload", "style="] {
-            assert_eq!(page.matches(part).count(), 0, "{part}");
+        stands_alone(&page);
+        let count = |part: &str| page.matches(part).count();
+        for part in [format!("<title>Issue seasons of {year}</title>"), format!("<h1>Issue seasons of {year}</h1>")] {
+            assert_eq!(count(&part), 1, "{part}");
         }
-        for (part, count) in [
-            (format!("<title>Issue seasons of {year}</title>"), 1),
-            (format!("<h1>Issue seasons of {year}</h1>"), 1),
-            ("size: A4;".to_string(), 1),
-            ("<caption>".to_string(), 2),
-            ("<th scope=\"row\">".to_string(), 8 + 31),
-            ("<th scope=\"col\">".to_string(), 5 + 13),
-            ("<td>0229</td><td>0228</td>".to_string(), 1),
-            ("<p>* 2023 has no 29 February: ".to_string(), usize::from(year == 2023)),
-        ] {
-            assert_eq!(page.matches(&part).count(), count, "{part}");
-        }
-        for month in MONTHS {
-            assert_eq!(page.matches(&format!("<abbr title=\"{month}\">{}</abbr>", &month[..3])).count(), 1, "{month}");
-        }
+        assert_eq!((count("size: A4;"), count("<caption>")), (1, 2));
+        assert_eq!((count("<th scope=\"row\">"), count("<th scope=\"col\">")), (8 + 31, 5 + 13));
+        assert_eq!(count("<p>* 2023 has no 29 February: "), usize::from(year == 2023));
+        let month = |month: &&str| count(&format!("<abbr title=\"{month}\">{}</abbr>", &month[..3]));
+        assert!(MONTHS.iter().map(month).eq([1; 12]), "{page}");
         let cells = cells(&page);
         assert!(cells.len() == 31 && cells.iter().all(|row| row.len() == 12));
     }
-    // The windows are those of the text.
-    let page = page_of(&folder, 2023);
+}
+
+/// The windows of the page are those of the text.
+#[test]
+fn the_windows_of_the_page() {
+    let page = page_of(&folder(), 2023);
     for (size, cells) in [
         ("A", "<td>0229</td><td>0229</td><td>0</td><td>no day *</td>"),
         ("C", "<td>1231</td><td>0101</td><td>2</td><td>1 Jan and 31 Dec, over New Year</td>"),
+        ("E", "<td>0229</td><td>0228</td><td>365</td><td>every day *</td>"),
         ("G", "<td>1001</td><td>0229</td><td>151</td><td>1 Jan to 28 Feb and 1 Oct to 31 Dec, over New Year *</td>"),
     ] {
         assert!(page.contains(&format!("<tr><th scope=\"row\">{size}</th>{cells}</tr>\n")), "{size}: {page}");

@@ -134,32 +134,32 @@ fn days_that_do_not_exist() {
     }
 }
 
-/// Every day of some years, for every size, beside the days worked out by hand: the first open one from it on.
+/// The days of a year, in their order, each with the letters of the sizes that are open.
+fn days_with_letters(year: u32) -> impl Iterator<Item = (u32, String)> {
+    let of_month = move |month| (1..=days_of(year, month)).map(move |day| (month, day));
+    let days = (1..=12).flat_map(of_month);
+    days.map(move |(month, day)| (year * 10_000 + month * 100 + day, open_on(year, month, day)))
+}
+
+/// Lines of a size on these days, up to the last on which it is open; and the next open day from each on.
+fn lines_and_answers(size: char, days: &[(u32, String)]) -> (String, String) {
+    let last = days.iter().rposition(|(_, open)| open.contains(size)).unwrap();
+    let days = &days[..=last];
+    let lines = days.iter().map(|(day, _)| format!("7,{size},1,5,{day}\n")).collect();
+    let next = |place: usize| days[place..].iter().find(|(_, open)| open.contains(size)).unwrap().0;
+    (lines, (0..days.len()).map(|place| format!("{}\n", next(place))).collect())
+}
+
+/// Every day of some years, for every size that is open in them, beside the days worked out by hand.
 #[test]
 fn every_day_of_some_years() {
     let folder = folder();
     for years in [[2023, 2024], [1999, 2000], [2099, 2100]] {
-        let days: Vec<(u32, u32, u32)> = years
-            .into_iter()
-            .flat_map(|year| {
-                (1..=12).flat_map(move |month| (1..=days_of(year, month)).map(move |day| (year, month, day)))
-            })
-            .collect();
+        let days: Vec<(u32, String)> = years.into_iter().flat_map(days_with_letters).collect();
         for size in 'B'..='H' {
-            let number = |(year, month, day): (u32, u32, u32)| year * 10_000 + month * 100 + day;
-            // Days after the last open one of the two years are left out.
-            let last = days.iter().rposition(|(year, month, day)| open_on(*year, *month, *day).contains(size)).unwrap();
-            let mut lines = String::new();
-            let mut answers: Vec<String> = Vec::new();
-            let mut next = 0;
-            for (year, month, day) in days[..=last].iter().rev().copied() {
-                lines.insert_str(0, &format!("7,{size},1,5,{}\n", number((year, month, day))));
-                next = if open_on(year, month, day).contains(size) { number((year, month, day)) } else { next };
-                answers.push(format!("{next}\n"));
-            }
-            answers.reverse();
+            let (lines, answers) = lines_and_answers(size, &days);
             folder.write("lines", lines.as_bytes());
-            assert_eq!(folder.done(ASK), answers.concat(), "{size} {years:?}");
+            assert_eq!(folder.done(ASK), answers, "{size} {years:?}");
         }
     }
 }

@@ -142,24 +142,27 @@ fn a_file_that_cannot_be_read() {
     assert!(folder.read("pool") == before);
 }
 
+/// Each size is open from the first day of its own month on: size A from 1 January, and so on.
+fn each_has_its_own(folder: &Folder) {
+    for (size, month) in ('A'..='H').zip(1..) {
+        let first = folder.done(&format!("season first-day {size} 20250101 --windows windows"));
+        assert_eq!(first, format!("20250{month}01\n"), "{size}");
+    }
+}
+
 /// Each size has a window of its own, whichever the order of the lines; line feeds may have carriage returns, and the last may be missing.
 #[test]
 fn the_order_and_the_ends_of_lines() {
     let folder = folder();
-    let own = |place: usize| format!("{},0{}01,0{}28", char::from(b'A' + place as u8), 1 + place, 1 + place);
+    let own = |(size, month): (char, u32)| format!("{size},0{month}01,0{month}28");
+    let mut lines: Vec<String> = ('A'..='H').zip(1..).map(own).collect();
     for turn in 0..8 {
         for (end, last) in [("\n", "\n"), ("\r\n", "\r\n"), ("\n", ""), ("\r\n", "")] {
-            let mut lines: Vec<String> = (0..8).map(|place| own((place + turn) % 8)).collect();
-            if turn % 2 == 1 {
-                lines.reverse();
-            }
             folder.write("windows", format!("{}{last}", lines.join(end)).as_bytes());
-            for place in 0..8 {
-                let (size, month) = (char::from(b'A' + place), 1 + place);
-                let first = folder.done(&format!("season first-day {size} 20250101 --windows windows"));
-                assert_eq!(first, format!("20250{month}01\n"), "{lines:?}");
-            }
+            each_has_its_own(&folder);
         }
+        lines.rotate_left(1 + turn % 3);
+        lines.reverse();
     }
 }
 
