@@ -79,6 +79,37 @@ The letters ";
     assert!(text_of(&folder, 2024).contains(leap), "{}", text_of(&folder, 2024));
 }
 
+/// Windows of two and three days: with 29 February, some of them hold a day less in a common year.
+const SHORT: [&str; 8] =
+    ["0228,0229", "0229,0301", "0228,0301", "0704,0705", "0704,0706", "1230,1231", "0101,0102", "1231,0102"];
+
+#[test]
+fn short_windows() {
+    let folder = folder();
+    folder.write("windows", file_of(SHORT).as_bytes());
+    let others = "\
+D     0704-0705     2  4 Jul to 5 Jul
+E     0704-0706     3  4 Jul to 6 Jul
+F     1230-1231     2  30 Dec to 31 Dec
+G     0101-0102     2  1 Jan to 2 Jan
+H     1231-0102     3  1 Jan to 2 Jan and 31 Dec, over New Year
+";
+    let common = "\
+A     0228-0229     1  28 Feb *
+B     0229-0301     1  1 Mar *
+C     0228-0301     2  28 Feb to 1 Mar
+";
+    let leap = "\
+A     0228-0229     2  28 Feb to 29 Feb
+B     0229-0301     2  29 Feb to 1 Mar
+C     0228-0301     3  28 Feb to 1 Mar
+";
+    for (year, first) in [(2023, common), (2100, common), (2000, leap), (2024, leap)] {
+        let text = text_of(&folder, year);
+        assert!(text.contains(&format!("open in {year}\n{first}{others}")), "{text}");
+    }
+}
+
 /// The example of the manual: its windows file, and what is shown of it.
 #[test]
 fn the_calendar_of_the_manual() {
@@ -242,6 +273,9 @@ fn the_page_is_whole_and_stands_alone() {
         assert_eq!(count("<p>* 2023 has no 29 February: "), usize::from(year == 2023));
         let month = |month: &&str| count(&format!("<abbr title=\"{month}\">{}</abbr>", &month[..3]));
         assert!(MONTHS.iter().map(month).eq([1; 12]), "{page}");
+        // The letters of 1 January, -BCDE-GH: dashes are not read out.
+        let dash = "<span aria-hidden=\"true\">-</span>";
+        assert!(page.contains(&format!("<th scope=\"row\">1</th><td>{dash}BCDE{dash}GH</td>")), "{page}");
         let cells = cells(&page);
         assert!(cells.len() == 31 && cells.iter().all(|row| row.len() == 12));
     }

@@ -221,6 +221,10 @@ fn inputs_and_outputs_that_cannot_be_used() {
             run.said
         );
     }
+    // An input without lines has nothing to print; a closed output is told all the same.
+    folder.write("lines", b"");
+    let run = Run::of(folder.command_after("exec >&-", ASK));
+    assert_eq!((run.status, run.said.as_str()), (4, "pevghazo: Could not write to standard output: it is closed.\n"));
 }
 
 /// An input that is longer than what is printed at once: no answer is lost, and none is doubled.

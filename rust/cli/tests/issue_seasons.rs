@@ -191,6 +191,35 @@ fn refused_lines_among_others() {
     assert!(run.said.ends_with(" Lines refused: 2. Lines added: 0.\n"), "{}", run.said);
 }
 
+/// Lines that follow each other with one number have their own reasons: another first day, another size, another fault.
+#[test]
+fn each_line_has_its_own_reason() {
+    let folder = folder();
+    let mut windows = WINDOWS;
+    windows[6] = "0230,0229";
+    folder.write("windows", file_of(windows).as_bytes());
+    let lines =
+        "7,F,1,1,20251001\n7,F,1,1,20241001\n7,B,1,1,20241001\n7,G,1,1,20251001\n7,H,1,1,20250229\n7,G,1,1,20250229\n";
+    folder.write("lines", lines.as_bytes());
+    let [later, earlier] = ["20260301", "20250301"].map(|day| format!("The first permitted day is {day}."));
+    let wrong = "Size G opens on 0230, which no year has.";
+    let reasons = [
+        (17, outside('F', "0301,0930", &later)),
+        (17, outside('F', "0301,0930", &earlier)),
+        (17, outside('B', "0101,0105", "The first permitted day is 20250101.")),
+        (16, wrong.to_string()),
+        (16, NO_DAY.to_string()),
+        (16, format!("{NO_DAY} {wrong}")),
+    ];
+    let line = |(place, (number, reason)): (u32, &(u32, String))| format!("line {place}: number {number}: {reason}\n");
+    let list: String = (1..).zip(&reasons).map(line).collect();
+    let run = folder.run(ADD);
+    assert_eq!(
+        (String::from_utf8(run.printed).unwrap(), run.status),
+        (format!("{list}added 0 of 6 lines, 0 rings\n"), 27)
+    );
+}
+
 /// A windows file that is not taken leaves everything as it is: an older copy, a state file in use, and the place of a missing one.
 #[test]
 fn a_wrong_windows_file_is_told_before_the_state_file_is_opened() {

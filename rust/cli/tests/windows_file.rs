@@ -55,6 +55,7 @@ fn a_line_that_is_none() {
         ("C,00301,0930", "the opening is \"00301\", and not four digits"),
         ("C,03-1,0930", "the opening is \"03-1\", and not four digits"),
         ("C,+301,0930", "the opening is \"+301\", and not four digits"),
+        ("C,~301,0930", "the opening is \"~301\", and not four digits"),
         ("C,,0930", "the opening is \"\", and not four digits"),
         ("C,x,y", "the opening is \"x\", and not four digits"),
         ("C,0301,930", "the closing is \"930\", and not four digits"),

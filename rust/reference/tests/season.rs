@@ -159,6 +159,15 @@ fn dates_that_no_leap_year_has() {
     }
 }
 
+/// Such a date gets 16 at either end of a window.
+#[test]
+fn windows_with_such_a_date() {
+    for (opening, closing) in [(230, 930), (301, 931), (0, 1231), (101, 1301), (230, 230)] {
+        assert_eq!(window(opening, closing).seasons(), Err(Number::NoDay), "{opening:04} to {closing:04}");
+    }
+    assert!(window(229, 229).seasons().is_ok() && window(101, 1231).seasons().is_ok());
+}
+
 #[test]
 fn the_order_of_the_numbers() {
     let (good, bad) = (window(301, 930), window(230, 930));
