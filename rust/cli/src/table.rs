@@ -296,7 +296,8 @@ const FIRST_DAY: &str = "\
 SIZE is a letter, A to H, and DAY eight digits, as 20250304. Prints the first day from this one on that the size's window permits, or
 `none` if none up to 21991231 is. With `--in` instead, prints a line for each issue line: its first permitted day, or `none`, or its
 place with number and reason if it is refused. The status is that of the first refusal, 10 and its number: 23 this is not an issue
-line, 26 its day does not exist in 1900 to 2199, or the window of its size has a date that no year has.";
+line, 26 its day does not exist in 1900 to 2199, or the window of its size has a date that no year has. A windows file has a line for
+each size, A to H, as C,0301,0930: size, opening and closing, as month and day.";
 const CALENDAR_SHOWN: &str = "\
 Prints what each window means in the year, and for each day the letters of the sizes that are open. The page to print is A4.
 A windows file has a line for each size, A to H, as C,0301,0930: size, opening and closing, as month and day, both included. A window
