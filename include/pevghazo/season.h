@@ -25,9 +25,9 @@
  * After it number is PEVGHAZO_OUT_OF_SEASON, as size C may be issued from 1 March to 30 June, and first.day is 20260301. The other sizes' windows are
  * all zero here: no year has such a date, so that lines of these sizes get 16. Only the window of a line's own size is looked at.
  *
- * The functions take any windows, lines and records, and return. Windows are lent to be read, and no call alters them. They are no secret: the
- * calls' time depends on them and on the line. pevghazo_pool_add_in_season uses as much stack as pevghazo_pool_add, and pevghazo_first_day about
- * 300 bytes, as they are compiled for x86-64. */
+ * The functions take any windows, lines and records, and return. Windows are lent to be read, and no call alters them, so any number of calls at
+ * once may share them. They are no secret: the calls' time depends on them and on the line. pevghazo_pool_add_in_season uses as much stack as
+ * pevghazo_pool_add, and pevghazo_first_day about 300 bytes, as they are compiled for x86-64. */
 #ifndef PEVGHAZO_SEASON_H
 #define PEVGHAZO_SEASON_H
 
