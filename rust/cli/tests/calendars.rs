@@ -110,6 +110,21 @@ C     0228-0301     3  28 Feb to 1 Mar
     }
 }
 
+/// What is said of 29 February stands only where a window of a common year has it and is marked, not beside a date that no year has.
+#[test]
+fn no_note_without_a_mark() {
+    let folder = folder();
+    for window in ["0228,0301", "0229,0230", "0431,0229"] {
+        folder.write("windows", file_of([window; 8]).as_bytes());
+        for format in ["text", "html"] {
+            let run = folder.run(&format!("season show --windows windows --year 2023 --format {format}"));
+            let shown = String::from_utf8(run.printed).unwrap();
+            assert!(shown.contains("0301") || shown.contains("which no year has"), "{shown}");
+            assert!(!shown.contains("29 February") && !shown.contains(" *\n") && !shown.contains(" *<"), "{shown}");
+        }
+    }
+}
+
 /// The example of the manual: its windows file, and what is shown of it.
 #[test]
 fn the_calendar_of_the_manual() {
