@@ -6,7 +6,7 @@ use mathlib.Core.Logic.{_↔_, _⊎_, inl, inr}
 use native.Mathlib.Omega.{arith}
 use lib.Dec.{ltb, leb, eqb}
 use borrow.Author.Tests.{lt-ltb, le-ltb, le-leb, eq-eqb, ne-eqb, ltb-true, ltb-false, leb-true, eqb-true, eqb-false}
-use Rattle.days.specs.Calendar.{Leap, Lasts, leap-february, february, april, june, september, november, the-rest, IsDate, Before, by-year, by-month, by-date}
+use Rattle.days.specs.Calendar.{Leap, Lasts, leap-february, february, april, june, september, november, the-rest, Before, by-year, by-month, by-date}
 use Rattle.days.specs.Days.{yearOf, monthOf, dateOf, dayOf, Exists, isLeap, monthLength, lengthAt, isDay, DayExactly, DigitsExactly}
 
 -- A year is a leap year exactly by the rule.

@@ -11,7 +11,7 @@ use Rattle.issue_line.proofs.Reading.{line-sound, line-complete, line-refused}
 use Rattle.seasons.specs.declared.Windows.{Windows}
 use Rattle.seasons.specs.declared.First.{First}
 use Rattle.seasons.specs.Seasons.{windowOf}
-use Rattle.seasons.specs.FirstDay.{refusedBy, FirstDay, refused, found, none, FirstExactly}
+use Rattle.seasons.specs.FirstDay.{refusedBy, FirstDay, refused, found, none}
 use Rattle.seasons.proofs.Right.{first-exactly}
 use Rattle.season_lines.specs.FirstDay.{NoLine, LineFirst, no-line, of-line, LineFirstExactly}
 

@@ -1,6 +1,6 @@
 -- What is computed of windows, and what is claimed of it: document 02, request 8. proofs/Right.antt and proofs/February.antt have the proofs. Assumes
 -- nothing.
-use Prim.Native.Nat.{ℕ, _%_}
+use Prim.Native.Nat.{ℕ}
 use mathlib.Core.Path.{_≡_}
 use mathlib.Core.Bool.{Bool, true, false, cond, _&&_, _||_}
 use mathlib.Core.Logic.{_↔_}
