@@ -13,7 +13,8 @@ use Rattle.seasons.specs.declared.First.{First}
 use Rattle.seasons.specs.Seasons.{windowOf}
 use Rattle.seasons.specs.FirstDay.{refusedBy, FirstDay, refused, found, none}
 use Rattle.seasons.proofs.Right.{first-exactly}
-use Rattle.season_lines.specs.FirstDay.{NoLine, LineFirst, no-line, of-line, LineFirstExactly}
+use Rattle.season_lines.specs.Lines.{NoLine}
+use Rattle.season_lines.specs.FirstDay.{LineFirst, no-line, of-line, LineFirstExactly}
 
 -- the answers of the code, where l is the line that was read
 module _ (ws : Windows) (bytes : List ℕ) (l : Line) (is : l ≡ readLine bytes) where
