@@ -33,7 +33,7 @@ not-13 (none n g) e = omega (arith, ap (λ (x : First). x .number) e)
 
 module _ (ws : Windows) (bytes : List ℕ) where
   -- the answer for a line goes by its own size and day
-  its-own : (group size first last day : ℕ) {r : First} → IsLine bytes group size first last day → LineFirst ws bytes r → FirstDay (windowOf ws size) day r
+  pub its-own : (group size first last day : ℕ) {r : First} → IsLine bytes group size first last day → LineFirst ws bytes r → FirstDay (windowOf ws size) day r
   its-own group size first last day is (no-line never) = absurd (never group size first last day is)
   its-own group size first last day {r} is (of-line g s f l d there first-day) =
       let same : aLine g s f l d ≡ aLine group size first last day = sym (line-complete bytes g s f l d there) ∙ line-complete bytes group size first last day is in

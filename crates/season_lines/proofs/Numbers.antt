@@ -1,7 +1,6 @@
--- The numbers 13, 16 and 17 exactly, whatever the pool, and windows that have the same for a line's size. Assumes nothing.
+-- The numbers 13, 16 and 17 exactly, whatever the pool; and the windows of other sizes do not matter. Assumes nothing.
 use Prim.Native.Nat.{ℕ, _≤_}
 use mathlib.Core.Path.{_≡_, refl, sym, ap, _∙_, subst}
-use mathlib.Core.Bool.{Bool, true, false}
 use mathlib.Core.Logic.{_↔_}
 use mathlib.Core.List.{List}
 use native.Mathlib.Omega.{arith}
@@ -17,15 +16,15 @@ use Rattle.pool.proofs.Adding.{Went, met, full, done, went}
 use Rattle.pool_lines.specs.Lines.{runOf}
 use Rattle.windows.specs.declared.Window.{Window}
 use Rattle.seasons.specs.declared.Windows.{Windows}
-use Rattle.seasons.specs.declared.First.{First}
 use Rattle.seasons.specs.Seasons.{windowOf, Meets16, SeasonStop, no-such, outside, inside}
 use Rattle.seasons.specs.FirstDay.{FirstDay}
 use Rattle.seasons.proofs.Right.{season-exactly}
 use Rattle.season_lines.specs.Lines.{NoLine, addReadInSeason, addInSeason}
-use Rattle.season_lines.specs.FirstDay.{LineFirst, no-line, of-line}
-use Rattle.season_lines.specs.Numbers.{OfLine, Meets17, SeasonNumbers, SameForLine, OwnSize}
+use Rattle.season_lines.specs.FirstDay.{of-line}
+use Rattle.season_lines.specs.Numbers.{OfLine, Meets17, SeasonNumbers, OwnSize}
 use Rattle.season_lines.proofs.Steps.{out-of-season, Case, nothing, shut, free, case-of}
 use Rattle.season_lines.proofs.Adding.{season, is-13, is-season-number, is-added}
+use Rattle.season_lines.proofs.FirstDay.{its-own}
 
 -- the conditions of 16 and 17 from the number of a day, and back
 stop-16 : {w : Window} {day n : ℕ} → SeasonStop w day n → n ≡ 16 → Meets16 w day
@@ -104,17 +103,14 @@ unfolding addReadInSeason
 in-line ws vs p l same = simp same
 
 -- The windows of other sizes do not matter.
-pub own-size : (ws vs : Windows) (bytes : List ℕ) → SameForLine ws vs bytes → OwnSize ws vs bytes
+pub own-size : (ws vs : Windows) (bytes : List ℕ) (group size first last day : ℕ) → IsLine bytes group size first last day → windowOf ws size ≡ windowOf vs size
+    → OwnSize ws vs bytes
 unfolding addInSeason
-own-size ws vs bytes same = record { added = added; first = first }
-  where
-    added : (p : Pool) → addInSeason ws p bytes ≡ addInSeason vs p bytes
-    added p = go (readLine bytes .found) refl
-      where
-        go : (t : Bool) → readLine bytes .found ≡ t → addInSeason ws p bytes ≡ addInSeason vs p bytes
-        go true f = in-line ws vs p (readLine bytes) (same _ _ _ _ _ (line-sound bytes f))
-        go false f = is-13 ws p bytes f ∙ sym (is-13 vs p bytes f)
-
-    first : (r : First) → LineFirst ws bytes r → LineFirst vs bytes r
-    first _ (no-line never) = no-line never
-    first r (of-line g s f l d there answer) = of-line g s f l d there (subst (λ (w : Window). FirstDay w d r) (same g s f l d there) answer)
+own-size ws vs bytes group size first last day is same =
+    let read = line-complete bytes group size first last day is in
+    record {
+      added = λ p. in-line ws vs p (readLine bytes) (subst (λ (l : Line). windowOf ws (l .size) ≡ windowOf vs (l .size)) (sym read) same);
+      first =
+          λ r answer. of-line group size first last day is
+          (subst (λ (w : Window). FirstDay w day r) same (its-own ws bytes group size first last day is answer));
+    }

@@ -29,11 +29,8 @@ pub record SeasonNumbers (ws : Windows) (p : Pool) (bytes : List ℕ) : Type 0 w
   pub sixteen : (addInSeason ws p bytes .number ≡ 16) ↔ OfLine ws bytes Meets16
   pub seventeen : (addInSeason ws p bytes .number ≡ 17) ↔ OfLine ws bytes Meets17
 
--- two sets of windows have the same window for the size of a line
-abbrev pub SameForLine : (ws vs : Windows) → List ℕ → Type 0
-SameForLine ws vs bytes = (group size first last day : ℕ) → IsLine bytes group size first last day → windowOf ws size ≡ windowOf vs size
-
--- What is claimed of two such: a line gets the same by both, and has the same first permitted day.
+-- What is claimed of a line and of two sets of windows, where both have the same window for its size: it gets the same by both, and has the same first
+-- permitted day.
 pub record OwnSize (ws vs : Windows) (bytes : List ℕ) : Type 0 where
   pub added : (p : Pool) → addInSeason ws p bytes ≡ addInSeason vs p bytes
   pub first : (r : First) → LineFirst ws bytes r → LineFirst vs bytes r
