@@ -23,6 +23,8 @@ const char *pevghazo_number_text(uint32_t number) {
     case PEVGHAZO_BAD_LINE: return "This is not an issue line: it must be group,size,first,last,day, as 7,C,12001,12100,20250304, and a line feed.";
     case PEVGHAZO_POOLED: return "A number of this line is in the pool already, in its size.";
     case PEVGHAZO_POOL_FULL: return "The pool is full: with this line it would need more than 256 runs.";
+    case PEVGHAZO_NO_SUCH_DAY: return "The line's day does not exist in the years 1900 to 2199, or its size's window has a date that no year has.";
+    case PEVGHAZO_OUT_OF_SEASON: return "The line's day is outside the window in which rings of its size may be issued.";
     case PEVGHAZO_STORED_LENGTH: return "The stored bytes are too few or too many.";
     case PEVGHAZO_STORED_FLAG: return "The stored bytes hold a flag that is neither 0 nor 1.";
     case PEVGHAZO_STORED_INDEX: return "The stored bytes hold an index above 1,048,576.";

@@ -19,26 +19,30 @@ _pevghazo() {
     for i in "${all[@]}"; do
         if [[ -n $skip ]]; then skip=''; continue; fi
         case $i in
-            --state|--wait|--allowance|--group|--key|--message|--metadata|--metadata-text|--out|--in|--from|--metadata-out|--mark|--packets|--format|--packet|--code|--counter|--nonce|--expect) skip=1 ;;
+            --state|--wait|--allowance|--group|--key|--message|--metadata|--metadata-text|--out|--in|--from|--metadata-out|--mark|--packets|--format|--packet|--code|--counter|--nonce|--expect|--windows|--year) skip=1 ;;
             -*) ;;
-            office|group|sane|pool) [[ -z $area$name ]] && area=$i || name=${name:-$i} ;;
+            office|group|sane|pool|season) [[ -z $area$name ]] && area=$i || name=${name:-$i} ;;
             help) [[ -z $help$area$name ]] && help=1 || name=${name:-$i} ;;
             *) name=${name:-$i} ;;
         esac
     done
+    case "$area $name $before" in
+        'season show --format') mapfile -t COMPREPLY < <(compgen -P "$prefix" -W 'text html' -- "$word"); return ;;
+    esac
     case $before in
-        --state|--key|--message|--metadata|--out|--in|--metadata-out|--nonce) compopt -o filenames; mapfile -t COMPREPLY < <(compgen -P "$prefix" -f -- "$word"); return ;;
         --format) mapfile -t COMPREPLY < <(compgen -P "$prefix" -W 'text csv html' -- "$word"); return ;;
-        --wait|--allowance|--group|--metadata-text|--from|--mark|--packets|--packet|--code|--counter|--expect) return ;;
+        --state|--key|--message|--metadata|--out|--in|--metadata-out|--nonce|--windows) compopt -o filenames; mapfile -t COMPREPLY < <(compgen -P "$prefix" -f -- "$word"); return ;;
+        --wait|--allowance|--group|--metadata-text|--from|--mark|--packets|--packet|--code|--counter|--expect|--year) return ;;
     esac
     local words
     [[ -n $help && -n $name ]] && return
     case "$area $name" in
-        ' ') words='office group sane pool keygen demo help --help --version' ;;
+        ' ') words='office group sane pool season keygen demo help --help --version' ;;
         'office ') words='create day open-group seal open resend reread forget nearly-full codes check-code show --help' ;;
         'group ') words='start seal open resend reread forget codes check-code show --help' ;;
         'sane ') words='start seal open resend reread forget show --help' ;;
         'pool ') words='create add show find --help' ;;
+        'season ') words='first-day show --help' ;;
         'office create') words='--state --wait --help' ;;
         'office day') words='--state --allowance --wait --restore --help' ;;
         'office open-group') words='--state --group --key --replace --reuse-key --wait --restore --help' ;;
@@ -68,9 +72,11 @@ _pevghazo() {
         'sane forget') words='--state --envelope --wait --restore --help' ;;
         'sane show') words='--state --json --wait --restore --help' ;;
         'pool create') words='--state --wait --help' ;;
-        'pool add') words='--state --in --all-or-none --wait --restore --help' ;;
+        'pool add') words='--state --in --windows --all-or-none --wait --restore --help' ;;
         'pool show') words='--state --runs --csv --json --wait --restore --help' ;;
         'pool find') words='--state --wait --restore --help' ;;
+        'season first-day') words='--windows --in --help' ;;
+        'season show') words='--windows --year --format --out --help' ;;
         ' keygen') words='--out --help' ;;
         ' demo') words='--help' ;;
         ' help') words='--help' ;;

@@ -1,5 +1,5 @@
 /* Pevghazo: sessions in Xoofff-SANSE and Xoofff-SANE, the office's table of sessions, message envelopes, codes for packets, and a pool of unused
- * rings.
+ * rings with the seasons in which they may be issued.
  *
  *     pevghazo/session.h    a lone session in SANSE
  *     pevghazo/sane.h       a lone session in SANE, for groups that keep a counter; a nonce must not repeat under one key
@@ -7,15 +7,16 @@
  *     pevghazo/envelope.h   the bytes in which a message travels, with a header that stands under the tag
  *     pevghazo/codes.h      codes for packets of rings
  *     pevghazo/pool.h       a pool of unused rings, which issue lines bring back
+ *     pevghazo/season.h     issue seasons: the days on which rings of each size may be issued
  *     pevghazo/stored.h     a session of either mode as bytes, for storing it
  *     pevghazo/memory.h     setting secrets in memory to zero
  *     pevghazo/numbers.h    the numbers of refusals, with a sentence for each, and limits; the others include it
  *     pevghazo/version.h    the version
  *     pevghazo/language.h   what differs between old C, later C and C++
  *
- * Proved for all bytes are the functions of session.h, sane.h, table.h, envelope.h, codes.h and pool.h. The others are plain C, which is tested
- * only: pevghazo_store_session, pevghazo_load_session, pevghazo_store_sane_session, pevghazo_load_sane_session, pevghazo_wipe, pevghazo_wipe_stack,
- * pevghazo_number_text and pevghazo_version.
+ * Proved for all bytes are the functions of session.h, sane.h, table.h, envelope.h, codes.h, pool.h and season.h. The others are plain C, which is
+ * tested only: pevghazo_store_session, pevghazo_load_session, pevghazo_store_sane_session, pevghazo_load_sane_session, pevghazo_wipe,
+ * pevghazo_wipe_stack, pevghazo_number_text and pevghazo_version.
  *
  * Every proved function takes any bytes and returns. Its number is 0 where the call was accepted, and otherwise the number of the first check
  * that it met (PEVGHAZO_* in numbers.h); pevghazo_start_day, pevghazo_pool_holds and pevghazo_pool_rings have no number, as they are never
@@ -50,6 +51,7 @@
 #include "pevghazo/numbers.h"
 #include "pevghazo/pool.h"
 #include "pevghazo/sane.h"
+#include "pevghazo/season.h"
 #include "pevghazo/session.h"
 #include "pevghazo/stored.h"
 #include "pevghazo/table.h"

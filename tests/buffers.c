@@ -1,7 +1,7 @@
 /* The C library that programs link, with each buffer of a call directly beside closed pages and at every address modulo 16 (tests/pages.h), at the
  * lengths where blocks begin and end. Sessions in SANSE, alone and in a table, are compared with the independent implementation; those in SANE,
- * codes, and calls on a pool, with the same calls on ordinary buffers, which rust/pevghazo/tests compares with it. The other side works on copies elsewhere.
- * tests/buffers.sh builds and runs this. */
+ * codes, and calls on a pool and with windows, with the same calls on ordinary buffers, which rust/pevghazo/tests compares with it. The other side
+ * works on copies elsewhere. tests/buffers.sh builds and runs this. */
 #include "pages.h"
 #include <pevghazo.h>
 #include <stdio.h>
@@ -23,12 +23,13 @@ static const size_t lengths[] = {0, 1, 31, 32, 33, 36, 37, 38, 47, 48, 49, 79, 8
 enum { LENGTHS = sizeof lengths / sizeof lengths[0] };
 
 /* The buffers of a call: a row each, its length, and the same of the other side. Where they stand between, each kind's addresses go by steps of its
- * own, so that they differ from the others'; a record's are multiples of 4, and a pool's of 8. */
-enum { RECORD, KEY, NONCE, HEADER, METADATA, INPUT, OUTPUT, TAG, POOL, LINE, BUFFERS };
-static const int steps[BUFFERS] = {4, 1, 3, 15, 5, 7, 9, 11, 8, 13};
+ * own, so that they differ from the others'; a record's are multiples of 4, and a pool's of 8. Windows have the steps of a key, which no call has
+ * beside them. */
+enum { RECORD, KEY, NONCE, HEADER, METADATA, INPUT, OUTPUT, TAG, POOL, LINE, WINDOWS, BUFFERS };
+static const int steps[BUFFERS] = {4, 1, 3, 15, 5, 7, 9, 11, 8, 13, 1};
 static const char *const otherwise[BUFFERS] = {"another record", "the key was altered", "the nonce was altered", "the header was altered",
                                                "the metadata were altered", "the message or cryptogram was altered", "another output",
-                                               "another tag", "another pool", "the line was altered"};
+                                               "another tag", "another pool", "the line was altered", "the windows were altered"};
 static row rows[BUFFERS];
 static size_t n[BUFFERS];
 static _Alignas(16) uint8_t other[BUFFERS][PEVGHAZO_TEXT_MAX];
@@ -44,17 +45,18 @@ static unsigned calls;
 /* ---- the calls */
 
 /* Those of a lone session, of a group of a table and of a session in SANE, five each; a packet's code; a header; the start of a day; the
- * nearly-full question, by a mark that no index is above, so that every record is read; and those of a pool, which are asked for a ring that it does
- * not have. */
+ * nearly-full question, by a mark that no index is above, so that every record is read; those of a pool, which are asked for a ring that it does
+ * not have; and those with windows. */
 enum { LONE, GROUP, SANE, KINDS };
 enum { START, WRAP, UNWRAP, WRAP_ENVELOPE, UNWRAP_ENVELOPE, OPEN_GROUP, WRAP_GROUP, UNWRAP_GROUP, WRAP_ENVELOPE_GROUP, UNWRAP_ENVELOPE_GROUP,
        SANE_START, SANE_WRAP, SANE_UNWRAP, SANE_WRAP_ENVELOPE, SANE_UNWRAP_ENVELOPE, CODE, WRITE_HEADER, DAY, QUESTION,
-       ADD, HOLDS, RINGS, CALLS, OF_A_KIND = 5 };
+       ADD, HOLDS, RINGS, ADD_IN_SEASON, FIRST_DAY, CALLS, OF_A_KIND = 5 };
 static const char *const names[CALLS] = {"start", "wrap", "unwrap", "wrap for an envelope", "unwrap for an envelope", "open a group",
                                          "wrap for a group", "unwrap for a group", "wrap for a group's envelope", "unwrap for a group's envelope",
                                          "start in SANE", "wrap in SANE", "unwrap in SANE", "wrap for an envelope in SANE",
                                          "unwrap for an envelope in SANE", "code", "write a header", "start of a day", "nearly-full question",
-                                         "add a line", "whether a ring is held", "rings"};
+                                         "add a line", "whether a ring is held", "rings", "add a line inside the season",
+                                         "first permitted day"};
 static const uint32_t group = 17, allowance = UINT32_MAX;
 
 /* Whether a call's records are those of a table, and how many there are then. */
@@ -89,12 +91,29 @@ static uint32_t called_for_envelope(int call, uint8_t *const b[BUFFERS]) {
     }
 }
 
+/* What the question for the first permitted day gives: the day, or 0 for none, or the number of a refusal. */
+static uint32_t asked(uint8_t *const b[BUFFERS]) {
+    const pevghazo_first first = pevghazo_first_day((const void *)b[WINDOWS], b[LINE], n[LINE]);
+    return first.number != PEVGHAZO_ACCEPTED ? first.number : first.day;
+}
+
+/* What the library gives, of the calls on a pool and with windows. */
+static uint32_t called_on_pool(int call, uint8_t *const b[BUFFERS]) {
+    pevghazo_pool *pool = (void *)b[POOL];
+    switch (call) {
+    case ADD: return pevghazo_pool_add(pool, b[LINE], n[LINE]);
+    case HOLDS: return pevghazo_pool_holds(pool, 'C', 99);
+    case RINGS: return (uint32_t)pevghazo_pool_rings(pool);
+    case ADD_IN_SEASON: return pevghazo_pool_add_in_season(pool, (const void *)b[WINDOWS], b[LINE], n[LINE]);
+    default: return asked(b);
+    }
+}
+
 /* The number that the library gives. */
 static uint32_t called(int call, uint8_t *const b[BUFFERS]) {
     pevghazo_session *session = (void *)b[RECORD];
     pevghazo_record *table = (void *)b[RECORD];
     pevghazo_sane_session *sane = (void *)b[RECORD];
-    pevghazo_pool *pool = (void *)b[POOL];
     switch (call) {
     case START: return pevghazo_start(session, b[KEY], n[KEY]).number;
     case WRAP: return pevghazo_wrap(session, b[METADATA], n[METADATA], b[INPUT], n[INPUT], b[OUTPUT], n[OUTPUT], b[TAG], n[TAG]).number;
@@ -108,9 +127,11 @@ static uint32_t called(int call, uint8_t *const b[BUFFERS]) {
                                      b[OUTPUT], n[OUTPUT]).number;
     case DAY: return pevghazo_start_day(table, table_len(), allowance) == allowance ? PEVGHAZO_ACCEPTED : PEVGHAZO_ALLOWANCE;
     case QUESTION: return pevghazo_nearly_full(table, table_len(), UINT32_MAX).number;
-    case ADD: return pevghazo_pool_add(pool, b[LINE], n[LINE]);
-    case HOLDS: return pevghazo_pool_holds(pool, 'C', 99);
-    case RINGS: return (uint32_t)pevghazo_pool_rings(pool);
+    case ADD:
+    case HOLDS:
+    case RINGS:
+    case ADD_IN_SEASON:
+    case FIRST_DAY: return called_on_pool(call, b);
     case SANE_START: return pevghazo_sane_start(sane, b[KEY], n[KEY], b[NONCE], n[NONCE], b[TAG], n[TAG]).number;
     case SANE_WRAP: return pevghazo_sane_wrap(sane, b[METADATA], n[METADATA], b[INPUT], n[INPUT], b[OUTPUT], n[OUTPUT], b[TAG], n[TAG]).number;
     case SANE_UNWRAP:
@@ -126,7 +147,7 @@ static pevghazo_record *other_record(size_t i) { return (pevghazo_record *)(void
 /* The same on the other side, but for what a table counts. */
 static uint32_t expected(int call) {
     uint8_t *const b[BUFFERS] = {other[RECORD], other[KEY], other[NONCE], other[HEADER], other[METADATA], other[INPUT], other[OUTPUT], other[TAG],
-                                other[POOL], other[LINE]};
+                                other[POOL], other[LINE], other[WINDOWS]};
     pevghazo_session *session = in_table(call) ? &other_record(group)->session : (void *)b[RECORD];
     switch (call) {
     case START:
@@ -285,10 +306,15 @@ static void run(size_t records) {
     both(QUESTION, records == PEVGHAZO_GROUPS ? PEVGHAZO_ACCEPTED : PEVGHAZO_BAD_GROUP);
 }
 
-/* A line that the pool is to give this number for. */
-static void line(const char *text, uint32_t number) {
+/* A line for the next call. */
+static void put_line(const char *text) {
     n[LINE] = strlen(text);
     memcpy(other[LINE], text, n[LINE]);
+}
+
+/* A line that the pool is to give this number for. */
+static void line(const char *text, uint32_t number) {
+    put_line(text);
     both(ADD, number);
 }
 
@@ -315,12 +341,39 @@ static void pool(void) {
     line("7,C,103,103,20250304\n", PEVGHAZO_ACCEPTED);
 }
 
+/* A line that the pool is to give this number for inside the season, and the question this answer. */
+static void line_in_season(const char *text, uint32_t number, uint32_t first) {
+    put_line(text);
+    both(FIRST_DAY, first);
+    both(ADD_IN_SEASON, number);
+}
+
+/* Windows of which the first and the last are the outermost bytes. Each number is given, by lines of the first and the last size. */
+static void season(void) {
+    static const pevghazo_windows windows = {{{3, 1, 9, 30}, {2, 30, 9, 30}, {3, 1, 9, 31}, {0, 0, 0, 0}, {3, 1, 9, 30}, {3, 1, 9, 30},
+                                              {255, 255, 255, 255}, {2, 29, 2, 29}}};
+    n[POOL] = sizeof(pevghazo_pool), n[WINDOWS] = sizeof windows;
+    memset(other[POOL], 0, n[POOL]);
+    memcpy(other[WINDOWS], &windows, sizeof windows);
+    line_in_season("", PEVGHAZO_BAD_LINE, PEVGHAZO_BAD_LINE);
+    line_in_season("7,A,1,1,20250304", PEVGHAZO_BAD_LINE, PEVGHAZO_BAD_LINE);
+    line_in_season("7,A,1,1,20250229\n", PEVGHAZO_NO_SUCH_DAY, PEVGHAZO_NO_SUCH_DAY);
+    line_in_season("7,G,1,1,20250304\n", PEVGHAZO_NO_SUCH_DAY, PEVGHAZO_NO_SUCH_DAY);
+    line_in_season("7,A,1,1,20251001\n", PEVGHAZO_OUT_OF_SEASON, 20260301);
+    line_in_season("7,H,1,1,20960301\n", PEVGHAZO_OUT_OF_SEASON, 21040229);
+    line_in_season("7,H,1,1,21960301\n", PEVGHAZO_OUT_OF_SEASON, 0);
+    line_in_season("7,A,1,1,20250930\n", PEVGHAZO_ACCEPTED, 20250930);
+    line_in_season("31,H,99999998,99999999,21040229\n", PEVGHAZO_ACCEPTED, 21040229);
+    line_in_season("7,A,1,2,20250301\n", PEVGHAZO_POOLED, 20250301);
+}
+
 static void everywhere(void) {
     static const size_t runs[] = {0, 1, PEVGHAZO_GROUPS - 1, PEVGHAZO_GROUPS, PEVGHAZO_GROUPS + 1};
     for (where = 0; where < PLACES; where++) {
         for (int kind = 0; kind < KINDS; kind++) session(kind);
         for (int i = 0; i < 5; i++) run(runs[i]);
         pool();
+        season();
     }
 }
 

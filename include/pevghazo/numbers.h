@@ -8,7 +8,8 @@
 extern "C" {
 #endif
 
-/* Numbers, in the order in which they are checked; but a code meets 5, 12, 8, in this order. */
+/* Numbers, in the order in which they are checked; but a code meets 5, 12, 8, and an addition to a pool inside the season 13, 16, 17, 14, 15, in
+ * these orders. */
 enum {
     PEVGHAZO_ACCEPTED = 0,
     PEVGHAZO_BAD_HEADER = 1,     /* the envelope's header does not follow the layout, or is not the one of the call */
@@ -25,7 +26,9 @@ enum {
     PEVGHAZO_NO_CODE = 12,       /* no message was accepted yet, or the packet is above 2,047 */
     PEVGHAZO_BAD_LINE = 13,      /* the bytes are not exactly one issue line */
     PEVGHAZO_POOLED = 14,        /* a number of the line is pooled already in its size */
-    PEVGHAZO_POOL_FULL = 15      /* the pool would need more than 256 runs after joining */
+    PEVGHAZO_POOL_FULL = 15,     /* the pool would need more than 256 runs after joining */
+    PEVGHAZO_NO_SUCH_DAY = 16,   /* the line's day does not exist in 1900 to 2199, or its size's window has a date that no leap year has */
+    PEVGHAZO_OUT_OF_SEASON = 17  /* the line's day is outside its size's window */
 };
 
 /* Limits: the groups of a table, the bytes of a tag in SANSE and in SANE, and the most bytes of metadata and of a message. */

@@ -4,7 +4,7 @@
  *
  *   - group is 0 to 31, first and last are 1 to 99,999,999, in decimal without leading zeros, and first is not above last;
  *   - size is one letter, A to H;
- *   - day is eight digits, any eight.
+ *   - day is eight digits, any eight; season.h has additions that ask more of it.
  *
  * A pool holds runs of rings of one size, from a first number to a last one, up to 256 of them. Runs of one size that touch, the last of one
  * plus 1 being the first of the other, become one run. Zeroed memory is the empty pool.
@@ -20,7 +20,7 @@
  * The functions take any record and return. Of one that is neither zeroed memory nor what calls left, pevghazo_pool_add promises no more than
  * that, and that a refusal leaves it as it was. A pool is no secret: the calls' time depends on it and on the line.
  *
- * pevghazo_pool_add works on copies of the pool: as it is compiled for x86-64, a call uses about 12,500 bytes of stack, and one of the two others
+ * pevghazo_pool_add works on copies of the pool: as it is compiled for x86-64, a call uses about 18,800 bytes of stack, and one of the two others
  * about 3,200. */
 #ifndef PEVGHAZO_POOL_H
 #define PEVGHAZO_POOL_H

@@ -25,7 +25,7 @@ static void texts(void) {
     check("the library's version is another than the headers'", strcmp(version, pevghazo_version()) == 0);
     for (i = 0; i <= 300; i++) {
         const char *text = pevghazo_number_text(i);
-        const int is_number = i <= PEVGHAZO_POOL_FULL || (i >= PEVGHAZO_STORED_LENGTH && i <= PEVGHAZO_STORED_CLOSED);
+        const int is_number = i <= PEVGHAZO_OUT_OF_SEASON || (i >= PEVGHAZO_STORED_LENGTH && i <= PEVGHAZO_STORED_CLOSED);
         check("a text is no sentence", strlen(text) > 5 && text[strlen(text) - 1] == '.');
         check("a number has no text, or a text no number", (strcmp(text, none) != 0) == is_number);
         for (j = 0; is_number && j < i; j++) check("two numbers have one text", strcmp(text, pevghazo_number_text(j)) != 0);
@@ -170,7 +170,7 @@ static void print_bytes(const uint8_t *bytes) {
 
 static void print(void) {
     uint32_t number;
-    for (number = PEVGHAZO_BAD_HEADER; number <= PEVGHAZO_POOL_FULL; number++) puts(pevghazo_number_text(number));
+    for (number = PEVGHAZO_BAD_HEADER; number <= PEVGHAZO_OUT_OF_SEASON; number++) puts(pevghazo_number_text(number));
     for (number = PEVGHAZO_STORED_FLAG; number <= PEVGHAZO_STORED_CLOSED; number++) puts(pevghazo_number_text(number));
     print_bytes(stored);
     print_bytes(sane_stored);

@@ -1,4 +1,4 @@
-// A message from an office to a group, as it is and in an envelope, a packet's code at both ends, and a pool, in C++ with the installed library.
+// A message from an office to a group, as it is and in an envelope, a packet's code at both ends, a pool, and seasons, in C++ with the installed library.
 #include <cstring>
 #include <iostream>
 #include <pevghazo.h>
@@ -95,6 +95,18 @@ std::uint32_t refused(session &at, const bytes &envelope) {
     }
 }
 
+// A window over New Year for all sizes: what it refuses, what it takes, and its first day.
+bool seasons() {
+    pevghazo_windows windows{};
+    for (auto &window : windows.sizes) window = {11, 15, 2, 29};
+    const bytes spring = of("7,C,12001,12100,20250301\n"), winter = of("7,C,12001,12100,20250228\n");
+    pevghazo_pool pool{};
+    if (pevghazo_pool_add_in_season(&pool, &windows, spring.data(), spring.size()) != PEVGHAZO_OUT_OF_SEASON) return false;
+    if (pevghazo_pool_add_in_season(&pool, &windows, winter.data(), winter.size()) != PEVGHAZO_ACCEPTED) return false;
+    const auto first = pevghazo_first_day(&windows, spring.data(), spring.size());
+    return first.number == PEVGHAZO_ACCEPTED && first.found && first.day == 20251115;
+}
+
 } // namespace
 
 int main() {
@@ -114,6 +126,7 @@ int main() {
     pevghazo_pool pool{};
     if (pevghazo_pool_add(&pool, line.data(), line.size()) != PEVGHAZO_ACCEPTED) return 1;
     if (pevghazo_pool_rings(&pool) != 100 || !pevghazo_pool_holds(&pool, 'C', 12100)) return 1;
+    if (!seasons()) return 1;
     try {
         (void)group.unwrap(metadata, cryptogram, tag);
         return 1;

@@ -1,7 +1,9 @@
 //! A program outside the repository, over the installed library: prints the sentences of the numbers, and the stored bytes and codes of
 //! sessions of either mode, which must be those that the C functions give.
 
-use pevghazo::{BadBytes, Letter, Number, PACKET_MAX, Plain, Pool, Refusal, SaneSession, Secret, Session, Size, Table, envelope};
+use pevghazo::{
+    BadBytes, Letter, Number, PACKET_MAX, Plain, Pool, Refusal, SaneSession, Secret, Session, Size, Table, Window, Windows, envelope,
+};
 
 fn digits(bytes: &Secret) -> String {
     bytes.iter().map(|byte| format!("{byte:02x}")).collect()
@@ -28,6 +30,11 @@ fn main() -> Result<(), Refusal> {
     let mut pool = Pool::new();
     pool.add(b"7,C,12001,12100,20250304\n")?;
     assert_eq!((pool.rings(), pool.holds(Size::C, 12_100), pool.holds(Size::D, 12_100)), (100, true, false));
+    let windows = Windows::new([Window { open_month: 11, open_day: 15, close_month: 2, close_day: 29 }; 8]);
+    let spring = b"7,C,12101,12200,20250301\n";
+    assert_eq!(pool.add_in_season(&windows, spring).unwrap_err().number, Number::OutOfSeason);
+    assert_eq!(windows.first_day(spring)?, Some(20_251_115));
+    pool.add_in_season(&windows, b"7,C,12101,12200,20250228\n")?;
     for number in Number::ALL {
         println!("{}", number.sentence());
     }

@@ -10,7 +10,7 @@ use std::str::FromStr;
 use crate::completions;
 use crate::failure::Failure;
 use crate::help;
-use crate::table::{self, AREAS, COMMON, Command, Id, Opt, Value};
+use crate::table::{self, AREAS, COMMON, Command, Id, Opt, Value, YEARS};
 
 /// What a command line asks for.
 #[derive(Debug)]
@@ -85,6 +85,20 @@ impl Arguments {
     pub fn required_number(&self, name: &str) -> Result<u32, Failure> {
         self.required(name)?;
         self.number(name)?.ok_or_else(|| Failure::Usage(format!("The option --{name} is missing.")))
+    }
+
+    /// The year that an option has as its value.
+    pub fn required_year(&self, name: &str) -> Result<u32, Failure> {
+        let year = self.required(name)?.to_str().and_then(digits).filter(|year| YEARS.contains(year));
+        year.ok_or_else(|| {
+            let (first, last) = YEARS.into_inner();
+            Failure::Usage(format!("The option --{name} needs a year from {first} to {last}, in digits."))
+        })
+    }
+
+    /// Whether words follow those of the command.
+    pub fn has_operands(&self) -> bool {
+        !self.operands.is_empty()
     }
 
     /// The numbers that an option has as its value: one, or all from a first to a last.
@@ -277,6 +291,7 @@ fn check(command: &'static Command, given: Given, operands: &[&str]) -> Result<A
             Value::Number(..) => arguments.number(option.name).map(drop)?,
             Value::Range(..) => arguments.required_range(option.name).map(drop)?,
             Value::Counter(_) => arguments.counter(option.name).map(drop)?,
+            Value::Year => arguments.required_year(option.name).map(drop)?,
             Value::Word(words) => arguments.word(option.name, words).map(drop)?,
             Value::None | Value::File | Value::Text(_) => {}
         }
@@ -358,6 +373,31 @@ mod tests {
             let said = parsed(&line(text)).unwrap_err().to_string();
             assert_eq!(said, "The range of the option --packets ends before it begins.", "{text}");
         }
+    }
+
+    #[test]
+    fn years_are_those_whose_days_exist() {
+        let line = |text: &str| format!("season show --windows f --year={text}");
+        for (text, year) in [("1900", 1900), ("2024", 2024), ("2199", 2199)] {
+            assert_eq!(options(&line(text)).required_year("year").ok(), Some(year), "{text}");
+        }
+        for text in ["", "0", "24", "1899", "2200", "20240", "-2024", "+2024", "2024.0", "year", "4294969320"] {
+            let said = parsed(&line(text)).unwrap_err().to_string();
+            assert_eq!(said, "The option --year needs a year from 1900 to 2199, in digits.", "{text}");
+        }
+    }
+
+    /// Words that may be missing have names, and of any number of words there is none.
+    #[test]
+    fn words_in_brackets_may_be_missing() {
+        let arguments = options("season first-day C 20250304 --windows f");
+        assert_eq!((arguments.operand("SIZE").unwrap(), arguments.operand("DAY").unwrap()), ("C", "20250304"));
+        assert!(arguments.has_operands() && !options("season first-day --windows f --in -").has_operands());
+        assert_eq!(options("season first-day C --windows f").operand("DAY").unwrap_err().status(), 2);
+        let said = parsed("season first-day C 20250304 more --windows f").unwrap_err().to_string();
+        assert!(said.starts_with("The word \"more\" is one too many: "), "{said}");
+        let said = parsed("help office --state f").unwrap_err().to_string();
+        assert!(said.starts_with("The word \"office\" is one too many: "), "{said}");
     }
 
     #[test]

@@ -61,17 +61,39 @@ fn with_value(value: fn(Value) -> bool) -> String {
     names.join("|")
 }
 
-/// The options whose value is a word, each once, with these words.
-fn with_words() -> Vec<(&'static str, String)> {
-    let mut all: Vec<(&str, String)> = Vec::new();
-    for option in COMMANDS.iter().flat_map(|command| command.options) {
-        if let Value::Word(words) = option.value
-            && !all.iter().any(|(name, _)| *name == option.name)
-        {
-            all.push((option.name, words.join(" ")));
+/// The options whose value is a word, each with its command and these words.
+fn with_words() -> impl Iterator<Item = (&'static Command, &'static str, String)> {
+    let options = COMMANDS.iter().flat_map(|command| command.options.iter().map(move |option| (command, option)));
+    options.filter_map(|(command, option)| match option.value {
+        Value::Word(words) => Some((command, option.name, words.join(" "))),
+        _ => None,
+    })
+}
+
+/// Such options as patterns of bash: each with the words of the first command that has it, whichever command is typed; before that, those
+/// of a command where the words are others.
+fn bash_words(text: &mut String) {
+    let mut firsts: Vec<(&str, String)> = Vec::new();
+    let mut others = String::new();
+    for (command, name, words) in with_words() {
+        match firsts.iter().find(|(first, _)| *first == name) {
+            None => firsts.push((name, words)),
+            Some((_, same)) if *same == words => {}
+            Some(_) => {
+                let _ =
+                    writeln!(others, "        '{} {} --{name}') {} ;;", command.area, command.name, offered(&words));
+            }
         }
     }
-    all
+    let _ = write!(text, "    case \"$area $name $before\" in\n{others}    esac\n    case $before in\n");
+    for (name, words) in firsts {
+        let _ = writeln!(text, "        --{name}) {} ;;", offered(&words));
+    }
+}
+
+/// What bash does to offer words.
+fn offered(words: &str) -> String {
+    format!("mapfile -t COMPREPLY < <(compgen -P \"$prefix\" -W '{words}' -- \"$word\"); return")
 }
 
 fn bash() -> String {
@@ -103,18 +125,13 @@ fn bash() -> String {
     text.push_str("            -*) ;;\n");
     let _ = writeln!(text, "            {}) [[ -z $area$name ]] && area=$i || name=${{name:-$i}} ;;", AREAS.join("|"));
     text.push_str("            help) [[ -z $help$area$name ]] && help=1 || name=${name:-$i} ;;\n");
-    text.push_str("            *) name=${name:-$i} ;;\n        esac\n    done\n    case $before in\n");
+    text.push_str("            *) name=${name:-$i} ;;\n        esac\n    done\n");
+    bash_words(&mut text);
     let _ = writeln!(
         text,
         "        {}) compopt -o filenames; mapfile -t COMPREPLY < <(compgen -P \"$prefix\" -f -- \"$word\"); return ;;",
         with_value(|value| value == Value::File)
     );
-    for (name, words) in with_words() {
-        let _ = writeln!(
-            text,
-            "        --{name}) mapfile -t COMPREPLY < <(compgen -P \"$prefix\" -W '{words}' -- \"$word\"); return ;;"
-        );
-    }
     let _ = writeln!(
         text,
         "        {}) return ;;\n    esac\n    local words",

@@ -99,9 +99,13 @@ pub enum Failure {
         line: u64,
         /// How many lines were refused.
         refused: u64,
-        /// How many were added to the pool.
-        added: u64,
+        /// How many were added to the pool, if they were to be.
+        added: Option<u64>,
     },
+    /// The library refused the question for the first permitted day of a size.
+    Day(Reason),
+    /// A file with windows does not follow its format; the sentences.
+    Windows(String),
     /// Lines were added to a pool, but this could not be printed, or it was not committed as it should.
     Added(Box<Failure>),
     /// The pool could not be committed.
@@ -163,13 +167,14 @@ impl Failure {
             | Failure::NotSynced { .. }
             | Failure::OpenKey(_)
             | Failure::OutputExists(_)
+            | Failure::Windows(_)
             | Failure::LargeInput(_) => 4,
             Failure::NotNow(_) => 5,
             Failure::OtherGroup { .. } | Failure::OtherLetter(_) => 6,
             Failure::UsedKey | Failure::UsedNonce | Failure::UsedCounter { .. } => 7,
             Failure::Mismatch { .. } | Failure::OtherTag | Failure::NotPooled { .. } => 9,
             Failure::Refused(refusal, _) | Failure::Spent { refusal, .. } => 10 + refusal.number.number(),
-            Failure::Lines { reason, .. } => 10 + reason.number.number(),
+            Failure::Lines { reason, .. } | Failure::Day(reason) => 10 + reason.number.number(),
             Failure::Kept { source, .. } | Failure::Added(source) => source.status(),
         }
     }
@@ -190,7 +195,7 @@ impl From<store::Error> for Failure {
 impl fmt::Display for Failure {
     fn fmt(&self, f: &mut fmt::Formatter<'_>) -> fmt::Result {
         match self {
-            Failure::Usage(sentence) | Failure::NotNow(sentence) => f.write_str(sentence),
+            Failure::Usage(sentence) | Failure::NotNow(sentence) | Failure::Windows(sentence) => f.write_str(sentence),
             Failure::Older(error, means) => write!(f, "{error} {means}"),
             Failure::State(error) => error.fmt(f),
             Failure::Content { path, bad } => write!(f, "The state file {} cannot be used: {bad}.", shown(path)),
@@ -209,6 +214,7 @@ impl fmt::Display for Failure {
             Failure::Mismatch { group, packet, index } => mismatch(f, *group, *packet, *index),
             Failure::NotPooled { size, number } => write!(f, "The ring {size} {number} is not in the pool."),
             Failure::Lines { reason, line, refused, added } => lines(f, reason, *line, *refused, *added),
+            Failure::Day(reason) => write!(f, "Refused, number {}: {reason}", reason.number.number()),
             Failure::Refused(refusal, letter) => refused(f, refusal, *letter),
             Failure::Spent { refusal, group, allowance } => spent(f, refusal, group, *allowance),
             Failure::Demo(what) => write!(f, "The demo did not go as it should: {what}."),
@@ -346,9 +352,10 @@ fn spent(f: &mut fmt::Formatter<'_>, refusal: &Refusal, group: &Group, allowance
 }
 
 /// The sentences of issue lines that were refused.
-fn lines(f: &mut fmt::Formatter<'_>, reason: &Reason, line: u64, refused: u64, added: u64) -> fmt::Result {
+fn lines(f: &mut fmt::Formatter<'_>, reason: &Reason, line: u64, refused: u64, added: Option<u64>) -> fmt::Result {
     write!(f, "Refused, number {}, at line {line}: {reason}", reason.number.number())?;
-    write!(f, " Lines refused: {refused}. Lines added: {added}.")
+    write!(f, " Lines refused: {refused}.")?;
+    added.map_or(Ok(()), |added| write!(f, " Lines added: {added}."))
 }
 
 /// The sentences of a code that does not match.

@@ -17,7 +17,7 @@ use crate::streams;
 const ENVELOPES_MAX: usize = 1 << 24;
 
 /// The options that name inputs.
-const INPUTS: [&str; 5] = ["metadata", "message", "in", "key", "nonce"];
+const INPUTS: [&str; 6] = ["metadata", "message", "in", "key", "nonce", "windows"];
 
 /// Checks that at most one of the inputs is the standard input.
 pub fn check_names(arguments: &Arguments) -> Result<(), Failure> {
@@ -89,6 +89,11 @@ pub fn key(arguments: &Arguments) -> Result<Secret, Failure> {
         let mode = file.metadata().map_err(Failure::file("look at", name))?.mode();
         if mode & 0o077 == 0 { Ok(()) } else { Err(Failure::OpenKey(name.to_path_buf())) }
     })
+}
+
+/// A windows file: at most so many of its bytes.
+pub fn windows(name: &Path, most: usize) -> Result<Secret, Failure> {
+    read(name, most, |_| Ok(()))
 }
 
 /// At most so many bytes of a file that passes a check, or of the standard input.

@@ -1,5 +1,5 @@
-//! The command line `pevghazo`: sealing for the office and for its groups, with the sessions in a state file, and a pool of unused
-//! rings in another.
+//! The command line `pevghazo`: sealing for the office and for its groups, with the sessions in a state file, a pool of unused rings in
+//! another, and the seasons in which rings may be issued.
 //!
 //! Every command that alters a session works in the same order: read all inputs, open and lock the state file, make the call of
 //! the proved library, commit the new state together with what belongs to it (the envelope, or the opened message), and only
@@ -14,6 +14,9 @@
 //! | [`commands`] | what each command does |
 //! | [`end`] | the ends of sessions, and their sealing, opening and codes by the proved library |
 //! | [`labels`] | the codes of packets as lines, as a table and as a page to print |
+//! | [`windows`] | the file with the windows of the sizes, and why their season refuses a line |
+//! | [`calendar`] | a year's calendar of the sizes that are open, for a terminal and as a page to print |
+//! | [`page`] | what pages to print have in common |
 //! | [`lines`], [`progress`] | the lines of a long input, and how far it was read, for a terminal |
 //! | [`refused`] | the refused lines of an input, remembered and listed |
 //! | [`state`] | what a state file holds, and its bytes |
@@ -27,6 +30,7 @@
 #![deny(unsafe_code)]
 
 mod arguments;
+mod calendar;
 mod commands;
 mod completions;
 mod end;
@@ -37,6 +41,7 @@ mod keys;
 mod labels;
 mod lines;
 mod output;
+mod page;
 mod progress;
 mod refused;
 mod starts;
@@ -46,6 +51,7 @@ mod state_file;
 mod streams;
 mod table;
 mod tag;
+mod windows;
 
 use std::io::{Write, stderr};
 use std::process::ExitCode;

@@ -3,10 +3,11 @@
 use std::fmt;
 use std::io::Write;
 
-use pevghazo::{Number, Refusal};
+use pevghazo::{Number, Refusal, Windows};
 
 use crate::failure::Failure;
 use crate::output::print;
+use crate::windows::OffSeason;
 
 /// Why a line was refused. The display is a sentence, or two.
 #[derive(Clone, Copy, Debug, PartialEq, Eq)]
@@ -15,19 +16,28 @@ pub struct Reason {
     pub number: Number,
     /// Whether the line ends with carriage return and line feed.
     has_return: bool,
+    /// What the season has against it, if that is the reason.
+    season: Option<OffSeason>,
 }
 
 impl Reason {
-    /// The reason of a refusal of this line.
-    pub fn of(refusal: Refusal, line: &[u8]) -> Reason {
-        Reason { number: refusal.number, has_return: line.ends_with(b"\r\n") }
+    /// The reason of a refusal of this line, by these windows if there were some.
+    pub fn of(refusal: Refusal, line: &[u8], windows: Option<&Windows>) -> Reason {
+        let number = refusal.number;
+        let season = windows.and_then(|windows| OffSeason::of(number, line, windows));
+        Reason { number, has_return: line.ends_with(b"\r\n"), season }
     }
 }
 
 impl fmt::Display for Reason {
     fn fmt(&self, f: &mut fmt::Formatter<'_>) -> fmt::Result {
-        f.write_str(self.number.sentence())?;
-        if self.has_return { f.write_str(RETURN) } else { Ok(()) }
+        match &self.season {
+            Some(season) => season.fmt(f),
+            None => {
+                f.write_str(self.number.sentence())?;
+                if self.has_return { f.write_str(RETURN) } else { Ok(()) }
+            }
+        }
     }
 }
 
@@ -70,7 +80,7 @@ impl Refused {
         let mut list = String::new();
         for Run { first, count, reason } in &self.runs {
             for line in *first..first + count {
-                list.push_str(&format!("line {line}: number {}: {reason}\n", reason.number.number()));
+                list.push_str(&listed(line, *reason));
                 if list.len() > AT_ONCE {
                     print(out, &std::mem::take(&mut list))?;
                 }
@@ -80,29 +90,34 @@ impl Refused {
     }
 }
 
-/// How long a part of the list may be before it is printed.
-const AT_ONCE: usize = 1 << 13;
+/// A line of such a list.
+pub fn listed(line: u64, reason: Reason) -> String {
+    format!("line {line}: number {}: {reason}\n", reason.number.number())
+}
+
+/// How long a part of a list may be before it is printed.
+pub const AT_ONCE: usize = 1 << 13;
 
 #[cfg(test)]
 mod tests {
     use super::*;
 
     fn reason(number: Number) -> Reason {
-        Reason { number, has_return: false }
+        Reason { number, has_return: false, season: None }
     }
 
-    /// However many lines of one reason follow each other, they take one place, of 24 bytes.
+    /// However many lines of one reason follow each other, they take one place, of 40 bytes.
     #[test]
     fn successive_lines_take_one_place() {
         let mut refused = Refused::default();
         assert_eq!(refused.first(), None);
         (2..1_000_002).for_each(|line| refused.add(line, reason(Number::BadLine)));
-        assert_eq!((refused.runs.len(), refused.count, size_of::<Run>()), (1, 1_000_000, 24));
+        assert_eq!((refused.runs.len(), refused.count, size_of::<Run>()), (1, 1_000_000, 40));
         // Another reason, the first one again, a gap, and a carriage return.
         refused.add(1_000_002, reason(Number::Pooled));
         refused.add(1_000_003, reason(Number::BadLine));
         refused.add(1_000_005, reason(Number::BadLine));
-        refused.add(1_000_006, Reason { number: Number::BadLine, has_return: true });
+        refused.add(1_000_006, Reason { has_return: true, ..reason(Number::BadLine) });
         assert_eq!((refused.runs.len(), refused.count), (5, 1_000_004));
         assert_eq!(refused.first(), Some((2, reason(Number::BadLine))));
     }

@@ -2,23 +2,31 @@
 //! themselves read it, and it reads none of them.
 
 use std::fmt;
+use std::ops::RangeInclusive;
 
 use pevghazo::PACKET_MAX;
 
-/// What commands are about, whose first words these are: the ends of sessions, of which either end of one in SANE has the third; and the
-/// pool.
-pub const AREAS: [&str; 4] = ["office", "group", "sane", "pool"];
+/// What commands are about, whose first words these are: the ends of sessions, of which either end of one in SANE has the third; the
+/// pool; and issue seasons.
+pub const AREAS: [&str; 5] = ["office", "group", "sane", "pool", "season"];
 
 /// What the commands of each are.
-pub const ABOUT_AREAS: [&str; 4] = [
+pub const ABOUT_AREAS: [&str; 5] = [
     "the commands of the office",
     "the commands of a group",
     "the commands of a session in SANE, at either end",
     "the commands of a pool of unused rings",
+    "the commands of issue seasons",
 ];
 
 /// How codes may be given.
 pub const FORMATS: [&str; 3] = ["text", "csv", "html"];
+
+/// How a calendar may be given.
+pub const CALENDARS: [&str; 2] = ["text", "html"];
+
+/// The years whose days exist for issue lines.
+pub const YEARS: RangeInclusive<u32> = 1900..=2199;
 
 /// A command.
 #[derive(Debug)]
@@ -29,7 +37,7 @@ pub struct Command {
     pub area: &'static str,
     /// Its name.
     pub name: &'static str,
-    /// The words that may follow, or nothing; those in capitals alone must.
+    /// The words that follow, or nothing; those in brackets may be missing.
     pub words: &'static str,
     /// What it does, in a few words.
     pub about: &'static str,
@@ -75,6 +83,8 @@ pub enum Id {
     PoolAdd,
     PoolShow,
     PoolFind,
+    SeasonFirstDay,
+    SeasonShow,
     Keygen,
     Demo,
     Help,
@@ -87,9 +97,10 @@ impl Command {
         format!("{}{space}{}", self.area, self.name)
     }
 
-    /// The names of the words that must follow.
+    /// The names of the words that follow, or may. Of any number of words there is no name.
     pub fn operands(&self) -> impl Iterator<Item = &'static str> {
-        self.words.split(' ').filter(|word| !word.is_empty() && word.bytes().all(|byte| byte.is_ascii_uppercase()))
+        let words = if self.words.contains("..") { "" } else { self.words };
+        words.split([' ', '[', ']']).filter(|word| !word.is_empty())
     }
 
     /// The command as it is typed.
@@ -133,6 +144,8 @@ pub enum Value {
     Range(&'static str, u32),
     /// A number of 64 bits.
     Counter(&'static str),
+    /// A year of [`YEARS`].
+    Year,
     /// One of these words.
     Word(&'static [&'static str]),
 }
@@ -145,6 +158,7 @@ impl fmt::Display for Value {
             Value::Text(name) | Value::Number(name, _) | Value::Range(name, _) | Value::Counter(name) => {
                 f.write_str(name)
             }
+            Value::Year => f.write_str("YYYY"),
             Value::Word(words) => f.write_str(&words.join("|")),
         }
     }
@@ -224,6 +238,13 @@ const LINES: Opt = required("in", Value::File, "the file with issue lines, any n
 const ALL_OR_NONE: Opt = flag("all-or-none", "add nothing if a line is refused");
 const RUNS: Opt = flag("runs", "the runs alone, one on each line");
 const CSV: Opt = flag("csv", "as a table with commas, for spreadsheets and scripts");
+const IN_SEASON: Opt =
+    optional("windows", Value::File, "add only what its size's window permits: the file with the windows");
+const WINDOWS: Opt = required("windows", Value::File, "the file with the windows of the eight sizes");
+const ASKED: Opt = optional("in", Value::File, "the file with issue lines, in the place of SIZE and DAY");
+const YEAR: Opt = required("year", Value::Year, "the year, 1900 to 2199");
+const CALENDAR: Opt = optional("format", Value::Word(&CALENDARS), "for a terminal, or a page to print; text");
+const CALENDAR_OUT: Opt = optional("out", Value::File, "where the calendar goes; the standard output");
 const KEY_OUT: Opt = required("out", Value::File, "where the key goes");
 
 const NEW_KEY: &str = "\
@@ -262,12 +283,24 @@ const POOLED: &str = "\
 An issue line is `group,size,first,last,day` and a line feed, as 7,C,12001,12100,20250304. All lines are tried in their order, and
 those that are accepted are committed together at the end; with `--all-or-none` only if no line is refused. Then prints each refused
 line's place with number and reason, and what was added. The status is that of the first refusal, 10 and its number: 23 this is
-not a line, 24 a number of it is in the pool already, 25 the pool would need more than 256 runs.";
+not a line, 24 a number of it is in the pool already, 25 the pool would need more than 256 runs. With `--windows`, before 24 and 25:
+26 the line's day does not exist in 1900 to 2199, or the window of its size has a date that no year has; 27 the day is outside that
+window. A windows file has a line for each size, A to H, as C,0301,0930: size, opening and closing, as month and day.";
 const SHOWN: &str = "\
 Prints the runs and rings of each size, and then the runs. A table with commas has the sizes, or with `--runs` the runs.";
 const FOUND: &str = "\
 SIZE is a letter, A to H, and NUMBER is 1 to 99999999. Prints `pooled` with the run that the ring is in, or `not pooled` with
 status 9.";
+
+const FIRST_DAY: &str = "\
+SIZE is a letter, A to H, and DAY eight digits, as 20250304. Prints the first day from this one on that the size's window permits, or
+`none` if none up to 21991231 is. With `--in` instead, prints a line for each issue line: its first permitted day, or `none`, or its
+place with number and reason if it is refused. The status is that of the first refusal, 10 and its number: 23 this is not an issue
+line, 26 its day does not exist in 1900 to 2199, or the window of its size has a date that no year has.";
+const CALENDAR_SHOWN: &str = "\
+Prints what each window means in the year, and for each day the letters of the sizes that are open. The page to print is A4.
+A windows file has a line for each size, A to H, as C,0301,0930: size, opening and closing, as month and day, both included. A window
+that opens later than it closes runs over New Year.";
 
 /// All commands.
 pub const COMMANDS: &[Command] = &[
@@ -538,7 +571,7 @@ pub const COMMANDS: &[Command] = &[
         name: "add",
         words: "",
         about: "add issue lines to the pool",
-        options: &[STATE, LINES, ALL_OR_NONE, WAIT, RESTORE],
+        options: &[STATE, LINES, IN_SEASON, ALL_OR_NONE, WAIT, RESTORE],
         more: POOLED,
     },
     Command {
@@ -558,6 +591,24 @@ pub const COMMANDS: &[Command] = &[
         about: "say whether a ring is in the pool",
         options: &[STATE, WAIT, RESTORE],
         more: FOUND,
+    },
+    Command {
+        id: Id::SeasonFirstDay,
+        area: "season",
+        name: "first-day",
+        words: "[SIZE DAY]",
+        about: "say on which day rings of a size may first be issued",
+        options: &[WINDOWS, ASKED],
+        more: FIRST_DAY,
+    },
+    Command {
+        id: Id::SeasonShow,
+        area: "season",
+        name: "show",
+        words: "",
+        about: "show a year's calendar of the sizes that are open",
+        options: &[WINDOWS, YEAR, CALENDAR, CALENDAR_OUT],
+        more: CALENDAR_SHOWN,
     },
     Command {
         id: Id::Keygen,

@@ -46,7 +46,7 @@ fn bash_offers_words_options_and_files() {
     assert_eq!(offered(&folder, &["of"]), ["office"]);
     assert_eq!(offered(&folder, &["office", "op"]), ["open-group", "open"]);
     assert_eq!(offered(&folder, &["group", "s"]), ["start", "seal", "show"]);
-    assert_eq!(offered(&folder, &["s"]), ["sane"]);
+    assert_eq!(offered(&folder, &["s"]), ["sane", "season"]);
     assert_eq!(offered(&folder, &["sane", "s"]), ["start", "seal", "show"]);
     assert_eq!(offered(&folder, &["sane", "start", "--n"]), ["--nonce"]);
     assert_eq!(offered(&folder, &["sane", "start", "--nonce", "of"]), ["office.state"]);
@@ -71,7 +71,10 @@ fn bash_offers_words_options_and_files() {
     assert_eq!(offered(&folder, &["office", "codes", "--packets", ""]), [""; 0]);
     assert_eq!(offered(&folder, &["group", "--format", "html", "co"]), ["codes"]);
     // The words of a command after `help`.
-    assert_eq!(offered(&folder, &["help", ""]), ["office", "group", "sane", "pool", "keygen", "demo", "help"]);
+    assert_eq!(
+        offered(&folder, &["help", ""]),
+        ["office", "group", "sane", "pool", "season", "keygen", "demo", "help"]
+    );
     assert_eq!(offered(&folder, &["help", "office", "op"]), ["open-group", "open"]);
     assert_eq!(offered(&folder, &["help", "office", "open", ""]), [""; 0]);
     // A value after `=`, which may be a word of its own.
@@ -81,6 +84,24 @@ fn bash_offers_words_options_and_files() {
     assert_eq!(offered(&folder, &["office", "--state", "=", "office.state", "da"]), ["day"]);
     assert_eq!(offered(&folder, &["office", "--state=office.state", "da"]), ["day"]);
     assert_eq!(offered(&folder, &["office", "day", "--allowance", "=", "1"]), [""; 0]);
+}
+
+/// The words of an option that other commands have with other words.
+#[test]
+fn bash_offers_seasons() {
+    let folder = Folder::new();
+    folder.write("windows.txt", b"");
+    assert_eq!(offered(&folder, &["season", ""]), ["first-day", "show", "--help"]);
+    assert_eq!(offered(&folder, &["season", "show", "--"]), ["--windows", "--year", "--format", "--out", "--help"]);
+    assert_eq!(offered(&folder, &["season", "show", "--windows", "w"]), ["windows.txt"]);
+    assert_eq!(offered(&folder, &["season", "show", "--year", ""]), [""; 0]);
+    assert_eq!(offered(&folder, &["season", "show", "--format", ""]), ["text", "html"]);
+    assert_eq!(offered(&folder, &["season", "--year", "2024", "show", "--format=h"]), ["--format=html"]);
+    assert_eq!(offered(&folder, &["season", "show", "--format", "c"]), [""; 0]);
+    assert_eq!(offered(&folder, &["group", "codes", "--format", ""]), ["text", "csv", "html"]);
+    assert_eq!(offered(&folder, &["season", "first-day", "C", "20250304", "--w"]), ["--windows"]);
+    assert_eq!(offered(&folder, &["pool", "add", "--windows=w"]), ["--windows=windows.txt"]);
+    assert_eq!(offered(&folder, &["help", "season", "f"]), ["first-day"]);
 }
 
 #[test]

@@ -245,6 +245,17 @@ fn demo_of_a_pool(shown: &str) {
     }
 }
 
+/// The demo's seasons: a line in November is refused in size C, whose window is 1 March to 30 September, and one of size E is added.
+fn demo_of_seasons(shown: &str) {
+    for text in [
+        "  4,C,20151,20160,20251115\n  27,E,721,740,20251115\n      Refused, number 17, at line 1: ",
+        " outside the window of size C, 0301 to 0930. The first permitted day is 20260301. Lines refused: 1. Lines added: 1.\n",
+        "  the first day for rings of size E from 1 March 2025 on: 20251001\n",
+    ] {
+        assert_eq!(shown.matches(text).count(), 1, "{text}{shown}");
+    }
+}
+
 #[test]
 fn the_demo_plays_a_season() {
     let folder = Folder::new();
@@ -274,6 +285,7 @@ fn the_demo_plays_a_season() {
     assert!(shown.contains("      This is not the code of packet 1 of group 4 at index 4. "), "{shown}");
     demo_in_sane(&shown);
     demo_of_a_pool(&shown);
+    demo_of_seasons(&shown);
     // Of the groups, which have indices of 8, 4, 0, 12 and 20.
     let renewed =
         "\nThe groups with an index above 10, in the order in which the office renews their keys:\n  11\n  27\n\n";

@@ -34,6 +34,7 @@
 //! | the bytes in which a sealed message travels | [`envelope`] |
 //! | the code that is printed on a packet of rings | [`Code`] |
 //! | unused rings that groups return as issue lines | [`Pool`], with its [`Run`]s and their [`Size`] |
+//! | the days on which rings of each size may be issued | [`Windows`], a [`Window`] for each [`Size`] |
 //! | a refused call: its number and a plain sentence | [`Refusal`], [`Number`] |
 //! | the C interface itself, on slices | [`raw`] |
 //!
@@ -54,6 +55,7 @@ pub mod raw;
 mod record;
 mod refusal;
 mod sane;
+mod season;
 mod secret;
 mod session;
 mod size;
@@ -66,6 +68,7 @@ pub use pool::{BadRuns, Pool, Run};
 pub use raw::wipe;
 pub use refusal::{BadBytes, Number, Refusal};
 pub use sane::SaneSession;
+pub use season::{Window, Windows};
 pub use secret::Secret;
 pub use session::Session;
 pub use size::{BadSize, Size};
@@ -100,6 +103,10 @@ pub const POOL_RUNS: usize = 256;
 pub const RING_MAX: u32 = 99_999_999;
 /// The most bytes of an issue line, its line feed included.
 pub const LINE_MAX: usize = 32;
+/// The first day that exists for seasons, 1 January 1900, as the number of its eight digits.
+pub const DAY_MIN: u32 = 19_000_101;
+/// The last one, 31 December 2199.
+pub const DAY_MAX: u32 = 21_991_231;
 
 /// A tag of a [`Session`].
 pub type Tag = [u8; TAG_LENGTH];

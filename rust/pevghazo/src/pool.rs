@@ -4,7 +4,7 @@ use std::fmt;
 
 use crate::raw::{self, PoolRecord, RunRecord};
 use crate::refusal::{Refusal, answer};
-use crate::{POOL_RUNS, RING_MAX, Size};
+use crate::{POOL_RUNS, RING_MAX, Size, Windows};
 
 /// A pool of unused rings, which groups return as *issue lines*.
 ///
@@ -101,6 +101,28 @@ impl Pool {
     /// Adds an issue line, its line feed included. Checks 13, 14 and 15, in this order; a refusal leaves the pool as it was.
     pub fn add(&mut self, line: &[u8]) -> Result<(), Refusal> {
         answer(raw::pool_add(&mut self.0, line), 0).map(drop)
+    }
+
+    /// Adds an issue line inside the season: its day must be one that the window of its size permits. Checks 13, 16, 17, 14 and 15,
+    /// in this order; a refusal leaves the pool as it was.
+    ///
+    /// ```
+    /// use pevghazo::{Number, Pool, Window, Windows};
+    ///
+    /// # fn main() -> Result<(), pevghazo::Refusal> {
+    /// let spring = Window { open_month: 3, open_day: 1, close_month: 6, close_day: 30 };
+    /// let windows = Windows::new([spring; 8]);
+    /// let mut pool = Pool::new();
+    /// pool.add_in_season(&windows, b"7,C,12001,12100,20250630\n")?;
+    ///
+    /// let late = b"7,C,12101,12200,20250701\n";
+    /// assert_eq!(pool.add_in_season(&windows, late).unwrap_err().number, Number::OutOfSeason);
+    /// assert_eq!(pool.rings(), 100);
+    /// # Ok(())
+    /// # }
+    /// ```
+    pub fn add_in_season(&mut self, windows: &Windows, line: &[u8]) -> Result<(), Refusal> {
+        answer(raw::pool_add_in_season(&mut self.0, windows.record(), line), 0).map(drop)
     }
 
     /// Whether a number of a size is pooled.

@@ -3,7 +3,7 @@
 use std::fmt;
 
 /// The numbers of refusals. A call's checks are made in the order of these numbers, and the first that is met is given; but a
-/// code meets 5, 12 and 8, in this order.
+/// code meets 5, 12 and 8, and an addition to a pool inside the season 13, 16, 17, 14 and 15, in these orders.
 ///
 /// More may follow, so a `match` on one has an arm for the others:
 ///
@@ -13,7 +13,7 @@ use std::fmt;
 ///     match number {
 ///         BadHeader | TooFewBytes | WrongTag => true,
 ///         BadGroup | BadKey | NotOpen | TooLong | BadTagLength | NoRoom | IndexFull | Allowance | NoCode => false,
-///         BadLine | Pooled | PoolFull => false,
+///         BadLine | Pooled | PoolFull | NoSuchDay | OutOfSeason => false,
 ///     }
 /// }
 /// ```
@@ -53,11 +53,15 @@ pub enum Number {
     Pooled = 14,
     /// 15: the pool would need more than 256 runs after joining.
     PoolFull = 15,
+    /// 16: the line's day does not exist in the years 1900 to 2199, or a date in the window of its size is one that no leap year has.
+    NoSuchDay = 16,
+    /// 17: the line's day is outside the window of its size.
+    OutOfSeason = 17,
 }
 
 impl Number {
     /// All numbers, in their order.
-    pub const ALL: [Number; 15] = [
+    pub const ALL: [Number; 17] = [
         Number::BadHeader,
         Number::TooFewBytes,
         Number::BadGroup,
@@ -73,9 +77,11 @@ impl Number {
         Number::BadLine,
         Number::Pooled,
         Number::PoolFull,
+        Number::NoSuchDay,
+        Number::OutOfSeason,
     ];
 
-    /// The number itself, 1 to 15.
+    /// The number itself, 1 to 17.
     pub const fn number(self) -> u8 {
         self as u8
     }
@@ -104,6 +110,10 @@ impl Number {
             }
             Number::Pooled => "A number of this line is in the pool already, in its size.",
             Number::PoolFull => "The pool is full: with this line it would need more than 256 runs.",
+            Number::NoSuchDay => {
+                "The line's day does not exist in the years 1900 to 2199, or its size's window has a date that no year has."
+            }
+            Number::OutOfSeason => "The line's day is outside the window in which rings of its size may be issued.",
         }
     }
 }

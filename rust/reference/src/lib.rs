@@ -8,7 +8,7 @@
 //! * the Farfalle paper, section 3: the construction that makes a deck function from a permutation;
 //! * the scope document, number 01: limits, counts, what a refusal leaves behind, the envelope and the office's table;
 //! * document 02: the codes for packets; counts, limits and the envelope's letter of SANE; a count of the day for each group;
-//!   the pool of unused rings; the header under the tag in calls for an envelope.
+//!   the pool of unused rings; the header under the tag in calls for an envelope; issue seasons.
 //!
 //! # The layers
 //!
@@ -28,6 +28,8 @@
 //! | [`table`] | the office's table of 32 sessions, each with its count of the day, under one allowance of permutations |
 //! | [`issue`] | issue lines, as groups return rings |
 //! | [`pool`] | the pool of unused rings |
+//! | [`days`] | the days of the years 1900 to 2199 |
+//! | [`season`] | windows of the year for each size, and the first permitted day |
 //! | [`refusal`] | the numbers under which a call is refused |
 //! | [`random`] | a small deterministic generator of test data |
 //!
@@ -52,6 +54,7 @@
 
 pub mod bits;
 pub mod codes;
+pub mod days;
 pub mod deck;
 pub mod envelope;
 pub mod issue;
@@ -63,6 +66,7 @@ pub mod refusal;
 pub mod rolling;
 pub mod sane;
 pub mod sanse;
+pub mod season;
 pub mod session;
 pub mod table;
 pub mod xoodoo;

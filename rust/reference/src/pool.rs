@@ -1,4 +1,4 @@
-//! The pool of unused rings (document 02, request 6).
+//! The pool of unused rings (document 02, request 6; additions inside the season, request 8).
 //!
 //! The runs are kept in a map, in the order of their sizes and first numbers, so that only the neighbours of a line's place can
 //! meet or touch it.
@@ -7,6 +7,7 @@ use std::collections::BTreeMap;
 
 use crate::issue::{self, Line};
 use crate::refusal::Number;
+use crate::season::Windows;
 
 /// The most runs of a pool.
 pub const RUNS: usize = 256;
@@ -43,7 +44,19 @@ impl Pool {
     /// Adds an issue line. Meets 13, 14 and 15, with the pool left as it was.
     pub fn add(&mut self, bytes: &[u8]) -> Result<(), Number> {
         let line = issue::read(bytes).ok_or(Number::Line)?;
-        let joined = self.joined(&line)?;
+        self.add_line(&line)
+    }
+
+    /// Adds an issue line inside the season. Meets 13, 16, 17, 14 and 15, with the pool left as it was.
+    pub fn add_in_season(&mut self, windows: &Windows, bytes: &[u8]) -> Result<(), Number> {
+        let line = issue::read(bytes).ok_or(Number::Line)?;
+        windows.check(&line)?;
+        self.add_line(&line)
+    }
+
+    /// Adds what a line says. Meets 14 and 15.
+    fn add_line(&mut self, line: &Line) -> Result<(), Number> {
+        let joined = self.joined(line)?;
         if joined.runs.len() > RUNS {
             return Err(Number::Runs);
         }

@@ -2,8 +2,8 @@
 
 use std::fmt;
 
-/// Why a call was refused. A call's checks are made in the order of these numbers, but for a code's, which are 5, 12 and 8;
-/// the first that is met is given.
+/// Why a call was refused. A call's checks are made in the order of these numbers, but for a code's, which are 5, 12 and 8, and
+/// those of an addition inside the season, which are 13, 16, 17, 14 and 15; the first that is met is given.
 #[derive(Clone, Copy, Debug, PartialEq, Eq, PartialOrd, Ord, Hash)]
 #[repr(u8)]
 pub enum Number {
@@ -37,6 +37,10 @@ pub enum Number {
     Pooled = 14,
     /// 15: after joining, the pool would have more than 256 runs.
     Runs = 15,
+    /// 16: the line's day does not exist in the years 1900 to 2199, or a date in the window of its size is one that no leap year has.
+    NoDay = 16,
+    /// 17: the line's day is outside the window of its size.
+    OutOfSeason = 17,
 }
 
 impl Number {
@@ -63,6 +67,10 @@ impl Number {
             Number::Line => "The bytes are not exactly one issue line.",
             Number::Pooled => "A number of the line is pooled already.",
             Number::Runs => "The pool would have more than 256 runs.",
+            Number::NoDay => {
+                "There is no such day in 1900 to 2199, or no such date in any year in the window of the size."
+            }
+            Number::OutOfSeason => "The line's day is outside the window of its size.",
         }
     }
 }

@@ -45,6 +45,7 @@ pub fn run(out: &mut dyn Write, run: Run) -> Result<(), Failure> {
     keep_busy(&folder, out)?;
     with_counter(&folder, out)?;
     pool(&folder, out)?;
+    seasons(&folder, out)?;
     print(out, "\nWhat the office holds:\n")?;
     print(out, &indented(&folder.play(&["office", "show"], "office.state")?))?;
     to_renew(&folder, out)?;
@@ -196,6 +197,23 @@ fn pool(folder: &Folder, out: &mut dyn Write) -> Result<(), Failure> {
     print(out, &format!("  where the ring C 20101 is: {found}"))
 }
 
+/// A group returns rings outside their season, and the office asks when these may be issued.
+fn seasons(folder: &Folder, out: &mut dyn Write) -> Result<(), Failure> {
+    const WINDOWS: &str =
+        "A,0101,1231\nB,0101,1231\nC,0301,0930\nD,0101,1231\nE,1001,0229\nF,0101,1231\nG,0101,1231\nH,0101,1231\n";
+    const LINES: &str = "4,C,20151,20160,20251115\n27,E,721,740,20251115\n";
+    print(
+        out,
+        "\nRings of size C are issued from 1 March to 30 September, and those of size E over New Year. Two lines come:\n",
+    )?;
+    print(out, &indented(LINES))?;
+    folder.write("windows", WINDOWS.as_bytes())?;
+    folder.write("lines", LINES.as_bytes())?;
+    folder.refused(out, &["pool", "add", "--windows", "windows", "--in", "lines"], "pool.state")?;
+    let first = folder.play_alone(&["season", "first-day", "E", "20250301", "--windows", "windows"])?;
+    print(out, &format!("  the first day for rings of size E from 1 March 2025 on: {first}"))
+}
+
 fn indented(text: &str) -> String {
     text.lines().map(|line| format!("  {line}\n")).collect()
 }
@@ -216,12 +234,17 @@ impl Folder {
         Ok(Folder(path, run))
     }
 
-    /// Runs a command; the values of the options that name files are files of this folder. Gives what it prints.
+    /// Runs a command on a state file. Gives what it prints.
     fn play(&self, words: &[&str], state: &str) -> Result<String, Failure> {
-        const FILES: [&str; 5] = ["--state", "--key", "--message", "--in", "--out"];
+        self.play_alone(&[words, &["--state", state]].concat())
+    }
+
+    /// Runs a command; the values of the options that name files are files of this folder. Gives what it prints.
+    fn play_alone(&self, words: &[&str]) -> Result<String, Failure> {
+        const FILES: [&str; 6] = ["--state", "--key", "--message", "--in", "--out", "--windows"];
         let mut tokens: Vec<OsString> = Vec::new();
         let mut before = "";
-        for word in words.iter().copied().chain(["--state", state]) {
+        for word in words.iter().copied() {
             tokens.push(if FILES.contains(&before) { self.0.join(word).into() } else { word.into() });
             before = word;
         }

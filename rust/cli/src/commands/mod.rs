@@ -7,6 +7,7 @@ mod keygen;
 mod messages;
 mod office;
 mod pool;
+mod season;
 mod show;
 mod start;
 
@@ -54,6 +55,8 @@ pub fn run(command: &Command, arguments: &Arguments, out: &mut dyn Write) -> Res
         Id::PoolAdd => pool::add(arguments, out),
         Id::PoolShow => pool::show(arguments, out),
         Id::PoolFind => pool::find(arguments, out),
+        Id::SeasonFirstDay => season::first_day(arguments, out),
+        Id::SeasonShow => season::show(arguments, out),
         Id::Keygen => keygen::keygen(arguments, out),
         Id::Demo => demo::run(out, run),
         Id::Help => print(out, &help::list("")),

@@ -4,6 +4,7 @@
 use pevghazo::Code;
 
 use super::Labels;
+use crate::page::document;
 
 /// The labels of a sheet: 3 by 8.
 const SHEET: usize = 24;
@@ -14,13 +15,9 @@ const STYLE: &str = include_str!("page.css");
 /// The page.
 pub fn html(labels: &Labels) -> String {
     let sheets: String = labels.codes.chunks(SHEET).map(|codes| sheet(labels, codes)).collect();
-    format!(
-        "<!DOCTYPE html>\n<html lang=\"en\">\n<head>\n<meta charset=\"utf-8\">\n\
-         <meta http-equiv=\"Content-Security-Policy\" content=\"default-src 'none'; style-src 'unsafe-inline'\">\n\
-         <meta name=\"viewport\" content=\"width=840\">\n\
-         <title>Codes of {labels}</title>\n<style>\n{STYLE}</style>\n</head>\n<body>\n\
-         <header>\n<h1>Codes of {labels}</h1>\n<p>{HINT}</p>\n</header>\n<main>\n{sheets}</main>\n</body>\n</html>\n"
-    )
+    let title = format!("Codes of {labels}");
+    let body = format!("<header>\n<h1>{title}</h1>\n<p>{HINT}</p>\n</header>\n<main>\n{sheets}</main>\n");
+    document(&title, STYLE, &body)
 }
 
 /// What is said in a window, and not printed.

@@ -3,6 +3,7 @@
 
 pub mod envelopes;
 pub mod sane;
+pub mod seasons;
 
 use std::fs;
 use std::io::Write;

@@ -6,8 +6,10 @@
 
 mod both;
 pub mod headers;
+pub mod lists;
 pub mod play;
 pub mod pools;
+pub mod seasons;
 pub mod tables;
 
 pub use both::{Both, BothOf, Library, SaneBoth, answer_of, any_session, copy, record_of, same};
@@ -58,10 +60,15 @@ fn number_of_cases() -> u64 {
 }
 
 /// Runs the cases of a test.
-pub fn cases(name: &'static str, mut one: impl FnMut(&mut Random)) {
+pub fn cases(name: &'static str, one: impl FnMut(&mut Random)) {
+    some_cases(name, 1, one);
+}
+
+/// Runs one case for every so many, and at least one, for a test whose cases take long.
+pub fn some_cases(name: &'static str, every: u64, mut one: impl FnMut(&mut Random)) {
     let seeds = match setting("PEVGHAZO_SEED") {
         Some(seed) => seed..seed + 1,
-        None => 1..number_of_cases() + 1,
+        None => 1..number_of_cases().div_ceil(every) + 1,
     };
     for seed in seeds {
         let _case = Case { name, seed };

@@ -1,9 +1,14 @@
 //! Pools that are held twice: by the C library, in memory whose every byte is looked at, and by the independent implementation.
 
+use std::hint::black_box;
+
 use pevghazo::raw::{self, PoolRecord, RunRecord};
 use pevghazo_reference::issue::{self, Line};
 use pevghazo_reference::pool::Pool as Reference;
 use pevghazo_reference::random::Random;
+use pevghazo_reference::refusal::Number;
+
+use super::seasons::Seasons;
 
 /// The words of a pool's record.
 const WORDS: usize = size_of::<PoolRecord>() / 8;
@@ -41,14 +46,27 @@ impl Memory {
         unsafe { &mut *self.0[BESIDE..].as_mut_ptr().cast() }
     }
 
-    /// Adds a line. A refusal leaves every byte; nothing beside the record is altered; the line stays as it was.
+    /// Adds a line.
     pub fn add(&mut self, line: &[u8]) -> u32 {
+        self.add_by(line, |record| raw::pool_add(record, line))
+    }
+
+    /// Adds a line inside the season; the windows stay as they were.
+    pub fn add_in_season(&mut self, seasons: &Seasons, line: &[u8]) -> u32 {
+        let windows = seasons.record;
+        let number = self.add_by(line, |record| raw::pool_add_in_season(record, &seasons.record, line));
+        seasons.stay(&windows);
+        number
+    }
+
+    /// Adds a line in some way. A refusal leaves every byte; nothing beside the record is altered; the line stays as it was.
+    fn add_by(&mut self, line: &[u8], add: impl FnOnce(&mut PoolRecord) -> u32) -> u32 {
         let (before, copy) = (self.clone(), line.to_vec());
-        let number = raw::pool_add(self.record_mut(), line);
+        let number = add(self.record_mut());
         assert!(number == 0 || *self == before, "a refusal by {number} alters the record or what is beside it");
         let beside = |memory: &Memory| [&memory.0[..BESIDE], &memory.0[BESIDE + WORDS..]].concat();
         assert!(beside(self) == beside(&before), "what is beside the record is altered");
-        assert!(line == copy, "the line is altered");
+        assert!(black_box(line) == copy, "the line is altered");
         number
     }
 
@@ -94,7 +112,21 @@ impl Pools {
     pub fn add(&mut self, line: &[u8]) -> u32 {
         let before = self.memory.runs();
         let number = self.memory.add(line);
-        let expected = self.reference.add(line).map_or_else(|number| u32::from(number.number()), |()| 0);
+        let expected = self.reference.add(line);
+        self.added(before, line, number, expected)
+    }
+
+    /// The same inside the season.
+    pub fn add_in_season(&mut self, seasons: &Seasons, line: &[u8]) -> u32 {
+        let before = self.memory.runs();
+        let number = self.memory.add_in_season(seasons, line);
+        let expected = self.reference.add_in_season(&seasons.reference, line);
+        self.added(before, line, number, expected)
+    }
+
+    /// A line was added to these runs on both sides, with these answers.
+    fn added(&self, before: Vec<RunRecord>, line: &[u8], number: u32, expected: Result<(), Number>) -> u32 {
+        let expected = expected.map_or_else(|number| u32::from(number.number()), |()| 0);
         assert_eq!(number, expected, "{}", line.escape_ascii());
         if number == 0 {
             self.check_order(before, line);

@@ -6,7 +6,7 @@
 
 use std::io::{Read, Write};
 
-use pevghazo::Pool;
+use pevghazo::{Pool, Windows};
 
 use crate::arguments::Arguments;
 use crate::failure::Failure;
@@ -15,6 +15,7 @@ use crate::output::{check_standard, print};
 use crate::progress::Progress;
 use crate::refused::{Reason, Refused};
 use crate::state_file::Used;
+use crate::windows::WindowsFile;
 
 /// What became of the lines.
 #[derive(Debug, Default)]
@@ -29,25 +30,37 @@ struct Tally {
     rings: u64,
 }
 
-/// Adds the issue lines of an input: those that are accepted together, or none where one is refused and that is wanted.
+/// What decides on lines besides the pool.
+#[derive(Clone, Copy)]
+struct Rules<'a> {
+    /// The windows in which they may be added, if there are some.
+    windows: Option<&'a Windows>,
+    /// Whether none is added where one is refused.
+    all: bool,
+}
+
+/// Adds the issue lines of an input: those that are accepted together, or none where one is refused and that is wanted. With windows, what
+/// they permit.
 pub fn add(arguments: &Arguments, out: &mut dyn Write) -> Result<(), Failure> {
     check_standard()?;
+    let file = arguments.has("windows").then(|| WindowsFile::open(arguments)).transpose()?;
+    let rules = Rules { windows: file.as_ref().map(|file| &file.windows), all: arguments.has("all-or-none") };
     let mut lines = Lines::open(arguments)?;
     let mut used = Used::<Pool>::open(arguments)?;
-    let tally = add_lines(&mut used.state, &mut lines, arguments.has("all-or-none"))?;
+    let tally = add_lines(&mut used.state, &mut lines, rules)?;
     commit(&mut used, tally.added)?;
     drop(used);
     tally.print(out).map_err(|failure| added_all_the_same(failure, tally.added))?;
     let Tally { refused, added, .. } = tally;
-    let failure = |(line, reason)| Err(Failure::Lines { reason, line, refused: refused.count, added });
+    let failure = |(line, reason)| Err(Failure::Lines { reason, line, refused: refused.count, added: Some(added) });
     refused.first().map_or(Ok(()), failure)
 }
 
 /// Tries all lines, and adds those that are accepted; or none where one is refused and all are wanted.
-fn add_lines<R: Read>(pool: &mut Pool, lines: &mut Lines<R>, all: bool) -> Result<Tally, Failure> {
+fn add_lines<R: Read>(pool: &mut Pool, lines: &mut Lines<R>, rules: Rules) -> Result<Tally, Failure> {
     let mut tried = pool.clone();
-    let mut tally = try_lines(&mut tried, lines)?;
-    if tally.refused.count == 0 || !all {
+    let mut tally = try_lines(&mut tried, lines, rules.windows)?;
+    if tally.refused.count == 0 || !rules.all {
         (tally.added, tally.rings) = (tally.lines - tally.refused.count, tried.rings() - pool.rings());
         *pool = tried;
     }
@@ -55,12 +68,16 @@ fn add_lines<R: Read>(pool: &mut Pool, lines: &mut Lines<R>, all: bool) -> Resul
 }
 
 /// Tries all lines on a pool.
-fn try_lines<R: Read>(pool: &mut Pool, lines: &mut Lines<R>) -> Result<Tally, Failure> {
+fn try_lines<R: Read>(pool: &mut Pool, lines: &mut Lines<R>, windows: Option<&Windows>) -> Result<Tally, Failure> {
     let (mut tally, mut progress) = (Tally::default(), Progress::new());
     while let Some(line) = lines.next()? {
         tally.lines += 1;
-        if let Err(refusal) = pool.add(line) {
-            tally.refused.add(tally.lines, Reason::of(refusal, line));
+        let added = match windows {
+            Some(windows) => pool.add_in_season(windows, line),
+            None => pool.add(line),
+        };
+        if let Err(refusal) = added {
+            tally.refused.add(tally.lines, Reason::of(refusal, line, windows));
         }
         progress.show(tally.lines, lines.read, lines.length);
     }
@@ -114,7 +131,7 @@ mod tests {
         for text in ["7,D,1,5,20250304\n", "7,D,1,5,20250304\nnothing\n", "7,D,1,5,20250304\n7,D,6", ""] {
             for all in [false, true] {
                 let mut lines = Lines::of(Path::new("lines"), Failing(text.as_bytes()), None);
-                let failure = add_lines(&mut pool, &mut lines, all).unwrap_err();
+                let failure = add_lines(&mut pool, &mut lines, Rules { windows: None, all }).unwrap_err();
                 assert_eq!((failure.to_string().as_str(), failure.status()), ("Could not read lines: no more.", 4));
                 assert_eq!(pool, before);
             }
