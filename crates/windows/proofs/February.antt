@@ -36,7 +36,8 @@ leap-day-leap day is e = go (is .lasts) (omega arith) (omega (arith, is .date-to
 alone-right : (day : ℕ) → Exists day → Open alone day ↔ (inYear day ≡ leapDay)
 alone-right day is = ((λ o. to o), (λ e. within (omega arith) (leap-year (leap-day-leap day is e)) (leap-year (leap-day-leap day is e)) (omega arith) (omega arith)))
   where
-    dates : {from until : ℕ} → StandsFor (yearOf day) 229 firstOfMarch from → StandsFor (yearOf day) 229 lastOfFebruary until → from ≤ inYear day → inYear day ≤ until
+    dates : {from until : ℕ} → StandsFor (yearOf day) 229 firstOfMarch from → StandsFor (yearOf day) 229 lastOfFebruary until → from ≤ inYear day
+        → inYear day ≤ until
         → inYear day ≡ leapDay
     dates (leap-year h) (leap-year k) a b = omega arith
     dates (leap-year h) (other-date other) a b = omega arith

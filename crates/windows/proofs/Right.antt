@@ -19,7 +19,8 @@ module _ (year written instead : ℕ) where
   pub stands : StandsFor year written instead (dateIn (isLeap year) written instead)
   stands = go (isLeap year) (eqb written leapDay) refl refl
     where
-      here : {d : ℕ} → dateIn (isLeap year) written instead ≡ d → StandsFor year written instead d → StandsFor year written instead (dateIn (isLeap year) written instead)
+      here : {d : ℕ} → dateIn (isLeap year) written instead ≡ d → StandsFor year written instead d
+          → StandsFor year written instead (dateIn (isLeap year) written instead)
       here e s = subst (StandsFor year written instead) (sym e) s
 
       go : (s t : Bool) → isLeap year ≡ s → eqb written leapDay ≡ t → StandsFor year written instead (dateIn (isLeap year) written instead)
