@@ -16,7 +16,15 @@ day-2100 : isDay 21000229 ≡ false
 unfolding isDay monthLength isLeap
 day-2100 = refl
 
--- the years before and after the range
+-- the first and the last day, and the years before and after them
+first-of-all : isDay 19000101 ≡ true
+unfolding isDay monthLength isLeap
+first-of-all = refl
+
+last-of-all : isDay 21991231 ≡ true
+unfolding isDay monthLength isLeap
+last-of-all = refl
+
 day-1899 : isDay 18991231 ≡ false
 unfolding isDay monthLength isLeap
 day-1899 = refl

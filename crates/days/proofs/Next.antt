@@ -98,13 +98,15 @@ next-nothing-between day other e f lt = go (following day) (parts other f) (mont
         let long : lengthAt other ≡ lengthAt day = ap₂ (λ (a b : ℕ). monthLength (isLeap a) b) y m in
         omega arith
 
-    month-new : (t : Bool) → ltb (day / 100) (other / 100) ≡ t → Parts other → lengthAt day ≤ dateOf day → nextDay day ≡ day / 100 * 100 + 101 → nextDay day ≤ other
+    month-new : (t : Bool) → ltb (day / 100) (other / 100) ≡ t → Parts other → lengthAt day ≤ dateOf day → nextDay day ≡ day / 100 * 100 + 101
+        → nextDay day ≤ other
     month-new true b q h n = omega (arith, ltb-true (day / 100) (other / 100) b)
     month-new false b q h n =
         let le = ltb-false (day / 100) (other / 100) b in
         absurd (same (omega arith) (omega arith) (q .date-to) h)
 
-    year-new : (t : Bool) → ltb (yearOf day) (yearOf other) ≡ t → Parts other → 12 ≤ monthOf day → (1 ≤ monthOf other) × (monthOf other ≤ 12) → lengthAt day ≤ dateOf day
+    year-new : (t : Bool) → ltb (yearOf day) (yearOf other) ≡ t → Parts other → 12 ≤ monthOf day → (1 ≤ monthOf other) × (monthOf other ≤ 12)
+        → lengthAt day ≤ dateOf day
         → nextDay day ≡ yearOf day * 10000 + 10101 → nextDay day ≤ other
     year-new true b q m w h n = omega (arith, ltb-true (yearOf day) (yearOf other) b)
     year-new false b q m w h n =

@@ -6,7 +6,7 @@ use mathlib.Core.Logic.{_↔_, _⊎_, inl, inr}
 use native.Mathlib.Omega.{arith}
 use lib.Dec.{ltb, leb, eqb}
 use borrow.Author.Tests.{lt-ltb, le-ltb, le-leb, eq-eqb, ne-eqb, ltb-true, ltb-false, leb-true, eqb-true, eqb-false}
-use Rattle.days.specs.Calendar.{Leap, Lasts, leap-february, february, april, june, september, november, the-rest, IsDate, Before, by-year, by-month, by-date}
+use Rattle.days.specs.Calendar.{Leap, Lasts, leap-february, february, april, june, september, november, the-rest, Before, by-year, by-month, by-date}
 use Rattle.days.specs.Days.{yearOf, monthOf, dateOf, dayOf, Exists, isLeap, monthLength, lengthAt, isDay, DayExactly, DigitsExactly}
 
 -- A year is a leap year exactly by the rule.
@@ -67,7 +67,8 @@ module _ (leap : Bool) (month : ℕ) where
       let some : 1 ≤ month = omega arith in
       simp (ne-eqb month 2 two, ne-eqb month 4 four, ne-eqb month 6 six, ne-eqb month 9 nine, ne-eqb month 11 eleven, le-ltb month 1 some, lt-ltb 12 month h)
 
-  pub other-month : (month ≡ 2 → ⊥) → (month ≡ 4 → ⊥) → (month ≡ 6 → ⊥) → (month ≡ 9 → ⊥) → (month ≡ 11 → ⊥) → 1 ≤ month → month ≤ 12 → monthLength leap month ≡ 31
+  pub other-month : (month ≡ 2 → ⊥) → (month ≡ 4 → ⊥) → (month ≡ 6 → ⊥) → (month ≡ 9 → ⊥) → (month ≡ 11 → ⊥) → 1 ≤ month → month ≤ 12
+      → monthLength leap month ≡ 31
   unfolding monthLength
   other-month two four six nine eleven from to =
       simp (ne-eqb month 2 two, ne-eqb month 4 four, ne-eqb month 6 six, ne-eqb month 9 nine, ne-eqb month 11 eleven, le-ltb month 1 from, le-ltb 12 month to)
@@ -98,7 +99,8 @@ lasts-right year month days = ((λ h. to (h .0) (h .1)), (λ h. from h))
     to : monthLength (isLeap year) month ≡ days → 1 ≤ days → Lasts year month days
     to e some = go (eqb month 2) (eqb month 4) (eqb month 6) (eqb month 9) (eqb month 11) (ltb month 1) (ltb 12 month) refl refl refl refl refl refl refl
       where
-        go : (a b c d f g h : Bool) → eqb month 2 ≡ a → eqb month 4 ≡ b → eqb month 6 ≡ c → eqb month 9 ≡ d → eqb month 11 ≡ f → ltb month 1 ≡ g → ltb 12 month ≡ h
+        go : (a b c d f g h : Bool) → eqb month 2 ≡ a → eqb month 4 ≡ b → eqb month 6 ≡ c → eqb month 9 ≡ d → eqb month 11 ≡ f → ltb month 1 ≡ g
+            → ltb 12 month ≡ h
             → Lasts year month days
         go true b c d f g h pa pb pc pd pf pg ph = two-of (isLeap year) refl (eqb-true month 2 pa) e
         go false true c d f g h pa pb pc pd pf pg ph = of (eqb-true month 4 pb) refl e april
@@ -195,7 +197,8 @@ order-right a b = ((λ h. to h), (λ h. back _ _ _ _ _ _ h refl refl refl refl r
     to : a < b → Before (yearOf a) (monthOf a) (dateOf a) (yearOf b) (monthOf b) (dateOf b)
     to h = go (ltb (yearOf a) (yearOf b)) (ltb (monthOf a) (monthOf b)) refl refl
       where
-        go : (s t : Bool) → ltb (yearOf a) (yearOf b) ≡ s → ltb (monthOf a) (monthOf b) ≡ t → Before (yearOf a) (monthOf a) (dateOf a) (yearOf b) (monthOf b) (dateOf b)
+        go : (s t : Bool) → ltb (yearOf a) (yearOf b) ≡ s → ltb (monthOf a) (monthOf b) ≡ t
+            → Before (yearOf a) (monthOf a) (dateOf a) (yearOf b) (monthOf b) (dateOf b)
         go true t p q = by-year (ltb-true (yearOf a) (yearOf b) p)
         go false true p q =
             let le : yearOf b ≤ yearOf a = ltb-false (yearOf a) (yearOf b) p in

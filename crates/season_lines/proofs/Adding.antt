@@ -33,18 +33,18 @@ stop-goes ws P Q same bytes n (in-season group size first last day m is season s
 
 module _ (ws : Windows) (p : Pool) (bytes : List ℕ) where
   -- what the season says of the line that was read
-  season : SeasonStop (windowOf ws (readLine bytes .size)) (readLine bytes .day) (seasonOf ws (readLine bytes))
+  pub season : SeasonStop (windowOf ws (readLine bytes .size)) (readLine bytes .day) (seasonOf ws (readLine bytes))
   season = season-exactly (windowOf ws (readLine bytes .size)) (readLine bytes .day) (seasonOf ws (readLine bytes)) .0 refl
 
   -- the three cases
-  is-13 : readLine bytes .found ≡ false → addInSeason ws p bytes ≡ record { number = 13; pool = p }
+  pub is-13 : readLine bytes .found ≡ false → addInSeason ws p bytes ≡ record { number = 13; pool = p }
   is-13 f = not-a-line bytes (readLine bytes) refl ws p f
 
-  is-season-number : readLine bytes .found ≡ true → (seasonOf ws (readLine bytes) ≡ 0 → ⊥)
+  pub is-season-number : readLine bytes .found ≡ true → (seasonOf ws (readLine bytes) ≡ 0 → ⊥)
       → addInSeason ws p bytes ≡ record { number = seasonOf ws (readLine bytes); pool = p }
   is-season-number f s = out-of-season bytes (readLine bytes) refl ws p (seasonOf ws (readLine bytes)) refl f s
 
-  is-added : readLine bytes .found ≡ true → seasonOf ws (readLine bytes) ≡ 0 → addInSeason ws p bytes ≡ addRun p (runOf (readLine bytes))
+  pub is-added : readLine bytes .found ≡ true → seasonOf ws (readLine bytes) ≡ 0 → addInSeason ws p bytes ≡ addRun p (runOf (readLine bytes))
   is-added f s = added-in-season bytes (readLine bytes) refl ws p (seasonOf ws (readLine bytes)) refl f s
 
   -- An accepted one is a line in its season, and adds its run.

@@ -1,7 +1,7 @@
 -- A line's day is written as year, month and date. Assumes nothing.
 use Prim.Native.Nat.{ℕ}
 use mathlib.Core.Path.{_≡_, refl, ap₂}
-use mathlib.Core.List.{List, [], _∷_}
+use mathlib.Core.List.{List, _∷_}
 use native.Mathlib.Omega.{arith}
 use Rattle.decimal.specs.Decimal.{digitChar}
 use Rattle.issue_line.specs.Layout.{lastDigits}

@@ -11,9 +11,10 @@ use Rattle.issue_line.proofs.Reading.{line-sound, line-complete, line-refused}
 use Rattle.seasons.specs.declared.Windows.{Windows}
 use Rattle.seasons.specs.declared.First.{First}
 use Rattle.seasons.specs.Seasons.{windowOf}
-use Rattle.seasons.specs.FirstDay.{refusedBy, FirstDay, refused, found, none, FirstExactly}
+use Rattle.seasons.specs.FirstDay.{refusedBy, FirstDay, refused, found, none}
 use Rattle.seasons.proofs.Right.{first-exactly}
-use Rattle.season_lines.specs.FirstDay.{NoLine, LineFirst, no-line, of-line, LineFirstExactly}
+use Rattle.season_lines.specs.Lines.{NoLine}
+use Rattle.season_lines.specs.FirstDay.{LineFirst, no-line, of-line, LineFirstExactly}
 
 -- the answers of the code, where l is the line that was read
 module _ (ws : Windows) (bytes : List ℕ) (l : Line) (is : l ≡ readLine bytes) where
@@ -32,7 +33,7 @@ not-13 (none n g) e = omega (arith, ap (λ (x : First). x .number) e)
 
 module _ (ws : Windows) (bytes : List ℕ) where
   -- the answer for a line goes by its own size and day
-  its-own : (group size first last day : ℕ) {r : First} → IsLine bytes group size first last day → LineFirst ws bytes r → FirstDay (windowOf ws size) day r
+  pub its-own : (group size first last day : ℕ) {r : First} → IsLine bytes group size first last day → LineFirst ws bytes r → FirstDay (windowOf ws size) day r
   its-own group size first last day is (no-line never) = absurd (never group size first last day is)
   its-own group size first last day {r} is (of-line g s f l d there first-day) =
       let same : aLine g s f l d ≡ aLine group size first last day = sym (line-complete bytes g s f l d there) ∙ line-complete bytes group size first last day is in

@@ -68,7 +68,8 @@ first-in-season ws bytes = ((λ ok. to ok), (λ h. from (h .0) (h .1) (h .2) (h 
         → (group : ℕ) × (size : ℕ) × (first : ℕ) × (last : ℕ) × (day : ℕ) × IsLine bytes group size first last day × SeasonStop (windowOf ws size) day 0
     to ok = (_, _, _, _, _, line-sound bytes (accepted-line ws emptyPool bytes ok .0), day-in-season ws emptyPool bytes ok)
 
-    from : (group size first last day : ℕ) → IsLine bytes group size first last day → SeasonStop (windowOf ws size) day 0 → addInSeason ws emptyPool bytes .number ≡ 0
+    from : (group size first last day : ℕ) → IsLine bytes group size first last day → SeasonStop (windowOf ws size) day 0
+        → addInSeason ws emptyPool bytes .number ≡ 0
     from group size first last day is season =
         let number = ap (seasonOf ws) (line-complete bytes group size first last day is) ∙ season-exactly (windowOf ws size) day 0 .1 season in
         ap (λ (a : Added). a .number) (season-line-exactly ws emptyPool bytes empty-good .as-without number)

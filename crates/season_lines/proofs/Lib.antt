@@ -4,3 +4,4 @@ pub mod Adding
 pub mod History
 pub mod FirstDay
 pub mod Digits
+pub mod Numbers

@@ -8,10 +8,7 @@ use Rattle.seasons.specs.declared.Windows.{Windows}
 use Rattle.seasons.specs.declared.First.{First}
 use Rattle.seasons.specs.Seasons.{windowOf}
 use Rattle.seasons.specs.FirstDay.{refusedBy, FirstDay, FirstExactly}
-
--- the bytes are no line
-abbrev pub NoLine : List ℕ → Type 0
-NoLine bytes = (group size first last day : ℕ) → IsLine bytes group size first last day → ⊥
+use Rattle.season_lines.specs.Lines.{NoLine}
 
 -- The answer to the question for a line's first permitted day: 13 where the bytes are no line, else that for its day by the window of its own size.
 pub data LineFirst (ws : Windows) (bytes : List ℕ) : First → Type 0 where

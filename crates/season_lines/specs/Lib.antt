@@ -2,3 +2,4 @@
 pub mod Lines
 pub mod History
 pub mod FirstDay
+pub mod Numbers

@@ -37,10 +37,14 @@ addReadInSeason ws p l =
 unfoldable pub addInSeason : Windows → Pool → List ℕ → Added
 addInSeason ws p bytes = addReadInSeason ws p (readLine bytes)
 
+-- the bytes are no line
+abbrev pub NoLine : List ℕ → Type 0
+NoLine bytes = (group size first last day : ℕ) → IsLine bytes group size first last day → ⊥
+
 -- The number that some bytes get, where `Pooled` says which numbers are pooled: 13, they are no line; else 16 or 17, where the line's day gets it by the
 -- window of the line's own size; else that of the line's run.
 pub data SeasonLineStop (ws : Windows) (Pooled : (size x : ℕ) → Type 0) (bytes : List ℕ) : ℕ → Type 0 where
-  no-line : ((group size first last day : ℕ) → IsLine bytes group size first last day → ⊥) → SeasonLineStop ws Pooled bytes 13
+  no-line : NoLine bytes → SeasonLineStop ws Pooled bytes 13
   not-in-season : (group size first last day n : ℕ) → IsLine bytes group size first last day → SeasonStop (windowOf ws size) day n → (n ≡ 0 → ⊥)
       → SeasonLineStop ws Pooled bytes n
   in-season : (group size first last day n : ℕ) → IsLine bytes group size first last day → SeasonStop (windowOf ws size) day 0

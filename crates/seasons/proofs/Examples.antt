@@ -1,7 +1,8 @@
--- The first permitted day by example. Assumes nothing.
+-- The window of a size, the number of a day and the first permitted day by example. Assumes nothing.
 use Prim.Native.Nat.{ℕ, _%_, _<_, _≤_}
 use mathlib.Core.Path.{_≡_, refl}
 use mathlib.Core.Logic.{_⊎_, inl, inr}
+use mathlib.Core.List.{[], _∷_}
 use native.Mathlib.Omega.{arith}
 use Rattle.days.specs.Days.{yearOf, isLeap, monthLength, isDay}
 use Rattle.days.proofs.Rules.{day-exactly}
@@ -10,9 +11,28 @@ use Rattle.windows.specs.Windows.{inYear}
 use Rattle.windows.specs.Computed.{aWindow, dateIn, openOn, leapYearHas, goodWindow}
 use Rattle.windows.proofs.Right.{window-exactly}
 use Rattle.windows.proofs.February.{february-windows}
-use Rattle.seasons.specs.Seasons.{passes16, seasonNumber}
+use Rattle.seasons.specs.declared.Windows.{Windows}
+use Rattle.seasons.specs.Seasons.{windowOf, passes16, seasonNumber}
 use Rattle.seasons.specs.FirstDay.{foundDay, noDay, FirstDay, found, none}
 use Rattle.seasons.proofs.Right.{not-met-16}
+
+-- the sizes A to H have the eight windows in their order: A the first, C the third, H the last
+abbrev eight : Windows
+eight =
+    record {
+      sizes =
+          aWindow 1 1 1 1 ∷ aWindow 2 2 2 2 ∷ aWindow 3 3 3 3 ∷ aWindow 4 4 4 4 ∷ aWindow 5 5 5 5 ∷ aWindow 6 6 6 6 ∷ aWindow 7 7 7 7
+          ∷ aWindow 8 8 8 8 ∷ [];
+    }
+
+window-a : windowOf eight 65 ≡ aWindow 1 1 1 1
+window-a = refl
+
+window-c : windowOf eight 67 ≡ aWindow 3 3 3 3
+window-c = refl
+
+window-h : windowOf eight 72 ≡ aWindow 8 8 8 8
+window-h = refl
 
 -- 29 February alone: from 1 March 2096 the first day is in 2104, as 2100 is no leap year; from 1 March 2196 there is none
 abbrev alone : Window

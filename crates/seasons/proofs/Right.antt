@@ -1,5 +1,5 @@
 -- The number that a day gets is the one whose condition holds, and the first permitted day has one answer. Assumes nothing.
-use Prim.Native.Nat.{ℕ, _<_, _≤_}
+use Prim.Native.Nat.{ℕ}
 use mathlib.Core.Path.{_≡_, refl, sym, ap, _∙_, subst}
 use mathlib.Core.Bool.{Bool, true, false, _&&_, true≢false}
 use mathlib.Core.Logic.{_↔_, inl, inr}
@@ -7,14 +7,14 @@ use native.Mathlib.Omega.{arith}
 use lib.Dec.{leb}
 use borrow.Author.Tests.{leb-true, leb-false}
 use Rattle.days.specs.Days.{isDay}
-use Rattle.days.proofs.Rules.{both, day-exactly}
+use Rattle.days.proofs.Rules.{day-exactly}
 use Rattle.windows.specs.declared.Window.{Window}
 use Rattle.windows.specs.Computed.{openOn, goodWindow}
 use Rattle.windows.proofs.Right.{window-exactly}
 use Rattle.seasons.specs.declared.First.{First}
 use Rattle.seasons.specs.Seasons.{Meets16, SeasonStop, no-such, outside, inside, passes16, seasonNumber, SeasonExactly}
 use Rattle.seasons.specs.FirstDay.{IsFirst, NoneFrom, refusedBy, foundDay, noDay, FirstDay, refused, found, none, FirstExactly}
-use Rattle.seasons.proofs.Steps.{no-such-day, no-such-date, passes, number-16, number-17, number-0}
+use Rattle.seasons.proofs.Steps.{no-such-day, no-such-date, number-16, number-17, number-0}
 
 module _ (w : Window) (day : ℕ) where
   -- 16 is met exactly where the test says so.

@@ -1,13 +1,13 @@
 -- Windows with 29 February, and windows of one date. Assumes nothing.
 use Prim.Native.Nat.{ℕ, _<_, _≤_}
-use mathlib.Core.Path.{_≡_, refl, sym, _∙_}
+use mathlib.Core.Path.{_≡_, refl, _∙_}
 use mathlib.Core.Bool.{Bool, true, false}
 use mathlib.Core.Logic.{_↔_}
 use native.Mathlib.Omega.{arith}
 use lib.Dec.{ltb}
 use borrow.Author.Tests.{ltb-true, ltb-false}
 use Rattle.days.specs.Calendar.{Leap, Lasts, leap-february, february, april, june, september, november, the-rest}
-use Rattle.days.specs.Days.{yearOf, monthOf, dateOf, Exists, isLeap}
+use Rattle.days.specs.Days.{yearOf, Exists, isLeap}
 use Rattle.days.proofs.Rules.{leap-right, common-right}
 use Rattle.windows.specs.declared.Window.{Window}
 use Rattle.windows.specs.Windows.{opening, closing, inYear, leapDay, firstOfMarch, lastOfFebruary, StandsFor, leap-year, other-date, common-year, Open, within, to-new-year, from-new-year}
@@ -36,7 +36,8 @@ leap-day-leap day is e = go (is .lasts) (omega arith) (omega (arith, is .date-to
 alone-right : (day : ℕ) → Exists day → Open alone day ↔ (inYear day ≡ leapDay)
 alone-right day is = ((λ o. to o), (λ e. within (omega arith) (leap-year (leap-day-leap day is e)) (leap-year (leap-day-leap day is e)) (omega arith) (omega arith)))
   where
-    dates : {from until : ℕ} → StandsFor (yearOf day) 229 firstOfMarch from → StandsFor (yearOf day) 229 lastOfFebruary until → from ≤ inYear day → inYear day ≤ until
+    dates : {from until : ℕ} → StandsFor (yearOf day) 229 firstOfMarch from → StandsFor (yearOf day) 229 lastOfFebruary until → from ≤ inYear day
+        → inYear day ≤ until
         → inYear day ≡ leapDay
     dates (leap-year h) (leap-year k) a b = omega arith
     dates (leap-year h) (other-date other) a b = omega arith

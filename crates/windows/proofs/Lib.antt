@@ -2,4 +2,5 @@
 pub mod Steps
 pub mod Right
 pub mod February
+pub mod Dates
 pub mod Examples

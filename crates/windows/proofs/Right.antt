@@ -1,7 +1,7 @@
 -- What is computed of windows is what the rules say. Assumes nothing.
-use Prim.Native.Nat.{ℕ, _<_, _≤_}
+use Prim.Native.Nat.{ℕ, _≤_}
 use mathlib.Core.Path.{_≡_, refl, sym, ap, _∙_, subst}
-use mathlib.Core.Bool.{Bool, true, false, cond, _&&_, _||_, true≢false, false≢true}
+use mathlib.Core.Bool.{Bool, true, false, cond, _&&_, _||_, and-false, or-true, true≢false, false≢true}
 use mathlib.Core.Logic.{_↔_, inl, inr}
 use native.Mathlib.Omega.{arith}
 use lib.Dec.{leb, eqb}
@@ -19,7 +19,8 @@ module _ (year written instead : ℕ) where
   pub stands : StandsFor year written instead (dateIn (isLeap year) written instead)
   stands = go (isLeap year) (eqb written leapDay) refl refl
     where
-      here : {d : ℕ} → dateIn (isLeap year) written instead ≡ d → StandsFor year written instead d → StandsFor year written instead (dateIn (isLeap year) written instead)
+      here : {d : ℕ} → dateIn (isLeap year) written instead ≡ d → StandsFor year written instead d
+          → StandsFor year written instead (dateIn (isLeap year) written instead)
       here e s = subst (StandsFor year written instead) (sym e) s
 
       go : (s t : Bool) → isLeap year ≡ s → eqb written leapDay ≡ t → StandsFor year written instead (dateIn (isLeap year) written instead)
@@ -61,10 +62,6 @@ module _ (w : Window) (day : ℕ) where
       to false false true p q r e = from-new-year (leb-false (opening w) (closing w) p) closes (leb-true (inYear day) (closesAt w day) r)
       to false false false p q r e = absurd (false≢true e)
 
-      late : (b : Bool) → b || true ≡ true
-      late true = refl
-      late false = refl
-
       from-the : (date : ℕ) → StandsFor (yearOf day) (opening w) firstOfMarch date → date ≤ inYear day → opensAt w day ≤ inYear day
       from-the date s le = omega (arith, stands-only (yearOf day) (opening w) firstOfMarch date s)
 
@@ -76,7 +73,7 @@ module _ (w : Window) (day : ℕ) where
           simp (le-leb (opening w) (closing w) a, le-leb (opensAt w day) (inYear day) (from-the _ o b), le-leb (inYear day) (closesAt w day) (to-the _ c d))
       from (to-new-year a o b) = simp (lt-leb (opening w) (closing w) a, le-leb (opensAt w day) (inYear day) (from-the _ o b))
       from (from-new-year a c d) =
-          simp (lt-leb (opening w) (closing w) a, le-leb (inYear day) (closesAt w day) (to-the _ c d)) (late (leb (opensAt w day) (inYear day)))
+          simp (lt-leb (opening w) (closing w) a, le-leb (inYear day) (closesAt w day) (to-the _ c d)) (or-true (leb (opensAt w day) (inYear day)))
 
   shut-right : (openOn w day ≡ false) ↔ (Open w day → ⊥)
   shut-right = ((λ e o. true≢false (sym (open-right .1 o) ∙ e)), (λ never. go (openOn w day) refl never))
@@ -140,15 +137,11 @@ module _ (w : Window) where
       to true false p q e = inr (gone (w .«close_month») (w .«close_day») q)
       to true true p q e = absurd (true≢false e)
 
-      last-false : (a : Bool) → a && false ≡ false
-      last-false true = refl
-      last-false false = refl
-
       from : NoSuchDate w → goodWindow w ≡ false
       from (inl h) = simp (not-there (w .«open_month») (w .«open_day») (leapYearHas (w .«open_month») (w .«open_day»)) refl h)
       from (inr h) =
           simp (not-there (w .«close_month») (w .«close_day») (leapYearHas (w .«close_month») (w .«close_day»)) refl h)
-          (last-false (leapYearHas (w .«open_month») (w .«open_day»)))
+          (and-false (leapYearHas (w .«open_month») (w .«open_day»)))
 
   good-right : (goodWindow w ≡ true) ↔ (NoSuchDate w → ⊥)
   good-right = ((λ e h. true≢false (sym e ∙ bad-right .1 h)), (λ never. go (goodWindow w) refl never))

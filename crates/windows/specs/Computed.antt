@@ -1,14 +1,14 @@
 -- What is computed of windows, and what is claimed of it: document 02, request 8. proofs/Right.antt and proofs/February.antt have the proofs. Assumes
 -- nothing.
-use Prim.Native.Nat.{ℕ, _%_}
+use Prim.Native.Nat.{ℕ, _+_, _*_, _<_}
 use mathlib.Core.Path.{_≡_}
 use mathlib.Core.Bool.{Bool, true, false, cond, _&&_, _||_}
-use mathlib.Core.Logic.{_↔_}
+use mathlib.Core.Logic.{_↔_, _⊎_}
 use lib.Dec.{leb, eqb}
 use Rattle.days.specs.Calendar.{Leap}
-use Rattle.days.specs.Days.{yearOf, isLeap, monthLength}
+use Rattle.days.specs.Days.{yearOf, monthOf, dateOf, isLeap, monthLength}
 use Rattle.windows.specs.declared.Window.{Window}
-use Rattle.windows.specs.Windows.{opening, closing, inYear, leapDay, firstOfMarch, lastOfFebruary, Open, NoSuchDate}
+use Rattle.windows.specs.Windows.{opening, closing, inYear, leapDay, firstOfMarch, lastOfFebruary, Open, InLeapYear, NoSuchDate}
 
 -- a window of these months and days
 abbrev pub aWindow : (openMonth openDay closeMonth closeDay : ℕ) → Window
@@ -45,6 +45,12 @@ pub record WindowExactly (w : Window) : Type 0 where
   pub is-shut : (day : ℕ) → (openOn w day ≡ false) ↔ (Open w day → ⊥)
   pub good : (goodWindow w ≡ true) ↔ (NoSuchDate w → ⊥)
   pub bad : (goodWindow w ≡ false) ↔ NoSuchDate w
+
+-- What is claimed of dates as numbers: that of a day is its month's and its date's; of two dates that leap years have, the later one is the larger
+-- number, later being in a later month, or later in the same.
+pub record DatesExactly : Type 0 where
+  pub of-day : (day : ℕ) → inYear day ≡ monthOf day * 100 + dateOf day
+  pub order : (m d m' d' : ℕ) → InLeapYear m d → InLeapYear m' d' → (m * 100 + d < m' * 100 + d') ↔ ((m < m') ⊎ ((m ≡ m') × (d < d')))
 
 -- What is claimed of windows with 29 February on a day that exists: the window of that date alone is open on it and on no other day, so in a common year
 -- never; the one from it to the day before is open always.
