@@ -104,8 +104,8 @@ impl Calendar {
 
     /// Whether the window has 29 February and the year has not. One with a date that no year has is never open.
     fn moves(&self, window: Window) -> bool {
-        let is_moved = self.letters(2, 29).is_none() && wrong_dates(window).is_empty();
-        is_moved && (Date::opening(window).is_leap_day() || Date::closing(window).is_leap_day())
+        let (is_common, is_good) = (self.letters(2, 29).is_none(), wrong_dates(window).is_empty());
+        is_common && is_good && (Date::opening(window).is_leap_day() || Date::closing(window).is_leap_day())
     }
 
     /// What is said of windows with 29 February, if there are some and the year has no such day.
