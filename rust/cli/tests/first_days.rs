@@ -9,7 +9,7 @@ const ASK: &str = "season first-day --windows windows --in lines";
 
 const BAD_LINE: &str =
     "This is not an issue line: it must be group,size,first,last,day, as 7,C,12001,12100,20250304, and a line feed.";
-const NO_DAY: &str = "The line's day does not exist: days are those of the years 1900 to 2199.";
+const NO_DAY: &str = "The day does not exist: days are those of the years 1900 to 2199.";
 
 /// A size, a day, and the first permitted day from it on.
 const FIRST: [(char, &str, &str); 31] = [

@@ -11,7 +11,7 @@ const BAD_LINE: &str =
     "This is not an issue line: it must be group,size,first,last,day, as 7,C,12001,12100,20250304, and a line feed.";
 const POOLED: &str = "A number of this line is in the pool already, in its size.";
 const POOL_FULL: &str = "The pool is full: with this line it would need more than 256 runs.";
-const NO_DAY: &str = "The line's day does not exist: days are those of the years 1900 to 2199.";
+const NO_DAY: &str = "The day does not exist: days are those of the years 1900 to 2199.";
 const RETURN: &str = " It ends with carriage return and line feed: take the carriage return away.";
 
 /// What is said of a day outside a window.
