@@ -2,7 +2,7 @@
 
 mod common;
 
-use common::seasons::{WINDOWS, days_of, file_of, folder, open_on};
+use common::seasons::{WINDOWS, file_of, folder, length_of, open_on};
 use common::{Folder, Run};
 
 const MONTHS: [&str; 12] = [
@@ -163,7 +163,7 @@ fn the_days_of_february() {
 
 /// A day, or one that the year does not have, is as worked out by hand in both formats.
 fn is_right(text: &str, cells: &[Vec<Cell>], (year, month, day): (u32, u32, u32)) {
-    let is_there = day <= days_of(year, month);
+    let is_there = day <= length_of(year, month);
     let open = if is_there { open_on(year, month, day) } else { String::new() };
     let (month, day) = (month as usize, day as usize);
     assert_eq!(in_text(text, month, day), open, "{year}-{month}-{day}");

@@ -2,7 +2,7 @@
 
 mod common;
 
-use common::seasons::{WINDOWS, days_of, file_of, folder, open_on};
+use common::seasons::{WINDOWS, file_of, folder, length_of, open_on};
 use common::{Folder, Run};
 
 const ASK: &str = "season first-day --windows windows --in lines";
@@ -136,7 +136,7 @@ fn days_that_do_not_exist() {
 
 /// The days of a year, in their order, each with the letters of the sizes that are open.
 fn days_with_letters(year: u32) -> impl Iterator<Item = (u32, String)> {
-    let of_month = move |month| (1..=days_of(year, month)).map(move |day| (month, day));
+    let of_month = move |month| (1..=length_of(year, month)).map(move |day| (month, day));
     let days = (1..=12).flat_map(of_month);
     days.map(move |(month, day)| (year * 10_000 + month * 100 + day, open_on(year, month, day)))
 }

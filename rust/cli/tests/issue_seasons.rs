@@ -3,7 +3,7 @@
 mod common;
 
 use common::seasons::{WINDOWS, file_of, folder};
-use common::{Folder, Run};
+use common::{Folder, Run, additions_that_fail};
 
 const ADD: &str = "pool --state pool add --in lines --windows windows";
 
@@ -252,21 +252,7 @@ fn a_wrong_windows_file_is_told_before_the_state_file_is_opened() {
 fn a_commit_that_fails() {
     let first = folder();
     first.write("lines", b"7,F,1,5,20251001\n7,H,1,5,20250304\n");
-    let (mut not_added, mut added) = (0, 0);
-    for step in 1.. {
-        let folder = first.copy();
-        let run = folder.run_with(&format!("fail@{step}"), ADD);
-        if run.status == 27 {
-            break;
-        }
-        assert_eq!((run.status, &run.printed[..]), (3, &b""[..]), "step {step}: {}", run.said);
-        let is_added = folder.run("pool --state pool find H 1").status == 0;
-        let says_so = run.said.ends_with(" The lines were added all the same: `pool show` shows the pool.\n");
-        assert_eq!(says_so, is_added, "step {step}: {}", run.said);
-        added += i32::from(is_added);
-        not_added += i32::from(run.said.ends_with(" Nothing was added.\n"));
-    }
-    assert!(added > 0 && not_added > 0, "{added} {not_added}");
+    additions_that_fail(&first, ADD, "H 1", 27);
 }
 
 /// A closed output is noticed before anything is added.

@@ -6,7 +6,7 @@ use std::fs::OpenOptions;
 use std::io::Write;
 use std::process::Command;
 
-use common::{Folder, PROGRAM, Run, until_blocked};
+use common::{Folder, PROGRAM, Run, additions_that_fail, until_blocked};
 use pevghazo_store::{Presence, Store, Wait};
 
 const ADD: &str = "pool --state pool add --in lines";
@@ -236,21 +236,7 @@ fn the_state_file_is_free_while_the_input_is_read() {
 fn a_commit_that_fails() {
     let first = pool();
     first.write("lines", b"nothing\n7,D,1,5,20250304\n");
-    let (mut not_added, mut added) = (0, 0);
-    for step in 1.. {
-        let folder = first.copy();
-        let run = folder.run_with(&format!("fail@{step}"), ADD);
-        if run.status == 23 {
-            break;
-        }
-        assert_eq!((run.status, &run.printed[..]), (3, &b""[..]), "step {step}: {}", run.said);
-        let is_added = folder.run("pool --state pool find D 1").status == 0;
-        let says_so = run.said.ends_with(" The lines were added all the same: `pool show` shows the pool.\n");
-        assert_eq!(says_so, is_added, "step {step}: {}", run.said);
-        added += i32::from(is_added);
-        not_added += i32::from(run.said.ends_with(" Nothing was added.\n"));
-    }
-    assert!(added > 0 && not_added > 0, "{added} {not_added}");
+    additions_that_fail(&first, ADD, "D 1", 23);
 }
 
 /// Two processes add at the same time: all lines are in the pool, and one that both have was accepted once.

@@ -242,3 +242,23 @@ pub fn grouped(digits: &str) -> String {
     let groups: Vec<&str> = (0..digits.len()).step_by(4).map(|place| &digits[place..place + 4]).collect();
     groups.join(" ")
 }
+
+/// Adds to a pool with each step of the commit failing in turn, until a run ends by the status of a refused line. Where the commit fails,
+/// nothing is listed, and a sentence says whether the lines are in the pool, which is seen by a ring of an accepted one.
+pub fn additions_that_fail(first: &Folder, add: &str, ring: &str, refused: i32) {
+    let (mut not_added, mut added) = (0, 0);
+    for step in 1.. {
+        let folder = first.copy();
+        let run = folder.run_with(&format!("fail@{step}"), add);
+        if run.status == refused {
+            break;
+        }
+        assert_eq!((run.status, &run.printed[..]), (3, &b""[..]), "step {step}: {}", run.said);
+        let is_added = folder.run(&format!("pool --state pool find {ring}")).status == 0;
+        let says_so = run.said.ends_with(" The lines were added all the same: `pool show` shows the pool.\n");
+        assert_eq!(says_so, is_added, "step {step}: {}", run.said);
+        added += i32::from(is_added);
+        not_added += i32::from(run.said.ends_with(" Nothing was added.\n"));
+    }
+    assert!(added > 0 && not_added > 0, "{added} {not_added}");
+}

@@ -1,5 +1,8 @@
 //! What the tests of issue seasons share: a windows file, and which days its windows hold, worked out by hand.
 
+use pevghazo_reference::days::is_leap;
+pub use pevghazo_reference::days::length_of;
+
 use super::Folder;
 
 /// The windows of the sizes A to H. In a common year, 0229 as a closing is 0228 and as an opening 0301.
@@ -18,21 +21,6 @@ pub fn folder() -> Folder {
     folder.write("lines", b"7,C,12001,12100,20250101\n");
     folder.done("pool --state pool create");
     folder
-}
-
-/// Whether a year has 29 February.
-pub fn is_leap(year: u32) -> bool {
-    year.is_multiple_of(4) && !year.is_multiple_of(100) || year.is_multiple_of(400)
-}
-
-/// How many days a month has.
-pub fn days_of(year: u32, month: u32) -> u32 {
-    match month {
-        2 if is_leap(year) => 29,
-        2 => 28,
-        4 | 6 | 9 | 11 => 30,
-        _ => 31,
-    }
 }
 
 /// The letters of the sizes that are open on a day, with a dash for each of the others.
