@@ -2,8 +2,9 @@
 
 mod common;
 
-use common::seasons::{WINDOWS, file_of, folder, length_of, open_on};
+use common::seasons::{WINDOWS, file_of, folder, open_on};
 use common::{Folder, Run};
+use pevghazo_reference::days::length_of;
 
 const MONTHS: [&str; 12] = [
     "January",

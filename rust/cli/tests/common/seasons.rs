@@ -1,7 +1,6 @@
 //! What the tests of issue seasons share: a windows file, and which days its windows hold, worked out by hand.
 
 use pevghazo_reference::days::is_leap;
-pub use pevghazo_reference::days::length_of;
 
 use super::Folder;
 
