@@ -19,7 +19,7 @@ returns c =
     let a = entry c .args in
     ap (λ (r : SaeResult). callResult r (now (a .out)) (now (a .tag))) (c .result .ensures)
     ∙ ap (λ (d : DeckState).
-        record { number = 18; count = 0; session = record { history = d; toggle = a .s .toggle; opened = a .s .opened }; out = now (a .out); tag = now (a .tag) })
+    record { number = 18; count = 0; session = record { history = d; toggle = a .s .toggle; opened = a .s .opened }; out = now (a .out); tag = now (a .tag) })
     (held c .deck-of .ensures)
 
 pub wrap-spec : {M : Type 1} → statement M
