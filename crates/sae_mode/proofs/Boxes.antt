@@ -21,7 +21,7 @@ use Rattle.modes.specs.OneCall.{sessionOf, startsWith, Within}
 use Rattle.sae_mode.specs.Sae.{Handed, inputOf, saeUnwrapAt}
 use Rattle.sae_mode.specs.PaperSae.{SaeResult, saeWrap, saeUnwrap}
 use Rattle.sae_mode.specs.Letters.{saePaper, arrives, LetterClaim, SaeCall, wrap, unwrap, Each}
-use Rattle.sae_mode.specs.Box.{Message, letterOf, historyAfter, lettersOf, historyOf, Fits, AllFit, Stopped, Box, Back, EveryBox, LettersBox, OpensExactly, OneHistory}
+use Rattle.sae_mode.specs.Box.{Message, letterOf, historyAfter, lettersOf, historyOf, Fits, AllFit, Stopped, Box, Back, EveryBox, LettersBox, OpensExactly, AllOpen, AllOpenExactly, OneHistory}
 use Rattle.sae_mode.proofs.Papers.{laws, sae-undone, sae-redone, found-length}
 use Rattle.sae_mode.proofs.Letters.{letter-claim}
 
@@ -65,6 +65,17 @@ pub opens-exactly : OpensExactly
 opens-exactly key h m =
     let c = letter-claim key h (letterOf key h m) .numbers .accepted in
     (λ z. fitted key h m (c .0 z .0), λ f. c .1 (unchecked key h m f, own-tag key h m))
+
+all-fit : (key : List ℕ) (h : List Str) (ms : List Message) → AllOpen key h ms → AllFit key h ms
+all-fit key h [] AllOpen.none = AllFit.none
+all-fit key h (m ∷ ms) (AllOpen.more e o) = AllFit.more (opens-exactly key h m .0 e) (all-fit key (historyAfter key h m) ms o)
+
+all-open : (key : List ℕ) (h : List Str) (ms : List Message) → AllFit key h ms → AllOpen key h ms
+all-open key h [] AllFit.none = AllOpen.none
+all-open key h (m ∷ ms) (AllFit.more f o) = AllOpen.more (opens-exactly key h m .1 f) (all-open key (historyAfter key h m) ms o)
+
+pub all-open-exactly : AllOpenExactly
+all-open-exactly key h ms = (all-fit key h ms, all-open key h ms)
 
 -- ---- boxes
 

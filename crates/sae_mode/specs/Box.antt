@@ -109,6 +109,16 @@ abbrev pub OpensExactly : Type 0
 OpensExactly =
     (key : List ℕ) (h : List Str) (m : Message) → (saeUnwrapAt incremental (sessionOf key h false) (letterOf key h m) .number ≡ 0) ↔ Fits key h m
 
+-- the letters of a list of messages open in their order, each at the history of those before it
+pub data AllOpen (key : List ℕ) : List Str → List Message → Type 0 where
+  none : {h : List Str} → AllOpen key h []
+  more : {h : List Str} {m : Message} {ms : List Message} → saeUnwrapAt incremental (sessionOf key h false) (letterOf key h m) .number ≡ 0
+      → AllOpen key (historyAfter key h m) ms → AllOpen key h (m ∷ ms)
+
+-- they do exactly where all the messages fit
+abbrev pub AllOpenExactly : Type 0
+AllOpenExactly = (key : List ℕ) (h : List Str) (ms : List Message) → AllOpen key h ms ↔ AllFit key h ms
+
 -- what is not true of SAE is that the history tells the letters apart: a letter with metadata A and cryptogram C, and two letters with A alone and with C
 -- alone, leave one history, where neither is empty
 abbrev pub OneHistory : Type 0
