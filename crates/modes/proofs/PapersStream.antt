@@ -30,7 +30,8 @@ plus-is i (y ∷ x) f =
 pub first16-is : (f : ℕ → ℕ) → first16 f ≡ run f 0 16
 first16-is f = plus-is 0 (replicate 16 0) f ∙ zeros-sum 16 _
 
-some-more : (y : ℕ) (x : List ℕ) → nonempty (y ∷ x) ≡ true
+-- a run of bytes with a first one is not empty
+pub some-more : (y : ℕ) (x : List ℕ) → nonempty (y ∷ x) ≡ true
 some-more y x = lt-ltb 0 (length (y ∷ x)) (omega arith)
 
 -- ---- the steps: bits after A and after the cryptogram, and e after a call

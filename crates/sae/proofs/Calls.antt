@@ -1,6 +1,6 @@
 -- What the calls of SAE compute is what the rules say: the steps of SANE with SAE's frame bits. Assumes nothing.
 use mathlib.Core.Path.{_≡_, refl}
-use mathlib.Core.Bool.{Bool, true, false}
+use mathlib.Core.Bool.{true, false}
 use mathlib.Core.List.{List, [], _∷_}
 use Prim.Native.Nat.{ℕ, _+_, _≤_}
 use Rattle.deck.specs.declared.DeckState.{DeckState}

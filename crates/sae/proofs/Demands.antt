@@ -15,8 +15,8 @@ use Rattle.modes.proofs.Demands.{Whole}
 use Rattle.sae_mode.specs.Sae.{sae, Handed, inputOf}
 use Rattle.sae_mode.specs.Letters.{LetterClaim, SaeCall}
 use Rattle.sae_mode.specs.Box.{OldLetters}
-use Rattle.sae_mode.specs.Promises.{SaeStart, SaePromises, Run, SaeStartOf, AnySaeCallOf, OneLetterOf, OldLettersOf, SaeRunsExist}
-use Rattle.sae_mode.proofs.Demands.{SaeByRules, start-of, starts-exist, accepted-exist, any-call-of, one-letter-of, old-letters-of, runs-exist}
+use Rattle.sae_mode.specs.Promises.{SaeStart, SaePromises, Run, SaeStartOf, AnySaeCallOf, OneLetterOf, OldLettersOf, LettersComeBackOf, SaeRunsExist}
+use Rattle.sae_mode.proofs.Demands.{SaeByRules, start-of, starts-exist, accepted-exist, any-call-of, one-letter-of, old-letters-of, letters-come-back-of, runs-exist}
 use Rattle.sae.specs.declared.SaeSession.{SaeSession}
 use Rattle.sae.specs.declared.SaeResult.{SaeResult}
 use Rattle.sae.specs.Session.{stateOf, nonceResult, callResult, saeKind}
@@ -69,6 +69,10 @@ one-letter = one-letter-of program
 -- old letters in their order, one claim about the whole list
 pub old-letters : OldLettersOf saeKind StartPromise promises
 old-letters = old-letters-of program start-is
+
+-- and the letters of messages that fit all open
+pub letters-come-back : LettersComeBackOf saeKind StartPromise promises
+letters-come-back = letters-come-back-of program start-is
 
 -- ---- what they speak of is there
 

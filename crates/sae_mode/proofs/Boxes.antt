@@ -2,11 +2,10 @@
 -- within the limits. Assumes nothing.
 use mathlib.Core.Bool.{Bool, true, false}
 use mathlib.Core.List.{List, [], _∷_, map}
-use mathlib.Core.Logic.{_≢_}
-use mathlib.Core.Path.{_≡_, refl, sym, ap, ap₂, _∙_, subst, subst₂}
-use Prim.Native.Nat.{ℕ, _≤_}
+use mathlib.Core.Path.{_≡_, refl, sym, ap, _∙_, subst}
+use Prim.Native.Nat.{ℕ, suc, _≤_}
 use native.Mathlib.Omega.{arith}
-use borrow.Author.Tests.{lt-ltb, eqb-true, eqb-false}
+use borrow.Author.Tests.{eq-eqb, ne-eqb, eqb-true, eqb-false}
 use lib.Dec.{eqb, eqb·suc-zero}
 use lib.ListN.{length}
 use Rattle.deck.specs.declared.DeckState.{DeckState}
@@ -14,15 +13,15 @@ use Rattle.deck.specs.Strings.{Str}
 use Rattle.deck.specs.Deck.{indexOf}
 use Rattle.modes.specs.Header.{FollowsLayout}
 use Rattle.modes.specs.Mode.{incremental}
-use Rattle.modes.specs.PaperSane.{nonempty}
 use Rattle.modes.specs.Rules.{Outcome}
 use Rattle.modes.specs.Exactly.{NoneBefore11}
-use Rattle.modes.specs.OneCall.{sessionOf, startsWith, Within}
+use Rattle.modes.specs.OneCall.{sessionOf, startsWith}
+use Rattle.modes.proofs.PapersStream.{some-more}
 use Rattle.sae_mode.specs.Sae.{Handed, inputOf, saeUnwrapAt}
 use Rattle.sae_mode.specs.PaperSae.{SaeResult, saeWrap, saeUnwrap}
-use Rattle.sae_mode.specs.Letters.{saePaper, arrives, LetterClaim, SaeCall, wrap, unwrap, Each}
-use Rattle.sae_mode.specs.Box.{Message, letterOf, historyAfter, lettersOf, historyOf, Fits, AllFit, Stopped, Box, Back, EveryBox, LettersBox, OpensExactly, AllOpen, AllOpenExactly, OneHistory}
-use Rattle.sae_mode.proofs.Papers.{laws, sae-undone, sae-redone, found-length}
+use Rattle.sae_mode.specs.Letters.{arrives, LetterClaim, SaeCall, wrap, unwrap, Each}
+use Rattle.sae_mode.specs.Box.{Message, letterOf, historyAfter, lettersOf, historyOf, Fits, AllFit, Stopped, Box, Back, AllBack, EveryBox, LettersBox, BoxFits, BackInOrder, OpensExactly, AllOpen, AllOpenExactly, OneHistory}
+use Rattle.sae_mode.proofs.Papers.{laws, sae-undone, sae-redone}
 use Rattle.sae_mode.proofs.Letters.{letter-claim}
 
 -- ---- a letter that 001's Wrap made
@@ -158,10 +157,38 @@ unfolding lettersOf
 letters-box key h [] AllFit.none = Box.finished
 letters-box key h (m ∷ ms) (AllFit.more f a) = Box.letter f (letters-box key (historyAfter key h m) ms a)
 
--- ---- what is not true of SAE
+pub box-fits : BoxFits
+box-fits key h [] [] Box.finished = AllFit.none
+box-fits key h (unwrap i ∷ cs) (m ∷ ms) (Box.letter f b) = AllFit.more f (box-fits key (historyAfter key h m) cs ms b)
+box-fits key h (unwrap i ∷ cs) ms (Box.other s b) = box-fits key h cs ms b
+box-fits key h (wrap i ∷ cs) ms (Box.wrap-tried b) = box-fits key h cs ms b
 
-some-more : (y : ℕ) (x : List ℕ) → nonempty (y ∷ x) ≡ true
-some-more y x = lt-ltb 0 (length (y ∷ x)) (omega arith)
+-- ---- what comes back
+
+pub back-in-order : BackInOrder
+back-in-order [] [] [] Back.finished = AllBack.none
+back-in-order (c ∷ cs) (m ∷ ms) (o ∷ os) (Back.comes-back n e b) = rw (eq-eqb (o .number) 0 n) (AllBack.more n e (back-in-order cs ms os b))
+back-in-order (c ∷ cs) ms (o ∷ os) (Back.refused n b) = rw (ne-eqb (o .number) 0 n) (back-in-order cs ms os b)
+
+-- there are no more messages than calls
+no-more : (cs : List SaeCall) (ms : List Message) (os : List (Outcome DeckState)) → Back cs ms os → length ms ≤ length cs
+no-more [] [] [] Back.finished = omega arith
+no-more (c ∷ cs) (m ∷ ms) (o ∷ os) (Back.comes-back n e b) = omega (arith, no-more cs ms os b)
+no-more (c ∷ cs) ms (o ∷ os) (Back.refused n b) = omega (arith, no-more cs ms os b)
+
+-- so where there are no more calls than messages, none is refused
+pub all-back : (cs : List SaeCall) (ms : List Message) (os : List (Outcome DeckState)) → Back cs ms os → length cs ≤ length ms → AllBack ms os
+all-back [] [] [] Back.finished l = AllBack.none
+all-back (c ∷ cs) (m ∷ ms) (o ∷ os) (Back.comes-back n e b) l = AllBack.more n e (all-back cs ms os b (omega arith))
+all-back (c ∷ cs) ms (o ∷ os) (Back.refused n b) l = let none : ⊥ = omega (arith, no-more cs ms os b) in absurd none
+
+-- each message has one letter
+pub as-many : (key : List ℕ) (h : List Str) (ms : List Message) → length (map unwrap (lettersOf key h ms)) ≡ length ms
+unfolding lettersOf
+as-many key h [] = refl
+as-many key h (m ∷ ms) = ap suc (as-many key (historyAfter key h m) ms)
+
+-- ---- what is not true of SAE
 
 pub one-history : OneHistory
 unfolding saeUnwrap

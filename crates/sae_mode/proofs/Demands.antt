@@ -5,6 +5,7 @@ use mathlib.Core.List.{List, [], _∷_}
 use mathlib.Core.Logic.{_↔_}
 use mathlib.Core.Path.{_≡_, sym, ap, _∙_, subst}
 use Prim.Native.Nat.{ℕ}
+use native.Mathlib.Omega.{arith}
 use Rattle.deck.specs.declared.DeckState.{DeckState}
 use Rattle.deck.specs.Strings.{Str}
 use Rattle.modes.specs.Mode.{incremental}
@@ -20,11 +21,11 @@ use Rattle.sae_mode.specs.Sae.{sae, Handed, inputOf, saeWrapAt, saeUnwra
 use Rattle.sae_mode.specs.PaperSae.{saeOpens}
 use Rattle.sae_mode.specs.Letters.{LetterClaim, SaeCall, wrap, unwrap}
 use Rattle.sae_mode.specs.Box.{OldLetters}
-use Rattle.sae_mode.specs.Promises.{SaeStart, SaePromises, saeByRules, saeStartByRules, Run, SaeStartOf, AnySaeCallOf, OneLetterOf, OldLettersOf, SaeRunsExist}
+use Rattle.sae_mode.specs.Promises.{SaeStart, SaePromises, saeByRules, saeStartByRules, Run, SaeStartOf, AnySaeCallOf, OneLetterOf, OldLettersOf, LettersComeBackOf, SaeRunsExist}
 use Rattle.sae_mode.proofs.Start.{as-sane, sae-start}
 use Rattle.sae_mode.proofs.Letters.{letter-claim}
 use Rattle.sae_mode.proofs.Lists.{Runs, each-of, each-decides}
-use Rattle.sae_mode.proofs.Boxes.{back-of}
+use Rattle.sae_mode.proofs.Boxes.{back-of, letters-box, all-back, as-many}
 
 -- ---- what is asked of promises: that they are the equations with the rules, no less and no more
 
@@ -90,6 +91,16 @@ module _ {k : Kind} {p : SaePromises k} (l : SaeByRules p) where
   old-letters-of {starts} s key nonce t first t′ a n cs os q z =
       let x = each-of key (runs-of z) (saeOpens nonce) (start-of k starts s key nonce t first t′ a .session-001 n) in
       record { history = x .history; each = x .each; finish = x .finish; back = λ ms b. back-of key b (x .each) }
+
+  -- the letters of messages that fit all open
+  pub letters-come-back-of : {starts : NonceStarts k} → SaeStartByRules k starts → LettersComeBackOf k starts p
+  letters-come-back-of {starts} s key nonce t first t′ a n ms f os q z =
+      let h = saeOpens nonce in
+      let x = old-letters-of s key nonce t first t′ a n _ os q z in
+      let b = x .back ms (letters-box key h ms f) in (
+        all-back _ ms os (b .0) (omega (arith, as-many key h ms)),
+        x .finish ∙ ap (λ (g : List Str). sessionOf key g false) (b .1),
+      )
 
   -- every list has a run
   pub runs-exist : Whole k → SaeRunsExist k p

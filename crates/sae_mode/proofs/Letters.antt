@@ -3,9 +3,8 @@ use mathlib.Core.Bool.{Bool, true, false, cond, true≢false}
 use mathlib.Core.List.{List, [], _∷_}
 use mathlib.Core.Logic.{_≢_}
 use mathlib.Core.Path.{_≡_, refl, sym, ap, _∙_, subst}
-use Prim.Native.Nat.{ℕ, zero, suc, _≤_}
-use native.Mathlib.Omega.{arith}
-use borrow.Author.Tests.{eq-eqb, eqb-true, eqb-false}
+use Prim.Native.Nat.{ℕ}
+use borrow.Author.Tests.{eqb-true, eqb-false}
 use lib.Dec.{eqb}
 use lib.ListN.{length, take}
 use lib.Seq.{take-at}
@@ -13,8 +12,8 @@ use Rattle.deck.specs.declared.DeckState.{DeckState}
 use Rattle.deck.specs.Strings.{Str}
 use Rattle.deck.specs.Deck.{indexOf}
 use Rattle.modes.specs.Mode.{incremental}
-use Rattle.modes.specs.Rules.{SessionState, Outcome, unwrapAt}
-use Rattle.modes.specs.Ledger.{equalTags, ledgerUnwrap}
+use Rattle.modes.specs.Rules.{Outcome}
+use Rattle.modes.specs.Ledger.{equalTags}
 use Rattle.modes.specs.Exactly.{NoneBefore11, UnwrapExactly}
 use Rattle.modes.specs.OneCall.{sessionOf, Within, UnwrapClaim}
 use Rattle.modes.proofs.AnySession.{any-unwrap}

@@ -5,12 +5,12 @@ use mathlib.Core.List.{List, [], _∷_}
 use mathlib.Core.Path.{_≡_, refl, sym, ap, _∙_}
 use Prim.Native.Nat.{ℕ, suc}
 use native.Mathlib.Omega.{arith}
-use lib.Bits.{bitXor}
 use lib.ListN.{length}
 use Rattle.deck.specs.Strings.{Str}
 use Rattle.deck.specs.Deck.{deck}
-use Rattle.envelope.specs.Layout.{letterF, tagLength, Known}
-use Rattle.modes.specs.Mode.{StepResult, wholeHistory, streamWrap, streamUnwrap}
+use Rattle.envelope.specs.Layout.{letterF}
+use Rattle.envelope.proofs.Layouts.{known-F}
+use Rattle.modes.specs.Mode.{wholeHistory}
 use Rattle.modes.specs.Paper.{PaperResult}
 use Rattle.modes.specs.PaperSane.{_≪_, _⊻_, offset}
 use Rattle.modes.proofs.Steps.{ShortFrames, ModeLaws, stream-laws, stream-redone}
@@ -28,11 +28,6 @@ use Rattle.sae_mode.specs.Letters.{keeping, saePaper}
 -- its frame bits leave room for the padding bit in one byte
 pub short : ShortFrames saeParameters
 short = record { ofA = λ e. omega arith; ofM = λ e. omega arith; ofT = λ e. omega arith }
-
--- F is a letter of an envelope
-pub known-F : Known letterF
-unfolding tagLength
-known-F h = omega arith
 
 pub sae-laws : ModeLaws sae
 sae-laws = stream-laws saeParameters known-F short

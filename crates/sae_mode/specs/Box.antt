@@ -1,10 +1,11 @@
 -- Letters that 001's Wrap made, in their order, with anything else between them; and what it is that they come back (document 02, request 9).
 -- Last, the claims of lists: `OldLetters` is the one claim about a whole list. Assumes nothing.
-use mathlib.Core.Bool.{false}
+use mathlib.Core.Bool.{false, cond}
 use mathlib.Core.List.{List, [], _∷_, map}
 use mathlib.Core.Logic.{_↔_, _≢_}
 use mathlib.Core.Path.{_≡_}
 use Prim.Native.Nat.{ℕ, _≤_}
+use lib.Dec.{eqb}
 use lib.ListN.{length}
 use Rattle.deck.specs.declared.DeckState.{DeckState}
 use Rattle.deck.specs.Strings.{Str}
@@ -83,6 +84,18 @@ pub data Back : List SaeCall → List Message → List (Outcome DeckState) → T
   refused : {c : SaeCall} {cs : List SaeCall} {ms : List Message} {o : Outcome DeckState} {os : List (Outcome DeckState)}
       → o .number ≢ 0 → Back cs ms os → Back (c ∷ cs) ms (o ∷ os)
 
+-- `AllBack ms os`: the outcomes os are one for each of the messages ms, in their order, accepted, and with exactly the message's bytes at the start of its
+-- output buffer
+pub data AllBack : List Message → List (Outcome DeckState) → Type 0 where
+  none : AllBack [] []
+  more : {m : Message} {ms : List Message} {o : Outcome DeckState} {os : List (Outcome DeckState)}
+      → o .number ≡ 0 → o .out ≡ startsWith (m .plaintext) (m .out) → AllBack ms os → AllBack (m ∷ ms) (o ∷ os)
+
+-- the outcomes of the calls that were accepted
+abbrev pub acceptedOf : List (Outcome DeckState) → List (Outcome DeckState)
+acceptedOf [] = []
+acceptedOf (o ∷ os) = cond (eqb (o .number) 0) (o ∷ acceptedOf os) (acceptedOf os)
+
 -- ---- the claims
 
 -- the outcomes os of a list of calls, from the session that a start with this key and nonce gives, and the session q that they leave
@@ -103,6 +116,13 @@ EveryBox = (key : List ℕ) (h : List Str) (cs : List SaeCall) → (ms : List Me
 -- the letters of messages that fit, in their order, are a box of these messages
 abbrev pub LettersBox : Type 0
 LettersBox = (key : List ℕ) (h : List Str) (ms : List Message) → AllFit key h ms → Box key h (map unwrap (lettersOf key h ms)) ms
+
+-- the messages of a box all fit, and what is accepted of it are these messages, one for one
+abbrev pub BoxFits : Type 0
+BoxFits = (key : List ℕ) (h : List Str) (cs : List SaeCall) (ms : List Message) → Box key h cs ms → AllFit key h ms
+
+abbrev pub BackInOrder : Type 0
+BackInOrder = (cs : List SaeCall) (ms : List Message) (os : List (Outcome DeckState)) → Back cs ms os → AllBack ms (acceptedOf os)
 
 -- a letter that 001's Wrap made opens at its history exactly where its message fits
 abbrev pub OpensExactly : Type 0

@@ -9,7 +9,7 @@ use Rattle.rolling.specs.Edges.{Row}
 use Rattle.deck.specs.Strings.{framed}
 use Rattle.deck.specs.Closing.{closingByte}
 use Rattle.envelope.specs.Layout.{letterS, letterN, letterF, tagLength}
-use Rattle.modes.specs.Mode.{sanseParameters, saneCount, saneParameters}
+use Rattle.modes.specs.Mode.{sanseParameters, saneParameters}
 use Rattle.modes.specs.Rules.{NonceOpening, nonceStartAt}
 use Rattle.modes.specs.Edges.{digits, framesOf, closingsOf, paddedByte}
 use Rattle.sae_mode.specs.Sae.{saeParameters}

@@ -1,7 +1,7 @@
 -- Functions over a kind of record that holds sessions of SAE, of which only promises are known: what start, wrap and unwrap promise; the calls of a
 -- list on one record; and what is claimed of them (demands 1 and 2, and request 9's lists of old letters). Assumes nothing.
 use mathlib.Core.Bool.{false}
-use mathlib.Core.List.{List, [], _∷_}
+use mathlib.Core.List.{List, [], _∷_, map}
 use mathlib.Core.Path.{_≡_}
 use Prim.Native.Nat.{ℕ}
 use Rattle.deck.specs.declared.DeckState.{DeckState}
@@ -16,7 +16,7 @@ use Rattle.modes.specs.SaneDemands.{nonceResult, NonceStarts}
 use Rattle.sae_mode.specs.Sae.{saeParameters, sae, Handed, inputOf, saeWrapAt, saeUnwrapAt}
 use Rattle.sae_mode.specs.PaperSae.{saeOpens, saeOpeningTag}
 use Rattle.sae_mode.specs.Letters.{LetterClaim, SaeCall, wrap, unwrap}
-use Rattle.sae_mode.specs.Box.{OldLetters}
+use Rattle.sae_mode.specs.Box.{Message, lettersOf, historyOf, AllFit, AllBack, OldLetters}
 
 -- a start, of the opening o that it gives: as for SANE, 4, 6 and 7 exactly by the lengths, count b(N) + 3; and where it is accepted it gives the tag of 001's
 -- Initialization, and the session of its history with e 0
@@ -79,6 +79,15 @@ module _ (k : Kind) where
       (key nonce t : List ℕ) (first : k .Result) (t′ : List ℕ) → starts key nonce t first t′ → k .number first ≡ 0
       → (cs : List SaeCall) (os : List (Outcome DeckState)) (q : k .Record) → Run p cs (k .left first) os q
       → OldLetters key nonce cs os (k .stateOf q)
+
+  -- a start that is not refused, and then the letters that 001's Wrap makes of messages that fit, in their order: all open, all messages come back, and the
+  -- session is that of 001's history, with e 0
+  abbrev pub LettersComeBackOf : NonceStarts k → SaePromises → Type 0
+  LettersComeBackOf starts p =
+      (key nonce t : List ℕ) (first : k .Result) (t′ : List ℕ) → starts key nonce t first t′ → k .number first ≡ 0
+      → (ms : List Message) → AllFit key (saeOpens nonce) ms
+      → (os : List (Outcome DeckState)) (q : k .Record) → Run p (map unwrap (lettersOf key (saeOpens nonce) ms)) (k .left first) os q
+      → AllBack ms os × (k .stateOf q ≡ sessionOf key (historyOf key (saeOpens nonce) ms) false)
 
   -- every list of calls has a run, on any record
   abbrev pub SaeRunsExist : SaePromises → Type 0

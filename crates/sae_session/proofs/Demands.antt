@@ -1,8 +1,8 @@
 -- Request 9's claims hold of SAE's functions over a lent record, each known only by its promise, which is its `ensures` (`proofs/Contracts.antt`); and
 -- what they speak of is there. Assumes nothing.
 use Rattle.modes.specs.SaneDemands.{NonceStartsExist, AcceptedStartsExist}
-use Rattle.sae_mode.specs.Promises.{SaeStartOf, AnySaeCallOf, OneLetterOf, OldLettersOf, SaeRunsExist}
-use Rattle.sae_mode.proofs.Demands.{SaeByRules, rules-by-rules, start-by-rules, start-of, starts-exist, accepted-exist, any-call-of, one-letter-of, old-letters-of, runs-exist}
+use Rattle.sae_mode.specs.Promises.{SaeStartOf, AnySaeCallOf, OneLetterOf, OldLettersOf, LettersComeBackOf, SaeRunsExist}
+use Rattle.sae_mode.proofs.Demands.{SaeByRules, rules-by-rules, start-by-rules, start-of, starts-exist, accepted-exist, any-call-of, one-letter-of, old-letters-of, letters-come-back-of, runs-exist}
 use Rattle.sae.specs.Session.{saeKind}
 use Rattle.sae.proofs.Demands.{whole}
 use Rattle.sae_session.specs.Lent.{lentStarts, lentPromises}
@@ -25,6 +25,10 @@ one-letter = one-letter-of lent
 -- old letters in their order, one claim about the whole list: each call is lent the record that the last one left
 pub old-letters : OldLettersOf saeKind lentStarts lentPromises
 old-letters = old-letters-of lent (start-by-rules saeKind)
+
+-- and the letters of messages that fit all open
+pub letters-come-back : LettersComeBackOf saeKind lentStarts lentPromises
+letters-come-back = letters-come-back-of lent (start-by-rules saeKind)
 
 -- whatever a call is handed, there is a result that its promise allows
 pub start-exists : NonceStartsExist saeKind lentStarts

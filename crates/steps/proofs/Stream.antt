@@ -1,6 +1,6 @@
 -- Calls of modes with SANE's steps, tags of 16 bytes and keystream from byte 16 on: what the code computes, step by step, is what the rules say, for any frame
 -- bits and any way that e goes on; over plain values, so that a function's proof only hands its facts over. Assumes nothing.
-use mathlib.Core.Path.{_≡_, refl, sym, ap, ap₂, _∙_}
+use mathlib.Core.Path.{_≡_, sym, ap, ap₂, _∙_}
 use mathlib.Core.Bool.{Bool, true, false, not, _||_, cond}
 use mathlib.Core.List.{List, [], _∷_}
 use Prim.Native.Nat.{ℕ, zero, suc, _+_, _≤_}
@@ -42,10 +42,10 @@ count-most (suc a) (suc x) h g = omega arith
 
 module _ (letter : ℕ) (bitsA bitsC : Bool → List Bool) (next : Bool → Bool) where
   -- the mode of these bits
-  abbrev bits : Parameters
+  abbrev pub bits : Parameters
   bits = streamBits letter bitsA bitsC next
 
-  abbrev mode : Mode
+  abbrev pub mode : Mode
   mode = stream bits
 
   -- what is known once the tag t is found: d is the history and c the closing byte of A, h the history with A, q what the keystream cost, o the
@@ -59,7 +59,7 @@ module _ (letter : ℕ) (bitsA bitsC : Bool → List Bool) (next : Bool → Bool
         × (t ≡ tagOf bits incremental (g .state))
         × (g .count ≡ cond (isEmpty y) 0 (b (length y)) + outputCount 0 16)
 
-  module _ (short : ShortFrames (streamBits letter bitsA bitsC next)) {s : SessionState DeckState} {i : CallInput} {n : ℕ} {d : DeckState} {c : ℕ} {h : Compressed} {q : ℕ}
+  module _ (short : ShortFrames bits) {s : SessionState DeckState} {i : CallInput} {n : ℕ} {d : DeckState} {c : ℕ} {h : Compressed} {q : ℕ}
       {o y : List ℕ} {g : Compressed} {t : List ℕ} (k : Done s i n d c h q o y g t) where
     body-is : o ≡ written (addKeystream bits incremental (s .history) (i .text)) (i .out)
     body-is = k .streamed .0 ∙ ap (λ (u : DeckState). written (addKeystream bits incremental u (i .text)) (i .out)) (k .begun .held)
@@ -101,10 +101,10 @@ module _ (letter : ℕ) (bitsA bitsC : Bool → List Bool) (next : Bool → Bool
           tag = k .finished .1 ∙ ap (tagOf bits incremental) a;
         }
 
-    pub wrap-worked : y ≡ take (length (i .text)) o → Worked (stream (streamBits letter bitsA bitsC next)) s i (wrapSteps (stream (streamBits letter bitsA bitsC next)) incremental s i) (g .state) (q + h .count + g .count) o t
+    pub wrap-worked : y ≡ take (length (i .text)) o → Worked mode s i (wrapSteps mode incremental s i) (g .state) (q + h .count + g .count) o t
     unfolding streamWrap
     wrap-worked e = worked _ (e ∙ added-taken (output (s .history)) 16 (i .text) (i .out) o body-is)
 
-    pub unwrap-worked : y ≡ i .text → Worked (stream (streamBits letter bitsA bitsC next)) s i (unwrapSteps (stream (streamBits letter bitsA bitsC next)) incremental s i) (g .state) (q + h .count + g .count) o t
+    pub unwrap-worked : y ≡ i .text → Worked mode s i (unwrapSteps mode incremental s i) (g .state) (q + h .count + g .count) o t
     unfolding streamUnwrap
     unwrap-worked e = worked _ e

@@ -9,7 +9,7 @@ use prog.Routine.{Routine}
 use ghost.Atoms.{Atoms}
 use contract.Lifetimes.{Lfts}
 use contract.Monad.{Fun}
-use contract.Notation.{Connectives, connectives}
+use contract.Notation.{connectives}
 use denote.Ref.{now}
 use denote.Triple.Clauses.{AtExit}
 use denote.Triple.Entry.{Args, Res}
