@@ -28,7 +28,7 @@ fn every_number_has_its_sentence() {
     let mut sentences: Vec<&str> = Number::ALL.map(Number::sentence).to_vec();
     sentences.sort();
     sentences.dedup();
-    assert_eq!(sentences.len(), 17);
+    assert_eq!(sentences.len(), 18);
 }
 
 #[test]
