@@ -67,7 +67,9 @@ impl Folder {
             let (from, to) = (self.0.join(&name), copy.0.join(&name));
             if from.is_dir() {
                 fs::create_dir(&to).unwrap();
-                self.names_in(&name).iter().for_each(|file| drop(fs::copy(from.join(file), to.join(file)).unwrap()));
+                for file in self.names_in(&name) {
+                    fs::copy(from.join(&file), to.join(&file)).unwrap();
+                }
             } else {
                 fs::copy(from, to).unwrap();
             }
