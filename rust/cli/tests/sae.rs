@@ -195,7 +195,7 @@ fn letters_that_were_opened_are_known_by_their_bytes() {
     assert!(report.contains("  opened         4 to ") && report.contains("  opened before  4\n"), "{report}");
 }
 
-/// The letters of both ends are one row.
+/// A file may hold several letters. Bytes behind the last one are told with their place.
 #[test]
 fn a_file_with_several_letters() {
     let old = OldBox::of_four();
