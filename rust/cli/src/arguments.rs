@@ -281,12 +281,7 @@ fn long(option: &[u8], tokens: &mut impl Iterator<Item = OsString>) -> Result<(&
 
 /// Checks that all options are the command's own, that none is missing, and that each value is what its option takes. The words after
 /// the command are its own to check, in their order; but of files there is at least one.
-fn check(
-    command: &'static Command,
-    given: Given,
-    operands: &[&str],
-    files: &[OsString],
-) -> Result<Arguments, Failure> {
+fn check(command: &'static Command, given: Given, operands: &[&str], files: &[OsString]) -> Result<Arguments, Failure> {
     let mut own = Given::new();
     for (option, value) in given {
         let name = option.name;

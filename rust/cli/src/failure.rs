@@ -278,7 +278,10 @@ impl Failure {
             }
             Failure::NotAdded(error) => write!(f, "{error} Nothing was added."),
             Failure::NotReported(source) => {
-                write!(f, "{source} The letters were opened all the same: the same command reports them as opened before.")
+                write!(
+                    f,
+                    "{source} The letters were opened all the same: the same command reports them as opened before."
+                )
             }
             Failure::NotCounted(refusal, error) => {
                 refused(f, refusal, Letter::S)?;
@@ -355,7 +358,8 @@ the session is replaced under another nonce.";
 const EARLIER: &str = "Or a version before 0.8 has sealed it: only such a version opens it.";
 
 /// What is said besides where a session of the first version was to seal.
-const SEALED_TODAY: &str = "Today `pevghazo group seal`, `pevghazo office seal` and `pevghazo sane seal` seal messages.";
+const SEALED_TODAY: &str =
+    "Today `pevghazo group seal`, `pevghazo office seal` and `pevghazo sane seal` seal messages.";
 
 /// The sentence of a refusal with its number, and what is said besides of a wrong tag, or of sealing as the first version did. Of an old
 /// letter with a wrong tag, its box says more.

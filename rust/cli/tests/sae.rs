@@ -11,8 +11,7 @@ use common::vectors::Vector;
 use common::{Folder, PLACE, SESSION};
 
 /// What is said of a wrong tag.
-const WRONG: &str =
-    "Refused, number 11: The tag is wrong: the arrival is damaged, repeated, out of order or not meant for this session.";
+const WRONG: &str = "Refused, number 11: The tag is wrong: the arrival is damaged, repeated, out of order or not meant for this session.";
 
 /// The report on the box of four letters.
 #[test]
@@ -160,11 +159,19 @@ fn damaged_letters() {
     for place in [10, 60, whole.len() - 17, whole.len() - 16, whole.len() - 1] {
         old.folder.write("damaged", &old.damaged(2, place));
         let (report, said) = old.stops(21, "damaged 2 3");
-        assert!(report.contains("  REFUSED, 11    damaged\n") && said.contains(" Letter 2, 2, belongs here. "), "{said}");
+        assert!(
+            report.contains("  REFUSED, 11    damaged\n") && said.contains(" Letter 2, 2, belongs here. "),
+            "{said}"
+        );
     }
-    for (header, status) in
-        [("F,5,100,0,", 21), ("F,5,1,99,", 21), ("F,5,0,99,", 21), ("F,5,0,101,", 12), ("F,05,0,100,", 11), ("F,6,0,100,", 6)]
-    {
+    for (header, status) in [
+        ("F,5,100,0,", 21),
+        ("F,5,1,99,", 21),
+        ("F,5,0,99,", 21),
+        ("F,5,0,101,", 12),
+        ("F,05,0,100,", 11),
+        ("F,6,0,100,", 6),
+    ] {
         old.folder.write("damaged", &[header.as_bytes(), &whole[10..]].concat());
         let (_, said) = old.stops(status, "damaged");
         assert!(said.starts_with("pevghazo: Stopped at letter 1 of ") && said.contains(", damaged. "), "{said}");
@@ -214,7 +221,10 @@ fn a_file_with_several_letters() {
     ] {
         assert!(report.contains(&line), "{line}{report}");
     }
-    assert!(said.starts_with(&format!("pevghazo: Stopped at letter 5 of 5, last from byte {}. ", four.len())), "{said}");
+    assert!(
+        said.starts_with(&format!("pevghazo: Stopped at letter 5 of 5, last from byte {}. ", four.len())),
+        "{said}"
+    );
     old.holds("box box box last");
 }
 
@@ -333,7 +343,10 @@ fn sessions_that_take_no_letter() {
     let old = OldBox::of_four();
     old.folder.forge("old", PLACE + 96, &u32::to_le_bytes(1_048_576));
     let (_, said) = old.stops(19, "1 2");
-    assert!(said.starts_with("pevghazo: Stopped at letter 1 of 2, 1. Refused, number 9: The session is full"), "{said}");
+    assert!(
+        said.starts_with("pevghazo: Stopped at letter 1 of 2, 1. Refused, number 9: The session is full"),
+        "{said}"
+    );
     old.folder.forge("old", PLACE, &[0; SESSION]);
     old.stops(15, "1 2");
     assert!(old.folder.done("sae show --state old").starts_with("group  5: closed, index       0, "));

@@ -60,7 +60,8 @@ fn every_step_of_opening_a_box() {
     let old = OldBox::of_four();
     let undisturbed = old.folder.copy();
     let log = undisturbed.run_with("log", &format!("{OPEN} 1 2 3 4")).said;
-    let steps: Vec<&str> = log.lines().filter_map(|line| line.strip_prefix("step ")?.split_once(": ")).map(|step| step.1).collect();
+    let steps: Vec<&str> =
+        log.lines().filter_map(|line| line.strip_prefix("step ")?.split_once(": ")).map(|step| step.1).collect();
     // Two of the four letters have metadata.
     assert_eq!(steps.iter().filter(|step| **step == "link the output").count(), 6);
     assert_eq!(steps.iter().filter(|step| **step == "rename").count(), 4);
@@ -100,7 +101,10 @@ fn killed_at_any_moment_every_letter_is_opened_once() {
         }
         old.holds(&files);
         let report = old.opens(&files);
-        assert!(report.ends_with("\nopened 0, opened before 20, not opened 0, not tried 0 of 20 letters\n"), "{report}");
+        assert!(
+            report.ends_with("\nopened 0, opened before 20, not opened 0, not tried 0 of 20 letters\n"),
+            "{report}"
+        );
     }
     assert!(killed > 5, "{killed} kills");
 }

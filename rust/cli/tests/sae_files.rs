@@ -21,7 +21,10 @@ fn files_that_are_there_already() {
         let (report, said) = old.stops(4, "1 2 3 4");
         assert!(report.contains(&format!("  STOPPED        {stop}\n")), "{report}");
         let sentence = format!("/out/{name} already: remove it or choose another output. Letters opened: ");
-        assert!(said.starts_with(&format!("pevghazo: Stopped at letter {stop} of 4, {stop}. There is a file ")), "{said}");
+        assert!(
+            said.starts_with(&format!("pevghazo: Stopped at letter {stop} of 4, {stop}. There is a file ")),
+            "{said}"
+        );
         assert!(said.contains(&sentence), "{said}");
         assert_eq!(old.folder.read(&format!("out/{name}")), Some(b"something else".to_vec()));
         fs::remove_file(old.folder.0.join("out").join(name)).unwrap();
@@ -29,7 +32,8 @@ fn files_that_are_there_already() {
     old.opens("1 2 3 4");
     old.holds("1 2 3 4");
     // Read again from the start, into the same folder: all files have the right bytes, and are left as they are.
-    let numbers = || old.folder.names_in("out").iter().map(|name| inode(&old.folder, &format!("out/{name}"))).collect::<Vec<_>>();
+    let numbers =
+        || old.folder.names_in("out").iter().map(|name| inode(&old.folder, &format!("out/{name}"))).collect::<Vec<_>>();
     let before = numbers();
     old.folder.done(&format!("{START} old --replace"));
     assert!(old.opens("1 2 3 4").ends_with("\nopened 4, opened before 0, not opened 0, not tried 0 of 4 letters\n"));
@@ -161,7 +165,11 @@ fn a_report_that_cannot_be_printed() {
     let run = full("1 2");
     assert_eq!(run.status, 4, "{}", run.said);
     let same = " The letters were opened all the same: the same command reports them as opened before.\n";
-    assert!(run.said.starts_with("pevghazo: Could not write to standard output: ") && run.said.ends_with(same), "{}", run.said);
+    assert!(
+        run.said.starts_with("pevghazo: Could not write to standard output: ") && run.said.ends_with(same),
+        "{}",
+        run.said
+    );
     old.holds("1 2");
     let run = full("1 2");
     assert!(run.status == 4 && !run.said.contains("all the same"), "{}", run.said);

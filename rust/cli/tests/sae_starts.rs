@@ -186,14 +186,14 @@ fn state_files_of_other_kinds() {
     for (state, is) in
         [("office", "the office's"), ("group", "a group's"), ("sane", "a SANE session's"), ("pool", "a pool's")]
     {
-        for line in
-            ["show", "open text --out-dir out", "seal", "start --group 5 --key old-key --counter 41 --replace"]
+        for line in ["show", "open text --out-dir out", "seal", "start --group 5 --key old-key --counter 41 --replace"]
         {
             let said = folder.fails(3, &format!("sae {line} --state {state}"));
             assert!(said.ends_with(&format!(" cannot be used: it is {is} and not that of old letters.\n")), "{said}");
         }
         let group = if state == "office" { " --group 5" } else { "" };
-        let line = if state == "pool" { "show".to_string() } else { format!("seal --message text --out sealed{group}") };
+        let line =
+            if state == "pool" { "show".to_string() } else { format!("seal --message text --out sealed{group}") };
         let said = folder.fails(3, &format!("{state} {line} --state old"));
         assert!(said.ends_with(&format!(" cannot be used: it is that of old letters and not {is}.\n")), "{said}");
     }

@@ -82,9 +82,8 @@ pub fn group(arguments: &Arguments, out: &mut dyn Write) -> Result<(), Failure> 
 /// Shows a session in SANE, and how it was started.
 pub fn sane(arguments: &Arguments, out: &mut dyn Write) -> Result<(), Failure> {
     let line = |starts: &Starts| format!("mode SANE, {}\n", start_line(starts.last()));
-    let members = |starts: &Starts| {
-        format!(r#""keys":{},"mode":"sane",{}"#, starts.keys(), start_members(starts.last()))
-    };
+    let members =
+        |starts: &Starts| format!(r#""keys":{},"mode":"sane",{}"#, starts.keys(), start_members(starts.last()));
     lone::<SaneSession>(arguments, out, line, members)
 }
 
@@ -98,7 +97,10 @@ pub fn sae(arguments: &Arguments, out: &mut dyn Write) -> Result<(), Failure> {
         format!("{{\"commit\":{},\"mode\":\"sae\",{},{session}}}\n", used.generation(), start_members(*start))
     } else {
         let open = if is_open { "open" } else { "closed" };
-        format!("group {group:2}: {open}, index {index:7}, letters opened {letters}\nmode SAE, {}\n", start_line(*start))
+        format!(
+            "group {group:2}: {open}, index {index:7}, letters opened {letters}\nmode SAE, {}\n",
+            start_line(*start)
+        )
     };
     print(out, &text)
 }

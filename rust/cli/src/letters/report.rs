@@ -150,8 +150,12 @@ mod tests {
             letter("box/1", 42, b""),
             letter("box/line\nfeed", 0, bytes),
         ];
-        let fates =
-            [Fate::Opened("0001-1.message".into()), Fate::Before, Fate::Stopped(Some(Number::BadHeader)), Fate::NotTried];
+        let fates = [
+            Fate::Opened("0001-1.message".into()),
+            Fate::Before,
+            Fate::Stopped(Some(Number::BadHeader)),
+            Fate::NotTried,
+        ];
         Report { letters: &letters, fates: &fates }.text(format)
     }
 

@@ -55,7 +55,9 @@ impl fmt::Display for Next {
     fn fmt(&self, f: &mut fmt::Formatter<'_>) -> fmt::Result {
         match self {
             Next::Later(place, letter) => write!(f, "Letter {place}, {letter}, belongs here."),
-            Next::Missing => f.write_str("No later letter of the box belongs here: one is missing, or this one is damaged."),
+            Next::Missing => {
+                f.write_str("No later letter of the box belongs here: one is missing, or this one is damaged.")
+            }
             Next::NoneYet => f.write_str(NONE_YET),
         }
     }
@@ -83,10 +85,7 @@ mod tests {
         for (next, sentence) in [
             (None, ""),
             (Some(Next::Later(5, "box/5".to_string())), " Letter 5, box/5, belongs here."),
-            (
-                Some(Next::Missing),
-                " No later letter of the box belongs here: one is missing, or this one is damaged.",
-            ),
+            (Some(Next::Missing), " No later letter of the box belongs here: one is missing, or this one is damaged."),
             (
                 Some(Next::NoneYet),
                 " No letter of the box belongs here as the first one: it is missing or damaged, or key and nonce are not \
