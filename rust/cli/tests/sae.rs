@@ -19,11 +19,11 @@ fn a_box_in_its_order() {
     let old = OldBox::of_four();
     let report = old.opens("1 2 3 4");
     let expected = "\
-letter group metadata message  result         file
-     1     5        6      11  opened         1 to 0001-1.message
-     2     5        0     100  opened         2 to 0002-2.message
-     3     5       48       0  opened         3 to 0003-3.message
-     4     5        0       0  opened         4 to 0004-4.message
+letter group metadata message  result         place  file
+     1     5        6      11  opened             1  1 to 0001-1.message
+     2     5        0     100  opened             2  2 to 0002-2.message
+     3     5       48       0  opened             3  3 to 0003-3.message
+     4     5        0       0  opened             4  4 to 0004-4.message
 opened 4, opened before 0, not opened 0, not tried 0 of 4 letters
 ";
     assert_eq!(report, expected);
@@ -47,7 +47,10 @@ fn letters_of_all_lengths() {
     let files: Vec<String> = (1..=lengths.len()).map(|place| place.to_string()).collect();
     let report = old.opens(&files.join(" "));
     for (place, (a, m)) in (1..).zip(&lengths) {
-        assert!(report.contains(&format!("\n{place:6}     5 {a:8} {m:7}  opened         {place} to ")), "{report}");
+        assert!(
+            report.contains(&format!("\n{place:6}     5 {a:8} {m:7}  opened         {place:5}  {place} to ")),
+            "{report}"
+        );
     }
     old.holds(&files.join(" "));
     let shown = old.folder.done("sae show --state old");
@@ -94,11 +97,11 @@ fn an_order_that_is_mended() {
     let old = OldBox::of_four();
     let (report, said) = old.stops(21, "1 3 2 4");
     let expected = "\
-letter group metadata message  result         file
-     1     5        6      11  opened         1 to 0001-1.message
-     2     5       48       0  REFUSED, 11    3
-     3     5        0     100  not tried      2
-     4     5        0       0  not tried      4
+letter group metadata message  result         place  file
+     1     5        6      11  opened             1  1 to 0001-1.message
+     2     5       48       0  REFUSED, 11        -  3
+     3     5        0     100  not tried          -  2
+     4     5        0       0  not tried          -  4
 opened 1, opened before 0, not opened 1, not tried 2 of 4 letters
 ";
     assert_eq!(report, expected);
@@ -160,7 +163,7 @@ fn damaged_letters() {
         old.folder.write("damaged", &old.damaged(2, place));
         let (report, said) = old.stops(21, "damaged 2 3");
         assert!(
-            report.contains("  REFUSED, 11    damaged\n") && said.contains(" Letter 2, 2, belongs here. "),
+            report.contains("  REFUSED, 11        -  damaged\n") && said.contains(" Letter 2, 2, belongs here. "),
             "{said}"
         );
     }
@@ -190,16 +193,19 @@ fn letters_that_were_opened_are_known_by_their_bytes() {
     let report = old.opens("2 1 2");
     assert!(report.ends_with("\nopened 0, opened before 3, not opened 0, not tried 0 of 3 letters\n"), "{report}");
     old.folder.write("copy", &old.letters[0].bytes);
-    assert!(old.opens("copy 3").contains("  opened before  copy\n"));
+    assert!(old.opens("copy 3").contains("  opened before      1  copy\n"));
     for place in 0..old.letters[0].bytes.len() {
         old.folder.write("1", &old.damaged(1, place));
         let (report, said) = old.stops(old.open("1").status, "1 4");
-        assert!(!report.contains("opened before  1") && said.contains(" Opened before: 0. "), "{place}: {report}");
+        assert!(!report.contains("  opened before  ") && said.contains(" Opened before: 0. "), "{place}: {report}");
     }
     old.holds("1 2 3");
     // One file twice in a box.
     let report = old.opens("4 4");
-    assert!(report.contains("  opened         4 to ") && report.contains("  opened before  4\n"), "{report}");
+    assert!(
+        report.contains("  opened             4  4 to ") && report.contains("  opened before      4  4\n"),
+        "{report}"
+    );
 }
 
 /// A file may hold several letters. Bytes behind the last one are told with their place.
@@ -212,11 +218,14 @@ fn a_file_with_several_letters() {
     old.folder.write("last", &[four, b"\n"].concat());
     let (report, said) = old.stops(11, "box last");
     for line in [
-        "     1     5        6      11  opened         box to 0001-box.message\n".to_string(),
-        format!("     2     5        0     100  opened         box from byte {} to 0002-box.message\n", one.len()),
-        format!("     3     5       48       0  opened         box from byte {from} to 0003-box.message\n"),
-        "     4     5        0       0  opened         last to 0004-last.message\n".to_string(),
-        format!("     5     -        -       -  REFUSED, 1     last from byte {}\n", four.len()),
+        "     1     5        6      11  opened             1  box to 0001-box.message\n".to_string(),
+        format!(
+            "     2     5        0     100  opened             2  box from byte {} to 0002-box.message\n",
+            one.len()
+        ),
+        format!("     3     5       48       0  opened             3  box from byte {from} to 0003-box.message\n"),
+        "     4     5        0       0  opened             4  last to 0004-last.message\n".to_string(),
+        format!("     5     -        -       -  REFUSED, 1         -  last from byte {}\n", four.len()),
         "opened 4, opened before 0, not opened 1, not tried 0 of 5 letters\n".to_string(),
     ] {
         assert!(report.contains(&line), "{line}{report}");
@@ -243,7 +252,7 @@ fn boxes_that_are_none() {
     old.holds("");
     old.folder.write("empty", b"");
     let (report, said) = old.stops(11, "1 empty 2");
-    assert!(report.contains("  REFUSED, 1     empty\n"), "{report}");
+    assert!(report.contains("  REFUSED, 1         -  empty\n"), "{report}");
     assert!(said.starts_with("pevghazo: Stopped at letter 2 of 3, empty. Refused, number 1: "), "{said}");
     old.holds("1");
     old.folder.write("cut", &old.letters[1].bytes[..40]);
@@ -273,7 +282,7 @@ fn envelopes_that_do_not_belong_in_the_box() {
         ("other", "This is for group 6, and the state file is that of group 5.".to_string()),
     ] {
         let (report, said) = old.stops(6, &format!("{file} 1"));
-        assert!(report.contains(&format!("  STOPPED        {file}\n")), "{report}");
+        assert!(report.contains(&format!("  STOPPED            -  {file}\n")), "{report}");
         let counts = "Letters opened: 0. Opened before: 0. Not tried: 1.";
         assert_eq!(said, format!("pevghazo: Stopped at letter 1 of 2, {file}. {sentence} {counts}\n"));
     }

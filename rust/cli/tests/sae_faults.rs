@@ -45,7 +45,7 @@ fn disturbed(old: &OldBox, fault: &str, n: usize, step: &str, undisturbed: &Fold
         assert!(run.said.contains(&format!("step {n} was made to fail")), "{at}: {}", run.said);
         // Before the first letter nothing is reported; then all is as it was said.
         let stopped = run.said.contains("Stopped at letter ");
-        assert!(stopped == !run.printed.is_empty() && (stopped || opened == 0), "{at}: {}", run.said);
+        assert!(stopped != run.printed.is_empty() && (stopped || opened == 0), "{at}: {}", run.said);
         assert!(!stopped || run.said.contains(&format!(" Letters opened: {opened}. ")), "{at}: {}", run.said);
     }
     folder.done(&line);

@@ -19,7 +19,7 @@ fn files_that_are_there_already() {
     }
     for (stop, name) in [("2", "0002-2.message"), ("3", "0003-3.metadata")] {
         let (report, said) = old.stops(4, "1 2 3 4");
-        assert!(report.contains(&format!("  STOPPED        {stop}\n")), "{report}");
+        assert!(report.contains(&format!("  STOPPED            -  {stop}\n")), "{report}");
         let sentence = format!("/out/{name} already: remove it or choose another output. Letters opened: ");
         assert!(
             said.starts_with(&format!("pevghazo: Stopped at letter {stop} of 4, {stop}. There is a file ")),
@@ -107,11 +107,11 @@ fn odd_names() {
     let run = Run::of(command);
     let long = "x".repeat(255);
     let expected = format!(
-        "letter,file,from,group,metadata,message,result,number,output\n\
-         1,line\\nfeed,0,5,6,11,opened,,0001-line\\nfeed.message\n\
-         2,b\u{fffd}d,0,5,0,100,opened,,0002-b\u{fffd}d.message\n\
-         3,{long},0,5,48,0,opened,,0003-{}.message\n\
-         4,\"a, \"\"b\"\" c\",0,5,0,0,opened,,\"0004-a, \"\"b\"\" c.message\"\n",
+        "letter,file,from,group,metadata,message,result,number,place,output\n\
+         1,line\\nfeed,0,5,6,11,opened,,1,0001-line\\nfeed.message\n\
+         2,b\u{fffd}d,0,5,0,100,opened,,2,0002-b\u{fffd}d.message\n\
+         3,{long},0,5,48,0,opened,,3,0003-{}.message\n\
+         4,\"a, \"\"b\"\" c\",0,5,0,0,opened,,4,\"0004-a, \"\"b\"\" c.message\"\n",
         &long[..200]
     );
     assert_eq!((run.status, String::from_utf8(run.printed).unwrap()), (0, expected), "{}", run.said);
@@ -141,13 +141,13 @@ fn the_report_as_a_table() {
         let run = old.folder.run(&format!("{OPEN} --format csv {files}"));
         (run.status, String::from_utf8(run.printed).unwrap())
     };
-    let head = "letter,file,from,group,metadata,message,result,number,output\n";
-    let first = "1,1,0,5,6,11,opened,,0001-1.message\n";
-    let refused = "2,3,0,5,48,0,refused,11,\n3,2,0,5,0,100,not-tried,,\n";
+    let head = "letter,file,from,group,metadata,message,result,number,place,output\n";
+    let first = "1,1,0,5,6,11,opened,,1,0001-1.message\n";
+    let refused = "2,3,0,5,48,0,refused,11,,\n3,2,0,5,0,100,not-tried,,,\n";
     assert_eq!(table("1 3 2"), (21, format!("{head}{first}{refused}")));
     old.folder.write("S", b"S,5,0,0,01234567890123456789012345678901");
-    let before = first.replace("opened,,0001-1.message", "opened-before,,");
-    assert_eq!(table("1 S"), (6, format!("{head}{before}2,S,0,5,0,0,stopped,,\n")));
+    let before = first.replace("opened,,1,0001-1.message", "opened-before,,1,");
+    assert_eq!(table("1 S"), (6, format!("{head}{before}2,S,0,5,0,0,stopped,,,\n")));
     assert_eq!(old.opens("--format text 1"), old.opens("1"));
     let said = old.folder.fails(2, &format!("{OPEN} --format html 1"));
     assert_eq!(said, "pevghazo: The option --format needs one of these words: text, csv.\n");

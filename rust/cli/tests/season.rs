@@ -238,8 +238,8 @@ fn demo_of_old_letters(shown: &str) {
     for text in [
         "      Stopped at letter 2 of 3, 3.env. Refused, number 11: ",
         " Letter 3, 2.env, belongs here. Letters opened: 1. Opened before: 0. Not tried: 1.\n",
-        "       1     4        5      18  opened before  1.env\n",
-        "       2     4        6      18  opened         2.env to 0002-2.env.message\n",
+        "       1     4        5      18  opened before      1  1.env\n",
+        "       2     4        6      18  opened             2  2.env to 0002-2.env.message\n",
         "  0001-1.env.message: \"S 10001 to S 10100\"\n",
         "  0002-2.env.message: \"S 10088 to S 10100\"\n",
         "  0003-3.env.message: \"S 10101 to S 10200\"\n",

@@ -66,7 +66,7 @@ fn open_all(
 /// What becomes of a letter, and why the opening stops there, if it does. One whose commit the disk did not confirm is opened all the same.
 fn open_and_commit(used: &mut Used<Sae>, letter: &Letter, folder: &Path) -> (Fate, Option<Failure>) {
     let fate = match open_one(&mut used.state, letter, folder) {
-        Ok(Fate::Before) => return (Fate::Before, None),
+        Ok(before @ Fate::Before(_)) => return (before, None),
         Ok(fate) => fate,
         Err(failure) => return (Fate::Stopped(failure.number()), Some(failure)),
     };
@@ -81,14 +81,15 @@ fn open_and_commit(used: &mut Used<Sae>, letter: &Letter, folder: &Path) -> (Fat
 fn open_one(state: &mut Sae, letter: &Letter, folder: &Path) -> Result<Fate, Failure> {
     let envelope = letter.content?;
     let fingerprint = state.opened.fingerprint(&envelope)?;
-    if state.opened.has(&fingerprint) {
-        return Ok(Fate::Before);
+    if let Some(place) = state.opened.place(&fingerprint) {
+        return Ok(Fate::Before(place));
     }
     state.takes_letter(&envelope)?;
     let opened = open_letter(&mut state.session, &envelope);
     let message = opened.map_err(|refusal| Failure::Refused(refusal, Mode::F))?;
+    let place = state.opened.count() + 1;
     let name = |ending: &str| {
-        let mut name = letter.output(state.opened.count() + 1);
+        let mut name = letter.output(place);
         name.push(ending);
         name
     };
@@ -98,7 +99,7 @@ fn open_one(state: &mut Sae, letter: &Letter, folder: &Path) -> Result<Fate, Fai
     let name = name(".message");
     write_file(&folder.join(&name), &message, Time::Again)?;
     state.opened.add(fingerprint);
-    Ok(Fate::Opened(name))
+    Ok(Fate::Opened(place, name))
 }
 
 /// Which letter belongs at a place of the box, where the one there has a wrong tag.

@@ -40,12 +40,12 @@ impl Opened {
         fingerprint_of(&self.key, &[&ends, letter.metadata, letter.cryptogram])
     }
 
-    /// Whether the letter with this fingerprint was opened.
-    pub fn has(&self, fingerprint: &Fingerprint) -> bool {
-        self.letters.contains(fingerprint)
+    /// The place in its session, from 1 on, of the letter with this fingerprint, if it was opened.
+    pub fn place(&self, fingerprint: &Fingerprint) -> Option<usize> {
+        self.letters.iter().position(|known| known == fingerprint).map(|place| place + 1)
     }
 
-    /// Notes the letter with this fingerprint.
+    /// Notes the letter with this fingerprint as the next one.
     pub fn add(&mut self, fingerprint: Fingerprint) {
         self.letters.push(fingerprint);
     }
@@ -82,15 +82,18 @@ mod tests {
     fn letters_are_told_apart() {
         let mut opened = Opened::none(&[7; 16]).unwrap();
         let own = fingerprint(&opened, LETTER);
-        assert_eq!((own, opened.has(&own), opened.count()), (fingerprint(&opened, LETTER), false, 0));
-        opened.add(own);
-        assert_eq!((opened.has(&own), opened.count()), (true, 1));
+        assert_eq!((own, opened.place(&own), opened.count()), (fingerprint(&opened, LETTER), None, 0));
+        let [first, last] = [b"F,5,0,0,the first letter", b"F,6,0,0,the first letter"];
+        for letter in [&first[..], LETTER, last] {
+            opened.add(fingerprint(&opened, letter));
+        }
+        assert_eq!((opened.place(&own), opened.count()), (Some(2), 3));
         let mut told_apart = 0;
         for bit in 0..8 * LETTER.len() {
             let mut other = LETTER.to_vec();
             other[bit / 8] ^= 1 << (bit % 8);
             if let Ok(other) = envelope::read(&other) {
-                assert!(!opened.has(&opened.fingerprint(&other).unwrap()), "bit {bit}");
+                assert_eq!(opened.place(&opened.fingerprint(&other).unwrap()), None, "bit {bit}");
                 told_apart += 1;
             }
         }

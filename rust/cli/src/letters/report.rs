@@ -12,10 +12,10 @@ use super::Letter;
 /// What became of a letter.
 #[derive(Debug, PartialEq, Eq)]
 pub enum Fate {
-    /// It was opened, and its message is in the file of this name.
-    Opened(OsString),
-    /// It was opened in an earlier run, or earlier in this one.
-    Before,
+    /// It was opened, at this place in its session, and its message is in the file of this name.
+    Opened(usize, OsString),
+    /// It was opened in an earlier run, or earlier in this one, at this place in its session.
+    Before(usize),
     /// The opening stopped here, with the number of a refusal, or for another reason.
     Stopped(Option<Number>),
     /// The opening had stopped before.
@@ -26,8 +26,8 @@ impl Fate {
     /// For people.
     fn words(&self) -> String {
         match self {
-            Fate::Opened(_) => "opened".to_string(),
-            Fate::Before => "opened before".to_string(),
+            Fate::Opened(..) => "opened".to_string(),
+            Fate::Before(_) => "opened before".to_string(),
             Fate::Stopped(Some(number)) => format!("REFUSED, {}", number.number()),
             Fate::Stopped(None) => "STOPPED".to_string(),
             Fate::NotTried => "not tried".to_string(),
@@ -37,8 +37,8 @@ impl Fate {
     /// For scripts: one word, and the number of a refusal.
     fn fields(&self) -> (&'static str, String) {
         match self {
-            Fate::Opened(_) => ("opened", String::new()),
-            Fate::Before => ("opened-before", String::new()),
+            Fate::Opened(..) => ("opened", String::new()),
+            Fate::Before(_) => ("opened-before", String::new()),
             Fate::Stopped(Some(number)) => ("refused", number.number().to_string()),
             Fate::Stopped(None) => ("stopped", String::new()),
             Fate::NotTried => ("not-tried", String::new()),
@@ -48,8 +48,16 @@ impl Fate {
     /// The name of the message's file, if it is known.
     fn output(&self) -> String {
         match self {
-            Fate::Opened(name) => shown(Path::new(name)),
+            Fate::Opened(_, name) => shown(Path::new(name)),
             _ => String::new(),
+        }
+    }
+
+    /// The letter's place in its session, if it was opened.
+    fn place(&self) -> Option<String> {
+        match self {
+            Fate::Opened(place, _) | Fate::Before(place) => Some(place.to_string()),
+            _ => None,
         }
     }
 }
@@ -75,24 +83,24 @@ impl Report<'_> {
 
     /// How many were opened, and how many had been before.
     pub fn opened(&self) -> [usize; 2] {
-        [self.count(|fate| matches!(fate, Fate::Opened(_))), self.count(|fate| *fate == Fate::Before)]
+        [self.count(|fate| matches!(fate, Fate::Opened(..))), self.count(|fate| matches!(fate, Fate::Before(_)))]
     }
 
     /// The letters with their places in the box, from 1 on, and their fates.
     fn rows(&self) -> impl Iterator<Item = (usize, &Letter<'_>, &Fate)> {
-        (1..).zip(self.letters.iter().zip(self.fates)).map(|(place, (letter, fate))| (place, letter, fate))
+        (1..).zip(self.letters.iter().zip(self.fates)).map(|(letter_at, (letter, fate))| (letter_at, letter, fate))
     }
 
     /// For people: a line for each letter, and one for all together. Names of files, which have any length, stand last.
     fn lines(&self) -> String {
-        let mut text = String::from("letter group metadata message  result         file\n");
-        for (place, letter, fate) in self.rows() {
+        let mut text = String::from("letter group metadata message  result         place  file\n");
+        for (letter_at, letter, fate) in self.rows() {
             let [group, metadata, message] = numbers(letter).map(|number| number.unwrap_or("-".to_string()));
-            let words = fate.words();
+            let (words, place) = (fate.words(), fate.place().unwrap_or("-".to_string()));
             let output = fate.output();
             let to = if output.is_empty() { output } else { format!(" to {output}") };
-            let file = letter.place();
-            let _ = writeln!(text, "{place:6} {group:>5} {metadata:>8} {message:>7}  {words:14} {file}{to}");
+            let _ = write!(text, "{letter_at:6} {group:>5} {metadata:>8} {message:>7}  {words:14} {place:>5}  ");
+            let _ = writeln!(text, "{}{to}", letter.place());
         }
         let [opened, before] = self.opened();
         let stopped = self.count(|fate| matches!(fate, Fate::Stopped(_)));
@@ -107,12 +115,14 @@ impl Report<'_> {
     /// A table with commas. A field with commas or quotes is in quotes; lines end with a line feed alone. It has no line for all
     /// together, which would be one more letter to a script.
     fn csv(&self) -> String {
-        let mut text = String::from("letter,file,from,group,metadata,message,result,number,output\n");
-        for (place, letter, fate) in self.rows() {
+        let mut text = String::from("letter,file,from,group,metadata,message,result,number,place,output\n");
+        for (letter_at, letter, fate) in self.rows() {
             let [group, metadata, message] = numbers(letter).map(Option::unwrap_or_default);
             let (file, from) = (field(&shown(letter.file)), letter.from);
-            let ((result, number), output) = (fate.fields(), field(&fate.output()));
-            let _ = writeln!(text, "{place},{file},{from},{group},{metadata},{message},{result},{number},{output}");
+            let (result, number) = fate.fields();
+            let (place, output) = (fate.place().unwrap_or_default(), field(&fate.output()));
+            let _ = write!(text, "{letter_at},{file},{from},{group},{metadata},{message},");
+            let _ = writeln!(text, "{result},{number},{place},{output}");
         }
         text
     }
@@ -150,23 +160,19 @@ mod tests {
             letter("box/1", 42, b""),
             letter("box/line\nfeed", 0, bytes),
         ];
-        let fates = [
-            Fate::Opened("0001-1.message".into()),
-            Fate::Before,
-            Fate::Stopped(Some(Number::BadHeader)),
-            Fate::NotTried,
-        ];
+        let stopped = Fate::Stopped(Some(Number::BadHeader));
+        let fates = [Fate::Opened(1_204, "1204-1.message".into()), Fate::Before(7), stopped, Fate::NotTried];
         Report { letters: &letters, fates: &fates }.text(format)
     }
 
     #[test]
     fn lines_have_columns() {
         let expected = "\
-letter group metadata message  result         file
-     1     5        6      11  opened         box/1 to 0001-1.message
-     2     5        6      11  opened before  box/a \"b\", c
-     3     -        -       -  REFUSED, 1     box/1 from byte 42
-     4     5        6      11  not tried      box/line\\nfeed
+letter group metadata message  result         place  file
+     1     5        6      11  opened          1204  box/1 to 1204-1.message
+     2     5        6      11  opened before      7  box/a \"b\", c
+     3     -        -       -  REFUSED, 1         -  box/1 from byte 42
+     4     5        6      11  not tried          -  box/line\\nfeed
 opened 1, opened before 1, not opened 1, not tried 1 of 4 letters
 ";
         assert_eq!(report("text"), expected);
@@ -175,11 +181,11 @@ opened 1, opened before 1, not opened 1, not tried 1 of 4 letters
     #[test]
     fn tables_have_a_head() {
         let expected = "\
-letter,file,from,group,metadata,message,result,number,output
-1,box/1,0,5,6,11,opened,,0001-1.message
-2,\"box/a \"\"b\"\", c\",0,5,6,11,opened-before,,
-3,box/1,42,,,,refused,1,
-4,box/line\\nfeed,0,5,6,11,not-tried,,
+letter,file,from,group,metadata,message,result,number,place,output
+1,box/1,0,5,6,11,opened,,1204,1204-1.message
+2,\"box/a \"\"b\"\", c\",0,5,6,11,opened-before,,7,
+3,box/1,42,,,,refused,1,,
+4,box/line\\nfeed,0,5,6,11,not-tried,,,
 ";
         assert_eq!(report("csv"), expected);
     }
