@@ -619,7 +619,7 @@ pub const COMMANDS: &[Command] = &[
         area: "sae",
         name: "seal",
         words: "",
-        about: "refused: old sessions only open letters",
+        about: "is refused, as old sessions only open letters",
         options: &[STATE, NO_MESSAGE, METADATA, METADATA_TEXT, NO_OUT, WAIT, RESTORE],
         more: ONLY_OPENED,
     },
