@@ -3,6 +3,7 @@
 
 mod common;
 
+use std::os::unix::process::ExitStatusExt;
 use std::process::Stdio;
 use std::time::Duration;
 
@@ -94,9 +95,11 @@ fn killed_at_any_moment_every_letter_is_opened_once() {
             let mut child = old.folder.command(&line).stdout(Stdio::null()).spawn().unwrap();
             std::thread::sleep(Duration::from_micros(random.below(2_500) as u64));
             child.kill().unwrap();
-            if child.wait().unwrap().success() {
+            let status = child.wait().unwrap();
+            if status.success() {
                 break;
             }
+            assert!(status.signal().is_some(), "{status}");
             killed += 1;
         }
         old.holds(&files);
