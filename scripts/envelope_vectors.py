@@ -4,8 +4,9 @@
     scripts/envelope_vectors.py            write crates/envelope_vectors/stdin and stdout
     scripts/envelope_vectors.py --check    say whether the two files are those that would be written
 
-The layout of an envelope is taken from document 01, "Envelope", and the letter N from document 02, request 2: a pattern for the header and
-Python's own numbers. Nothing here comes from the crates. A case is a record of 24 bytes, numbers in it two bytes each, lowest first:
+The layout of an envelope is taken from document 01, "Envelope", the letter N from document 02, request 2, and the letter F, which is read and never
+written, from its request 9: a pattern for the header and Python's own numbers. Nothing here comes from the crates. A case is a record of 24 bytes,
+numbers in it two bytes each, lowest first:
 
     0, h, 20 bytes, n                         read the first h of the 20 bytes, followed by the first n bytes of the string
     1, letter, group, a, c, t, room, 0 ..     write parts of the string of these lengths to a buffer, and read the buffer
@@ -18,9 +19,9 @@ import sys
 SIZE = 33000
 HERE = os.path.join(os.path.dirname(os.path.abspath(__file__)), "..", "crates", "envelope_vectors")
 STRING = bytes((j % 251 * 7 + j // 251) % 256 for j in range(SIZE))
-TAG = {"S": 32, "N": 16}
+TAG = {"S": 32, "N": 16, "F": 16}
 NUMBER = rb"(0|[1-9][0-9]*)"
-HEADER = re.compile(rb"([SN])," + NUMBER + rb"," + NUMBER + rb"," + NUMBER + rb",")
+HEADER = re.compile(rb"([SNF])," + NUMBER + rb"," + NUMBER + rb"," + NUMBER + rb",")
 
 
 def read(data):
@@ -39,6 +40,8 @@ def read(data):
 
 def write(letter, group, a, c, t, buffer):
     """Number, how many bytes were written, and the buffer afterwards."""
+    if letter == "F":
+        return 18, 0, buffer
     if letter not in TAG:
         return 1, 0, buffer
     if group > 31:
@@ -101,7 +104,7 @@ def damages(cases, head, n, values):
             cases.read(head[:i] + bytes([v]) + head[i + 1:], n)
         cases.read(head[:i] + head[i + 1:], n)
         cases.read(head[:i] + head[i:i + 1] + head[i:], n)
-        for v in b"0 +-,SN":
+        for v in b"0 +-,SNF":
             cases.read(head[:i] + bytes([v]) + head[i:], n)
 
 
@@ -117,7 +120,7 @@ def readings(cases, letter):
         cases.read(header(letter, group, 3, 4), 60)
     for a, m in [(16383, 1), (16385, 1), (1, 16385), (16390, 0), (99999, 0), (163840, 2), (2, 4294967295), (4294967296, 0)]:
         cases.read(header(letter, 4, a, m), 32999 - 20)
-    # cut at every length, past the other letter's tag
+    # cut at every length, past the longest tag
     for group, a, m in [(7, 20, 48), (31, 3, 5), (0, 0, 0)]:
         head = header(letter, group, a, m)
         for k in range(len(head)):
@@ -128,13 +131,13 @@ def readings(cases, letter):
     for v in range(256):
         cases.read(bytes([v]) + header(letter, 7, 20, 48)[1:], 68 + tag)
     # damaged at every byte of the header
-    damages(cases, header(letter, 7, 20, 48), 68 + tag, b"0123456789,./: SsNnF\0\x80\xff")
-    damages(cases, header(letter, 31, 16384, 16384), 32768 + tag, b"0123456789,./: SsN")
-    damages(cases, header(letter, 0, 0, 0), tag + 8, b"0123456789,./: SsN")
+    damages(cases, header(letter, 7, 20, 48), 68 + tag, b"0123456789,./: SsNnFf\0\x80\xff")
+    damages(cases, header(letter, 31, 16384, 16384), 32768 + tag, b"0123456789,./: SsNF")
+    damages(cases, header(letter, 0, 0, 0), tag + 8, b"0123456789,./: SsNF")
 
 
 def writings(cases, letter):
-    """Envelopes of a letter written: with room, at and past the limits, with tags of every letter's length."""
+    """Envelopes of a letter written, which F's are not: with room, at and past the limits, with tags of every letter's length."""
     tag = TAG[letter]
     for group, a, c in [(7, 20, 48), (0, 0, 0), (31, 16384, 16384), (5, 9, 100), (10, 1000, 9999)]:
         need = len(header(letter, group, a, c)) + a + c + tag
@@ -152,12 +155,12 @@ def writings(cases, letter):
 
 
 def unknown(cases):
-    """Letters that are neither S nor N: alone, and beside each of the other checks."""
-    for letter in "\0,0FMORTns\x7f\xce\xd3\xff":
+    """Letters that are neither S, N nor F: alone, and beside each of the other checks."""
+    for letter in "\0,0EGMORTfns\x7f\xc6\xce\xd3\xff":
         cases.write(letter, 7, 20, 48, 32, 33000)
         cases.write(letter, 7, 20, 48, 16, 33000)
         cases.write(letter, 7, 20, 48, 0, 33000)
-    for letter in "\0Fn":
+    for letter in "\0fn":
         for group, a, c, t, room in [(32, 1, 2, 32, 100), (7, 16385, 2, 16, 33000), (7, 1, 16385, 32, 33000), (7, 1, 2, 31, 100), (7, 1, 2, 16, 5), (32, 16385, 16385, 0, 0)]:
             cases.write(letter, group, a, c, t, room)
 
@@ -169,7 +172,7 @@ def make():
     # all printable bytes and some others, at every byte of a header
     damages(cases, header("S", 7, 20, 48), 100, list(range(32, 127)) + [0, 9, 10, 13, 127, 128, 211, 255])
     # long runs of digits
-    for head in [b"S,77777777777777777", b"S,1,000000000000000", b"N,1,2,9999999999999,", b"N,18446744073709551", b"S,00000000000000007,"]:
+    for head in [b"S,77777777777777777", b"S,1,000000000000000", b"N,1,2,9999999999999,", b"N,18446744073709551", b"F,1,9999999999999999", b"S,00000000000000007,"]:
         cases.read(head, 100)
     for letter in TAG:
         writings(cases, letter)

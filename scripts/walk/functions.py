@@ -1,7 +1,7 @@
 """The functions whose walks are written by these scripts."""
 from lent import Lent, Small, Table
 
-# ---- over a lent record: session, sane_session
+# ---- over a lent record: session, sane_session, sae_session
 
 WRAP = [('metadata', 'bytes'), ('message', 'bytes'), ('out', 'buffer'), ('tag', 'buffer')]
 UNWRAP = [('metadata', 'bytes'), ('cryptogram', 'bytes'), ('tag', 'bytes'), ('out', 'buffer')]
@@ -12,6 +12,7 @@ def session(mode, function, params, core_args, gives, says, uses):
     crate, record, result, environment = {
         'sanse': ('session', 'Session', 'CallResult', 'session·proofs.proofs'),
         'sane': ('sane_session', 'SaneSession', 'SaneResult', 'session.proofs'),
+        'sae': ('sae_session', 'SaeSession', 'SaeResult', 'session.proofs'),
     }[mode]
     return Lent(
         path=f'{crate}::{function}', core=f'{mode}::{function}', record=f'{mode}::{record}', result=f'{mode}::{result}', session=('session', 2),
@@ -44,6 +45,31 @@ def calls(mode, crate):
             for envelope in (False, True) for rule, says, params in (('wrap', 'Wrapped', WRAP), ('unwrap', 'Unwrapped', UNWRAP))]
 
 
+def nonce_start(mode, crate, parameters):
+    """Start with a nonce of a mode, whose parameters stand in a module."""
+    return session(
+        mode, 'start', [('key', 'bytes'), ('nonce', 'bytes'), ('tag', 'buffer')], ['key', 'nonce', 'tag'],
+        f'nonceResult r tag′ ≡ nonceStartAt {mode}Parameters key nonce tag',
+        'Started key nonce tag res s′ tag′',
+        f'''use Rattle.{parameters}.{{{mode}Parameters}}
+use Rattle.modes.specs.Rules.{{nonceStartAt}}
+use Rattle.{mode}.specs.Session.{{nonceResult}}
+use Rattle.{crate}.specs.Lent.{{Started}}''')
+
+
+def letter(rule, says, params, equation):
+    """Wrap or unwrap of SAE, by its rule."""
+    text, tag = ('message', 'tag′') if rule == 'wrap' else ('cryptogram', 'tag')
+    handed = f'(handed metadata {text} out tag)'
+    return session(
+        'sae', rule, params, ['s'] + [name for name, _ in params],
+        f'callResult r out′ {tag} ≡ {equation} (stateOf h) {handed}', f'{says} s {handed} res s′ out′ {tag}',
+        f'''use Rattle.modes.specs.Mode.{{incremental}}
+use Rattle.sae_mode.specs.Sae.{{saeWrapAt, saeUnwrapAt}}
+use Rattle.sae.specs.Session.{{stateOf, callResult, handed}}
+use Rattle.sae_session.specs.Lent.{{{says}}}''')
+
+
 SESSION = [
     session(
         'sanse', 'start', [('key', 'bytes')], ['key'],
@@ -53,15 +79,11 @@ SESSION = [
 use Rattle.sanse.specs.Session.{startResult}
 use Rattle.session.specs.Lent.{Started}'''),
     *calls('sanse', 'session'),
-    session(
-        'sane', 'start', [('key', 'bytes'), ('nonce', 'bytes'), ('tag', 'buffer')], ['key', 'nonce', 'tag'],
-        'nonceResult r tag′ ≡ nonceStartAt saneParameters key nonce tag',
-        'Started key nonce tag res s′ tag′',
-        '''use Rattle.modes.specs.Mode.{saneParameters}
-use Rattle.modes.specs.Rules.{nonceStartAt}
-use Rattle.sane.specs.Session.{nonceResult}
-use Rattle.sane_session.specs.Lent.{Started}'''),
+    nonce_start('sane', 'sane_session', 'modes.specs.Mode'),
     *calls('sane', 'sane_session'),
+    nonce_start('sae', 'sae_session', 'sae_mode.specs.Sae'),
+    letter('unwrap', 'Unwrapped', UNWRAP, 'saeUnwrapAt incremental'),
+    letter('wrap', 'Wrapped', WRAP, 'saeWrapAt'),
 ]
 
 # ---- over one record of a lent table: office
@@ -228,6 +250,7 @@ PASSING = (
     [f'capi::c_session::pevghazo_{function}' for function in ('start', 'wrap', 'unwrap', 'wrap_envelope', 'unwrap_envelope')]
     + ['capi::c_codes::pevghazo_code']
     + [f'capi::c_sane::pevghazo_sane_{function}' for function in ('start', 'wrap', 'unwrap', 'wrap_envelope', 'unwrap_envelope')]
+    + [f'capi::c_sae::pevghazo_sae_{function}' for function in ('start', 'unwrap', 'wrap')]
     + [f'capi::c_table::pevghazo_{function}'
        for function in ('start_day', 'open_group', 'wrap_group', 'unwrap_group', 'wrap_envelope_group', 'unwrap_envelope_group')]
     + [f'capi::c_pool::pevghazo_pool_{function}' for function in ('add', 'holds', 'rings')]

@@ -13,7 +13,7 @@ pub extern "C" fn pevghazo_read_envelope(bytes: &[u8]) -> Parts
     envelope::read_parts(bytes)
 }
 
-// Writes an envelope of a letter to the start of `out` and gives how many bytes that are. Checks 1, 3, 6, 7 and 8.
+// Writes an envelope of a letter to the start of `out` and gives how many bytes that are. Checks 18, 1, 3, 6, 7 and 8.
 #[no_mangle]
 pub extern "C" fn pevghazo_write_envelope(
     letter: u8,
@@ -29,7 +29,8 @@ pub extern "C" fn pevghazo_write_envelope(
     envelope_write::write_envelope(letter, group, metadata, cryptogram, tag, out)
 }
 
-// Writes a header alone to the start of `out`, for these lengths of metadata and message, and gives how many bytes that are. Checks 1, 3, 6 and 8.
+// Writes a header alone to the start of `out`, for these lengths of metadata and message, and gives how many bytes that are. Checks 18, 1, 3, 6
+// and 8.
 #[no_mangle]
 pub extern "C" fn pevghazo_write_header(
     letter: u8,

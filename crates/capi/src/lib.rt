@@ -2,6 +2,7 @@
 // contract. A group is a number of 32 bits here. Nothing else is exported.
 mod c_session; // a lone session
 mod c_sane; // a lone session of SANE
+mod c_sae; // a lone session of SAE, for old letters
 mod c_codes; // codes of packets
 mod c_table; // the office's table and its day
 mod c_envelope; // envelopes

@@ -1,13 +1,13 @@
--- The example of a header, `S,7,20,48,` (document 01, "Envelope"), with either letter (document 02, request 2). Assumes nothing.
+-- The example of a header, `S,7,20,48,` (document 01, "Envelope"), with each letter (document 02, requests 2 and 9). Assumes nothing.
 use Prim.Native.Nat.{ℕ, _+_, _<_, _≤_}
 use mathlib.Core.Path.{_≡_, refl, sym, ap, _∙_}
 use mathlib.Core.List.{List, [], _∷_, _++_}
 use native.Mathlib.Omega.{arith}
 use lib.ListN.{length}
 use Rattle.decimal.specs.Decimal.{decimal, decimalWithin}
-use Rattle.envelope.specs.Layout.{letterS, letterN, tagLength, field, header, Begins}
+use Rattle.envelope.specs.Layout.{letterS, letterN, letterF, tagLength, field, header, Begins}
 use Rattle.envelope.specs.Read.{anEnvelope, answerOf, readEnvelope}
-use Rattle.envelope.proofs.Layouts.{tag-of-S, tag-of-N}
+use Rattle.envelope.proofs.Layouts.{tag-of-S, tag-of-N, tag-of-F}
 use Rattle.envelope.proofs.Reading.{parts-few, parts-whole}
 
 -- a letter and `,7,20,48,`
@@ -40,9 +40,12 @@ example-needs letter t is known body =
           ∙ ap (λ (k : ℕ). anEnvelope letter 7 (10 + (20 + 48 + k))) is),
     )
 
--- `S,7,20,48,` needs 100 bytes after it, and `N,7,20,48,` 84.
+-- `S,7,20,48,` needs 100 bytes after it, `N,7,20,48,` and `F,7,20,48,` 84.
 pub example-S : ExampleNeeds letterS 100
 example-S = example-needs letterS 32 tag-of-S (λ z. omega arith)
 
 pub example-N : ExampleNeeds letterN 84
 example-N = example-needs letterN 16 tag-of-N (λ z. omega arith)
+
+pub example-F : ExampleNeeds letterF 84
+example-F = example-needs letterF 16 tag-of-F (λ z. omega arith)

@@ -10,7 +10,7 @@ use lib.Dec.{eqb}
 use borrow.Author.Tests.{eqb-true}
 use Rattle.decimal.specs.Decimal.{decimal, decimalWithin}
 use Rattle.decimal.proofs.Laws.{decimal-within}
-use Rattle.envelope.specs.Layout.{letterS, letterN, comma, tagLength, Known, field, header, envelope, InRange}
+use Rattle.envelope.specs.Layout.{letterS, letterN, letterF, comma, tagLength, Known, field, header, envelope, InRange}
 
 pub field-length : (n : ℕ) → length (field n) ≡ length (decimal n) + 1
 unfolding field
@@ -38,7 +38,7 @@ pub header-then : (letter group alen mlen : ℕ) (rest : List ℕ)
 unfolding header field
 header-then letter group alen mlen rest = simp append-assoc
 
--- a tag of S has 32 bytes, one of N 16
+-- a tag of S has 32 bytes, one of N or F 16
 pub tag-of-S : tagLength letterS ≡ 32
 unfolding tagLength
 tag-of-S = refl
@@ -47,37 +47,47 @@ pub tag-of-N : tagLength letterN ≡ 16
 unfolding tagLength
 tag-of-N = refl
 
--- so both are letters of an envelope
+pub tag-of-F : tagLength letterF ≡ 16
+unfolding tagLength
+tag-of-F = refl
+
+-- so all three are letters of an envelope
 pub known-S : Known letterS
 known-S z = omega (arith, tag-of-S)
 
 pub known-N : Known letterN
 known-N z = omega (arith, tag-of-N)
 
--- a byte is S, or N, or has no tag
+pub known-F : Known letterF
+known-F z = omega (arith, tag-of-F)
+
+-- a byte is S, or N, or F, or has no tag
 abbrev LetterCases : ℕ → Type 0
-LetterCases letter = (letter ≡ letterS) ⊎ ((letter ≡ letterN) ⊎ (tagLength letter ≡ 0))
+LetterCases letter = (letter ≡ letterS) ⊎ ((letter ≡ letterN) ⊎ ((letter ≡ letterF) ⊎ (tagLength letter ≡ 0)))
 
 letter-cases : (letter : ℕ) → LetterCases letter
 unfolding tagLength
-letter-cases letter = go (eqb letter letterS) (eqb letter letterN) refl refl
+letter-cases letter = go (eqb letter letterS) (eqb letter letterN) (eqb letter letterF) refl refl refl
   where
-    go : (s n : Bool) → eqb letter letterS ≡ s → eqb letter letterN ≡ n → LetterCases letter
-    go true n e f = inl (eqb-true letter letterS e)
-    go false true e f = inr (inl (eqb-true letter letterN f))
-    go false false e f = inr (inr (simp (e, f)))
+    go : (s n f : Bool) → eqb letter letterS ≡ s → eqb letter letterN ≡ n → eqb letter letterF ≡ f → LetterCases letter
+    go true n f e₁ e₂ e₃ = inl (eqb-true letter letterS e₁)
+    go false true f e₁ e₂ e₃ = inr (inl (eqb-true letter letterN e₂))
+    go false false true e₁ e₂ e₃ = inr (inr (inl (eqb-true letter letterF e₃)))
+    go false false false e₁ e₂ e₃ = inr (inr (inr (simp (e₁, e₂, e₃))))
 
--- The letters are S and N: a byte is unknown exactly where it is neither.
-pub unknown-letter : (letter : ℕ) → (tagLength letter ≡ 0) ↔ ((letter ≡ letterS → ⊥) × (letter ≡ letterN → ⊥))
+-- The letters are S, N and F: a byte is unknown exactly where it is none of them.
+pub unknown-letter : (letter : ℕ)
+    → (tagLength letter ≡ 0) ↔ ((letter ≡ letterS → ⊥) × (letter ≡ letterN → ⊥) × (letter ≡ letterF → ⊥))
 unknown-letter letter = (
-  (λ z. (λ e. omega (arith, tag-of-S, ap tagLength e), λ e. omega (arith, tag-of-N, ap tagLength e))),
-  (λ neither. go neither (letter-cases letter)),
+  (λ z. (λ e. omega (arith, tag-of-S, ap tagLength e), λ e. omega (arith, tag-of-N, ap tagLength e), λ e. omega (arith, tag-of-F, ap tagLength e))),
+  (λ none. go none (letter-cases letter)),
 )
   where
-    go : ((letter ≡ letterS → ⊥) × (letter ≡ letterN → ⊥)) → LetterCases letter → tagLength letter ≡ 0
-    go neither (inl e) = absurd (neither .0 e)
-    go neither (inr (inl e)) = absurd (neither .1 e)
-    go neither (inr (inr z)) = z
+    go : ((letter ≡ letterS → ⊥) × (letter ≡ letterN → ⊥) × (letter ≡ letterF → ⊥)) → LetterCases letter → tagLength letter ≡ 0
+    go none (inl e) = absurd (none .0 e)
+    go none (inr (inl e)) = absurd (none .1 e)
+    go none (inr (inr (inl e))) = absurd (none .2 e)
+    go none (inr (inr (inr z))) = z
 
 -- no letter has a tag of more than 32 bytes
 pub tag-bound : (letter : ℕ) → tagLength letter ≤ 32
@@ -86,7 +96,8 @@ tag-bound letter = go (letter-cases letter)
     go : LetterCases letter → tagLength letter ≤ 32
     go (inl e) = omega (arith, tag-of-S, ap tagLength e)
     go (inr (inl e)) = omega (arith, tag-of-N, ap tagLength e)
-    go (inr (inr z)) = omega arith
+    go (inr (inr (inl e))) = omega (arith, tag-of-F, ap tagLength e)
+    go (inr (inr (inr z))) = omega arith
 
 pub envelope-length : (letter group : ℕ) (metadata cryptogram tag : List ℕ)
     → length (envelope letter group metadata cryptogram tag) ≡ length (header letter group (length metadata) (length cryptogram)) + length metadata + length cryptogram + length tag

@@ -1,5 +1,5 @@
--- The layout of an envelope: document 01, "Envelope" (limits of lengths: "Counts and limits"), and document 02, request 2 (the letter N). A header
--- is a thing of its own, a function of its letter, its group and its two lengths. Assumes nothing.
+-- The layout of an envelope: document 01, "Envelope" (limits of lengths: "Counts and limits"), and document 02, requests 2 (the letter N) and 9 (the
+-- letter F). A header is a thing of its own, a function of its letter, its group and its two lengths. Assumes nothing.
 use Prim.Native.Nat.{ℕ, _≤_}
 use mathlib.Core.Path.{_≡_}
 use mathlib.Core.Bool.{cond}
@@ -8,12 +8,15 @@ use lib.ListN.{length}
 use lib.Dec.{eqb}
 use Rattle.decimal.specs.Decimal.{decimal}
 
--- the letters `S` (a message of SANSE) and `N` (of SANE), and the comma
+-- the letters `S` (a message of SANSE), `N` (of SANE) and `F` (an old letter of the first version: read, never written), and the comma
 abbrev pub letterS : ℕ
 letterS = 83
 
 abbrev pub letterN : ℕ
 letterN = 78
+
+abbrev pub letterF : ℕ
+letterF = 70
 
 abbrev pub comma : ℕ
 comma = 44
@@ -27,7 +30,7 @@ maxLength = 16384
 
 -- how many bytes the tag has, by the letter; 0 for a byte that is no letter of an envelope
 unfoldable pub tagLength : ℕ → ℕ
-tagLength letter = cond (eqb letter letterS) 32 (cond (eqb letter letterN) 16 0)
+tagLength letter = cond (eqb letter letterS) 32 (cond (eqb letter letterN) 16 (cond (eqb letter letterF) 16 0))
 
 -- a letter of an envelope is a byte that has a tag
 abbrev pub Known : ℕ → Type 0

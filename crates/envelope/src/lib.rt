@@ -1,6 +1,6 @@
-// Message envelopes (document 01, "Envelope", and document 02, request 2): a header `letter,group,A length,M length,`, and then metadata, cryptogram
-// and tag. Reading takes any bytes and hands out the caller's own. Each answer has a number of document 01's "What stops a call", 0 where nothing
-// stopped it. specs/Layout.antt has the layout and Read.antt what is found; the theorems over them are in proofs/.
+// Message envelopes (document 01, "Envelope", and document 02, requests 2 and 9): a header `letter,group,A length,M length,`, and then metadata,
+// cryptogram and tag. Reading takes any bytes and hands out the caller's own. Each answer has a number of document 01's "What stops a call", 0 where
+// nothing stopped it. specs/Layout.antt has the layout and Read.antt what is found; the theorems over them are in proofs/.
 use decimal::read_decimal;
 ghost use mathlib.Core.Path.{_≡_};
 ghost use Rattle.envelope.specs.Layout.{tagLength};
@@ -13,10 +13,12 @@ pub const MAX_LENGTH: u32 = 16384;
 
 pub const COMMA: u8 = b',';
 
-// The letters: S for a message of SANSE, N for one of SANE.
+// The letters: S for a message of SANSE, N for one of SANE, F for an old letter of the first version, which is read and never written.
 pub const LETTER_S: u8 = b'S';
 
 pub const LETTER_N: u8 = b'N';
+
+pub const LETTER_F: u8 = b'F';
 
 // A header: letter, group, the lengths of metadata and message, and the place after it; number 1 and zeros where there is none.
 pub struct Header {
@@ -55,6 +57,8 @@ pub fn tag_len(letter: u8) -> usize
     if letter == LETTER_S {
         32
     } else if letter == LETTER_N {
+        16
+    } else if letter == LETTER_F {
         16
     } else {
         0

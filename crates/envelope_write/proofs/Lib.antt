@@ -2,3 +2,4 @@
 pub mod WriteSteps
 pub mod Writing
 pub mod RoundTrip
+pub mod OnlyRead

@@ -1,5 +1,5 @@
--- Writing and reading undo one another, for every letter (document 01, "Envelope"; document 02, request 2), and for a header alone (request 7).
--- Assumes nothing.
+-- Writing and reading undo one another, for every letter that is written (document 01, "Envelope"; document 02, requests 2 and 9), and for a header
+-- alone (request 7). Assumes nothing.
 use Prim.Native.Nat.{ℕ, _+_, _≤_}
 use mathlib.Core.Path.{_≡_, refl, sym, ap, _∙_, subst}
 use mathlib.Core.Bool.{true}
@@ -8,7 +8,7 @@ use native.Mathlib.Omega.{arith}
 use lib.ListN.{length, take, drop}
 use lib.Seq.{take-at}
 use Rattle.decimal.specs.Buffer.{writtenAt}
-use Rattle.envelope.specs.Layout.{header, envelope, IsEnvelope}
+use Rattle.envelope.specs.Layout.{letterF, header, envelope, IsEnvelope}
 use Rattle.envelope.specs.Read.{aHeader, readHeader, anEnvelope, readEnvelope, headerPart, metadataPart, cryptogramPart, tagPart}
 use Rattle.envelope.proofs.Layouts.{envelope-length}
 use Rattle.envelope.proofs.Headers.{header-sound, header-complete}
@@ -53,7 +53,7 @@ module _ (letter group : ℕ) (metadata cryptogram tag buffer : List ℕ) (e : w
   unfolding writeAnswer
   reads s rest is =
       let w = accepted letter group (length metadata) (length cryptogram) (length tag) (length buffer) refl e in
-      let there : IsEnvelope s letter group metadata cryptogram tag rest = record { in-range = w .in-range; tag-fits = w .tag-fits; bytes = is } in
+      let there : IsEnvelope s letter group metadata cryptogram tag rest = record { in-range = w .to-write .in-range; tag-fits = w .tag-fits; bytes = is } in
       subst (λ (k : ℕ). ReadsAs s letter group k metadata cryptogram tag) (sym (len-is (writeCheck letter group metadata cryptogram tag buffer) bytes buffer e))
       (envelope-complete s letter group metadata cryptogram tag rest there)
 
@@ -70,17 +70,18 @@ module _ (letter group : ℕ) (metadata cryptogram tag buffer : List ℕ) (e : w
   unfolding writeAnswer writeBuffer
   buffer-reads = reads _ _ (in-buffer (writeCheck letter group metadata cryptogram tag buffer) bytes buffer e)
 
--- Bytes that are read without a refusal are, up to the place, exactly what writing their letter, group and parts gives to any buffer with room for it.
-pub read-then-write : (s buffer : List ℕ) → readEnvelope s .number ≡ 0 → readEnvelope s .place ≤ length buffer
+-- Bytes that are read without a refusal are, up to the place, exactly what writing their letter, group and parts gives to any buffer with room for it,
+-- but for the letter F, of which no envelope is written (proofs/OnlyRead.antt).
+pub read-then-write : (s buffer : List ℕ) → readEnvelope s .number ≡ 0 → (readEnvelope s .letter ≡ letterF → ⊥) → readEnvelope s .place ≤ length buffer
     → (writeAnswer (readEnvelope s .letter) (readEnvelope s .group) (metadataPart s) (cryptogramPart s) (tagPart s) buffer ≡ record { number = 0; len = readEnvelope s .place })
     × (writeBuffer (readEnvelope s .letter) (readEnvelope s .group) (metadataPart s) (cryptogramPart s) (tagPart s) buffer ≡ writtenAt buffer 0 (take (readEnvelope s .place) s))
 unfolding writeAnswer writeBuffer
-read-then-write s buffer e room =
+read-then-write s buffer e f room =
     let h = envelope-sound s e in
     let place = place-is s e in
     let size = envelope-length (readEnvelope s .letter) (readEnvelope s .group) (metadataPart s) (cryptogramPart s) (tagPart s) in
     let free = stop-given (readEnvelope s .letter) (readEnvelope s .group) (length (metadataPart s)) (length (cryptogramPart s)) (length (tagPart s)) (length buffer) 0
-    (writable (h .in-range) (h .tag-fits) (omega arith)) in
+    (writable (record { not-F = f; in-range = h .in-range }) (h .tag-fits) (omega arith)) in
     let d = done _ (spelled s) buffer (readEnvelope s .place) (writtenAt buffer 0 (spelled s)) refl free place refl in
     (sym (d .0), sym (d .1) ∙ ap (writtenAt buffer 0) (sym (front-is s e)))
 
@@ -91,7 +92,7 @@ module _ (letter group alen mlen : ℕ) (buffer : List ℕ) (e : headerAnswer le
       → readHeader s ≡ aHeader letter group alen mlen (headerAnswer letter group alen mlen buffer .len)
   unfolding headerAnswer
   header-reads s rest is =
-      let range = header-accepted letter group alen mlen (length buffer) refl e .0 in
+      let range = header-accepted letter group alen mlen (length buffer) refl e .0 .in-range in
       header-complete s letter group alen mlen rest (record { in-range = range; bytes = is })
       ∙ ap (aHeader letter group alen mlen) (sym (len-is (headerNumber letter group alen mlen (length buffer)) (header letter group alen mlen) buffer e))
 
@@ -113,19 +114,19 @@ module _ (letter group alen mlen : ℕ) (buffer : List ℕ) (e : headerAnswer le
       × (fits letter alen mlen (take (headerAnswer letter group alen mlen buffer .len) (headerBuffer letter group alen mlen buffer)) ≡ true)
   unfolding headerAnswer
   header-write-fits =
-      let by-group = fits-group-exactly letter group alen mlen _ .1 (header-accepted letter group alen mlen (length buffer) refl e .0, header-front) in
+      let by-group = fits-group-exactly letter group alen mlen _ .1 (header-accepted letter group alen mlen (length buffer) refl e .0 .in-range, header-front) in
       (by-group, fits-of-group letter group alen mlen _ by-group)
 
--- A header that is read is, up to its place, exactly what writing its letter, group and lengths gives to any buffer with room for it.
-pub header-read-then-write : (s buffer : List ℕ) → readHeader s .number ≡ 0 → readHeader s .place ≤ length buffer
+-- A header that is read is, up to its place, exactly what writing its letter, group and lengths gives to any buffer with room for it, but for the letter F.
+pub header-read-then-write : (s buffer : List ℕ) → readHeader s .number ≡ 0 → (readHeader s .letter ≡ letterF → ⊥) → readHeader s .place ≤ length buffer
     → (headerAnswer (readHeader s .letter) (readHeader s .group) (readHeader s .alen) (readHeader s .mlen) buffer ≡ record { number = 0; len = readHeader s .place })
     × (headerBuffer (readHeader s .letter) (readHeader s .group) (readHeader s .alen) (readHeader s .mlen) buffer ≡ writtenAt buffer 0 (take (readHeader s .place) s))
 unfolding headerAnswer headerBuffer
-header-read-then-write s buffer e room =
+header-read-then-write s buffer e f room =
     let h = readHeader s in
     let stands = header-sound s e in
     let bytes = header (h .letter) (h .group) (h .alen) (h .mlen) in
-    let free = header-given (h .letter) (h .group) (h .alen) (h .mlen) (length buffer) 0 (header-writable (stands .0 .in-range) (omega (arith, stands .1))) in
+    let free = header-given (h .letter) (h .group) (h .alen) (h .mlen) (length buffer) 0 (header-writable (record { not-F = f; in-range = stands .0 .in-range }) (omega (arith, stands .1))) in
     let d = done _ bytes buffer (h .place) (writtenAt buffer 0 bytes) refl free (stands .1) refl in
     let up-to : take (h .place) s ≡ bytes = ap (take (h .place)) (stands .0 .bytes) ∙ take-at bytes (drop (h .place) s) (h .place) (sym (stands .1)) in
     (sym (d .0), sym (d .1) ∙ ap (writtenAt buffer 0) (sym up-to))

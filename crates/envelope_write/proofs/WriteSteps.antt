@@ -9,35 +9,48 @@ use lib.Dec.{eqb, ltb}
 use borrow.Author.Tests.{lt-ltb, le-ltb, eq-eqb, ne-eqb}
 use Rattle.decimal.specs.Buffer.{writtenAt}
 use Rattle.decimal.proofs.Buffers.{writtenAt-join, writtenAt-pair}
-use Rattle.envelope.specs.Layout.{comma, maxGroup, maxLength, tagLength, Known, field, header, envelope, InRange}
+use Rattle.envelope.specs.Layout.{letterF, comma, maxGroup, maxLength, tagLength, field, header, envelope}
 use Rattle.envelope.proofs.Layouts.{header-length, header-longest, field-length, tag-bound}
+use Rattle.envelope_write.specs.Checks.{Written, ToWrite}
 use Rattle.envelope_write.specs.Write.{rangeThen, writeNumber, headerNumber}
 
 module _ (letter group alen mlen n : ℕ) where
   -- the checks of letter, group and lengths; n is what comes after them
-  pub range-1 : tagLength letter ≡ 0 → rangeThen letter group alen mlen n ≡ 1
+  pub range-18 : letter ≡ letterF → rangeThen letter group alen mlen n ≡ 18
   unfolding rangeThen
-  range-1 h = simp (eq-eqb (tagLength letter) 0 h)
+  range-18 h = simp (eq-eqb letter letterF h)
 
-  pub range-3 : Known letter → maxGroup < group → rangeThen letter group alen mlen n ≡ 3
+  pub range-1 : (letter ≡ letterF → ⊥) → tagLength letter ≡ 0 → rangeThen letter group alen mlen n ≡ 1
   unfolding rangeThen
-  range-3 l h = simp (ne-eqb (tagLength letter) 0 l, lt-ltb maxGroup group h)
+  range-1 f h = simp (ne-eqb letter letterF f, eq-eqb (tagLength letter) 0 h)
 
-  pub range-6-metadata : Known letter → group ≤ maxGroup → maxLength < alen → rangeThen letter group alen mlen n ≡ 6
+  pub range-3 : Written letter → maxGroup < group → rangeThen letter group alen mlen n ≡ 3
   unfolding rangeThen
-  range-6-metadata l g h = simp (ne-eqb (tagLength letter) 0 l, le-ltb maxGroup group g, lt-ltb maxLength alen h)
+  range-3 l h = simp (ne-eqb letter letterF (l .0), ne-eqb (tagLength letter) 0 (l .1), lt-ltb maxGroup group h)
 
-  pub range-6-message : Known letter → group ≤ maxGroup → alen ≤ maxLength → maxLength < mlen → rangeThen letter group alen mlen n ≡ 6
+  pub range-6-metadata : Written letter → group ≤ maxGroup → maxLength < alen → rangeThen letter group alen mlen n ≡ 6
+  unfolding rangeThen
+  range-6-metadata l g h =
+      simp (ne-eqb letter letterF (l .0), ne-eqb (tagLength letter) 0 (l .1), le-ltb maxGroup group g, lt-ltb maxLength alen h)
+
+  pub range-6-message : Written letter → group ≤ maxGroup → alen ≤ maxLength → maxLength < mlen → rangeThen letter group alen mlen n ≡ 6
   unfolding rangeThen
   range-6-message l g a h =
-      simp (ne-eqb (tagLength letter) 0 l, le-ltb maxGroup group g, le-ltb maxLength alen a, lt-ltb maxLength mlen h)
+      simp (ne-eqb letter letterF (l .0), ne-eqb (tagLength letter) 0 (l .1), le-ltb maxGroup group g, le-ltb maxLength alen a, lt-ltb maxLength mlen h)
 
-  pub range-passed : InRange letter group alen mlen → rangeThen letter group alen mlen n ≡ n
+  pub range-passed : ToWrite letter group alen mlen → rangeThen letter group alen mlen n ≡ n
   unfolding rangeThen
   range-passed r =
-      simp (ne-eqb (tagLength letter) 0 (r .known), le-ltb maxGroup group (r .group-fits), le-ltb maxLength alen (r .metadata-fits), le-ltb maxLength mlen (r .message-fits))
+      let i = r .in-range in
+      simp (
+        ne-eqb letter letterF (r .not-F),
+        ne-eqb (tagLength letter) 0 (i .known),
+        le-ltb maxGroup group (i .group-fits),
+        le-ltb maxLength alen (i .metadata-fits),
+        le-ltb maxLength mlen (i .message-fits),
+      )
 
-module _ (letter group alen mlen tlen room : ℕ) (r : InRange letter group alen mlen) where
+module _ (letter group alen mlen tlen room : ℕ) (r : ToWrite letter group alen mlen) where
   -- the tests up to the tag's
   to-tag : writeNumber letter group alen mlen tlen room
       ≡ cond (eqb tlen (tagLength letter)) (cond (ltb room (length (header letter group alen mlen) + alen + mlen + tlen)) 8 0) 7
@@ -50,7 +63,7 @@ module _ (letter group alen mlen tlen room : ℕ) (r : InRange letter group alen
   -- n is the header's length
   module _ (t : tlen ≡ tagLength letter) (n : ℕ) (is-n : n ≡ length (header letter group alen mlen)) where
     pub sizes : n + alen + mlen + tlen ≤ 32817
-    sizes = omega (arith, tag-bound letter, header-longest r, r .metadata-fits, r .message-fits)
+    sizes = omega (arith, tag-bound letter, header-longest (r .in-range), r .in-range .metadata-fits, r .in-range .message-fits)
 
     pub number-8 : room < n + alen + mlen + tlen → writeNumber letter group alen mlen tlen room ≡ 8
     number-8 h = to-tag ∙ simp (eq-eqb tlen (tagLength letter) t, sym is-n, lt-ltb room (n + alen + mlen + tlen) h)
@@ -59,7 +72,7 @@ module _ (letter group alen mlen tlen room : ℕ) (r : InRange letter group alen
     number-0 h = to-tag ∙ simp (eq-eqb tlen (tagLength letter) t, sym is-n, le-ltb room (n + alen + mlen + tlen) h)
 
 -- the same for a header alone, whose length is n
-module _ (letter group alen mlen room : ℕ) (r : InRange letter group alen mlen) (n : ℕ) (is-n : n ≡ length (header letter group alen mlen)) where
+module _ (letter group alen mlen room : ℕ) (r : ToWrite letter group alen mlen) (n : ℕ) (is-n : n ≡ length (header letter group alen mlen)) where
   pub header-8 : room < n → headerNumber letter group alen mlen room ≡ 8
   unfolding headerNumber
   header-8 h = range-passed letter group alen mlen _ r ∙ simp (sym is-n, lt-ltb room n h)

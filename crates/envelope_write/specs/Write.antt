@@ -1,21 +1,23 @@
 -- What a writer makes: document 01, "Envelope", and numbers 3, 6, 7 and 8 of "What stops a call"; document 02, request 2, has it handed the letter,
--- with number 1 for one that is unknown, and request 7 a header written alone. Assumes nothing.
+-- with number 1 for one that is unknown, request 7 a header written alone, and request 9 number 18 for the letter F, before every other check. Assumes
+-- nothing.
 use Prim.Native.Nat.{ℕ, _+_}
 use mathlib.Core.Bool.{cond}
 use mathlib.Core.List.{List}
 use lib.ListN.{length}
 use lib.Dec.{ltb, eqb}
 use Rattle.decimal.specs.Buffer.{writtenAt}
-use Rattle.envelope.specs.Layout.{maxGroup, maxLength, tagLength, header, envelope}
+use Rattle.envelope.specs.Layout.{letterF, maxGroup, maxLength, tagLength, header, envelope}
 use Rattle.envelope_write.specs.declared.WriteResult.{WriteResult}
 
--- the first of the checks 1, 3 and 6 that letter, group and lengths meet; where they meet none, the number n
+-- the first of the checks 18, 1, 3 and 6 that letter, group and lengths meet; where they meet none, the number n
 unfoldable pub rangeThen : (letter group alen mlen n : ℕ) → ℕ
 rangeThen letter group alen mlen n =
-    cond (eqb (tagLength letter) 0) 1
+    cond (eqb letter letterF) 18
+    (cond (eqb (tagLength letter) 0) 1
     (cond (ltb maxGroup group) 3
     (cond (ltb maxLength alen) 6
-    (cond (ltb maxLength mlen) 6 n)))
+    (cond (ltb maxLength mlen) 6 n))))
 
 -- the first check that is met, by the lengths of metadata, cryptogram, tag and buffer, or 0
 unfoldable pub writeNumber : (letter group alen mlen tlen room : ℕ) → ℕ

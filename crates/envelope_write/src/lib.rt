@@ -1,8 +1,10 @@
-// Writes envelopes (document 01, "Envelope", and document 02, request 2), and headers alone (request 7), to the start of a lent buffer. Each answer has
-// a number of document 01's "What stops a call", 0 where nothing stopped it. specs/Write.antt says what is written; that reading gives it back is shown in proofs/RoundTrip.antt.
+// Writes envelopes (document 01, "Envelope", and document 02, request 2), and headers alone (request 7), to the start of a lent buffer, but none with the
+// letter F (request 9). Each answer has a number of document 01's "What stops a call", 0 where nothing stopped it. specs/Write.antt says what is
+// written; that reading gives it back is shown in proofs/RoundTrip.antt.
 use decimal::decimal_len;
 use decimal::write_decimal;
 use envelope::COMMA;
+use envelope::LETTER_F;
 use envelope::MAX_GROUP;
 use envelope::MAX_LENGTH;
 use envelope::tag_len;
@@ -62,10 +64,13 @@ fn put_header(letter: u8, group: u32, alen: u32, mlen: u32, out: &mut [u8]) -> u
     write_field(mlen, out, q)
 }
 
-// The first of the checks 1, 3 and 6 that letter, group and lengths meet, or 0.
+// The first of the checks 18, 1, 3 and 6 that letter, group and lengths meet, or 0.
 fn range_number(letter: u8, group: u32, alen: usize, mlen: usize) -> u32
     ensures { λ r. ⌜ r ≡ rangeThen letter group alen mlen 0 ⌝ }
 {
+    if letter == LETTER_F {
+        return 18;
+    }
     if tag_len(letter) == 0 {
         return 1;
     }
@@ -119,8 +124,8 @@ fn refused(number: u32) -> WriteResult
     WriteResult { number, len: 0 }
 }
 
-// Writes a header alone to the start of a buffer and gives how many bytes that are; the rest of the buffer is kept. Refusals: 1 (the letter is neither S
-// nor N), 3 (the group), 6 (a length is above 16,384), 8 (the buffer is shorter than the header); then the buffer is unaltered.
+// Writes a header alone to the start of a buffer and gives how many bytes that are; the rest of the buffer is kept. Refusals: 18 (the letter is F), 1 (it
+// is neither S nor N), 3 (the group), 6 (a length is above 16,384), 8 (the buffer is shorter than the header); then the buffer is unaltered.
 pub fn write_header(letter: u8, group: u32, alen: usize, mlen: usize, out: &mut [u8]) -> WriteResult
     ensures { λ r. ⌜ (r ≡ headerAnswer letter group alen mlen (now (out .entry)))
         × (now (out .exit) ≡ headerBuffer letter group alen mlen (now (out .entry))) ⌝ }
@@ -133,7 +138,7 @@ pub fn write_header(letter: u8, group: u32, alen: usize, mlen: usize, out: &mut 
     WriteResult { number: 0, len: n }
 }
 
-// Writes an envelope to the start of a buffer and gives how many bytes that are; the rest of the buffer is kept. Refusals: 1 (the letter is
+// Writes an envelope to the start of a buffer and gives how many bytes that are; the rest of the buffer is kept. Refusals: 18 (the letter is F), 1 (it is
 // neither S nor N), 3 (the group), 6 (metadata or cryptogram too long), 7 (the tag has not the letter's length: 32 bytes for S, 16 for N), 8 (the
 // buffer is shorter than the envelope); then the buffer is unaltered.
 pub fn write_envelope(

@@ -102,7 +102,7 @@ pub record Whole (k : Kind) : Type 0 where
 
 module _ {k : Kind} (w : Whole k) where
   -- the result that an outcome is, and that it is one
-  made-of : (o : Outcome DeckState)
+  pub made-of : (o : Outcome DeckState)
       → (r : k .Result) × (callResult k r (o .out) (o .tag) ≡ o)
   made-of o =
       let e = w .same (o .number) (o .count) (o .session) in (

@@ -33,7 +33,7 @@ pub edges-say : map (λ (r : Row). r .says) edgeRows
 edges-say = refl
 
 -- the byte after the last of a string's bytes is the closing byte of its frame bits
-closing-at : (x : List ℕ) (f : List Bool) → length f ≤ 7 → paddedByte (framed x f) (length x) ≡ closingByte f
+pub closing-at : (x : List ℕ) (f : List Bool) → length f ≤ 7 → paddedByte (framed x f) (length x) ≡ closingByte f
 closing-at x f h = sym (word-ext (closingByte f) 8 _ (closing-lt f h) at)
   where
     n : ℕ

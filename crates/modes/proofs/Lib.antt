@@ -1,5 +1,6 @@
 -- Laws and theorems that belong to no one function.
 pub mod Papers
+pub mod PapersStream
 pub mod PapersSane
 pub mod Steps
 pub mod Modes

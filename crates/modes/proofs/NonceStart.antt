@@ -20,7 +20,7 @@ use Rattle.modes.specs.PaperSane.{saneOpens, saneOpeningTag}
 use Rattle.modes.specs.Rules.{SessionState, NonceOpening, keyFits, nonceCheck, nonceSession, nonceOpening, nonceStartAt, newSession}
 use Rattle.modes.specs.OneCall.{sessionOf}
 use Rattle.modes.specs.NonceStart.{NonceAccepted, nonceRefused, Nonce4, Nonce6, Nonce7, NonceFits, NonceExactly}
-use Rattle.modes.proofs.PapersSane.{first16-is}
+use Rattle.modes.proofs.PapersStream.{first16-is}
 use Rattle.modes.proofs.Exactly.{is, isnt}
 use Rattle.modes.proofs.Start.{new-session}
 

@@ -2,7 +2,7 @@
 -- short frames: their steps go by what they see of the history, what was wrapped is unwrapped, and the index grows by the lengths. Assumes nothing.
 use mathlib.Core.Bool.{Bool}
 use mathlib.Core.List.{List, [], _∷_}
-use mathlib.Core.Path.{_≡_, refl, sym, ap, _∙_}
+use mathlib.Core.Path.{_≡_, refl, sym, ap, ap₂, _∙_}
 use Prim.Native.Nat.{ℕ, _+_, _≤_}
 use native.Mathlib.Omega.{arith}
 use lib.ListN.{length}
@@ -169,6 +169,12 @@ module _ (p : Parameters) {S : Type 0} (d : HistoryRep S) where
       let c = addKeystream p d h x in
       ap (λ (r : S). stepResult p d (withText p d r e c) (addKeystream p d h c)) (withA-body h e a x h)
       ∙ ap (stepResult p d (withText p d (withA p d h e a x) e c)) (addKeystream-undone h x)
+
+  -- and the other way round: wrapping what was found in a cryptogram gives that cryptogram, with the tag that was found
+  pub stream-redone : (h : S) (e : Bool) (a c t : List ℕ) → streamWrap p d h e a (streamUnwrap p d h e a c t .body) ≡ restored (streamUnwrap p d h e a c t) c
+  unfolding streamWrap streamUnwrap
+  stream-redone h e a c t =
+      ap₂ (λ (r : S) (y : List ℕ). stepResult p d (withText p d r e y) y) (withA-body h e a c h) (addKeystream-undone h c)
 
   pub streamWrap-length : (h : S) (e : Bool) (a x : List ℕ) → length (streamWrap p d h e a x .body) ≡ length x
   unfolding streamWrap

@@ -2,113 +2,51 @@
 -- its facts over. Assumes nothing.
 use mathlib.Core.Path.{_≡_, refl, sym, ap, ap₂, _∙_}
 use mathlib.Core.Logic.{_≢_}
-use mathlib.Core.Bool.{true, false, not, _||_, cond}
+use mathlib.Core.Bool.{true, false, not}
 use mathlib.Core.List.{List, [], _∷_}
 use Prim.Native.Nat.{ℕ, zero, suc, _+_, _≤_}
 use native.Mathlib.Omega.{arith}
 use lib.ListN.{length, take}
-use Rattle.word.specs.Lists.{sum}
 use Rattle.deck.specs.declared.DeckState.{DeckState}
 use Rattle.xoofff.specs.declared.Compressed.{Compressed}
-use Rattle.deck.specs.Strings.{Str, b, blocks, framed}
+use Rattle.deck.specs.Strings.{Str, b, blocks}
 use Rattle.deck.specs.Deck.{run, keyMask}
 use Rattle.deck.specs.Incremental.{append, output}
 use Rattle.deck.specs.Closing.{closedBy}
 use Rattle.xoofff.specs.Leaves.{compressed}
 use Rattle.state.specs.State.{zeros}
-use Rattle.deck.proofs.Strings.{blocks-is}
+use Rattle.envelope.specs.Layout.{letterN}
 use Rattle.modes.specs.Call.{CallInput}
-use Rattle.modes.specs.Mode.{isEmpty, incremental, withA, withText, tagOf, addKeystream, stepResult, streamWrap, streamUnwrap, sane, saneParameters, saneCount}
-use Rattle.modes.specs.Rules.{SessionState, written, metadataString, wrapSteps, unwrapSteps, closed, keyFits, nonceCheck, nonceSession, nonceOpening, nonceStartAt}
+use Rattle.modes.specs.Mode.{incremental, tagOf, sane, saneParameters}
+use Rattle.modes.specs.Rules.{SessionState, wrapSteps, unwrapSteps, closed, keyFits, nonceCheck, nonceSession, nonceOpening, nonceStartAt}
 use Rattle.modes.specs.NonceStart.{NonceFits}
 use Rattle.modes.proofs.Steps.{ShortFrames}
 use Rattle.modes.proofs.NonceStart.{nonce-exactly}
-use Rattle.modes.proofs.Leaves.{countStream, sane-leaf-counts, closed-N, nonce-leaf-counts}
+use Rattle.modes.proofs.Leaves.{closed-N, nonce-leaf-counts}
 use Rattle.steps.specs.Steps.{outputCount}
-use Rattle.steps.proofs.Buffers.{added-length, added-taken}
-use Rattle.steps.proofs.Calls.{Begun, begun-state, begun-count, within, Worked}
+use Rattle.steps.proofs.Calls.{Worked}
+use Rattle.steps.proofs.Stream as stream
 
 -- its frame bits leave room for the padding bit in one byte
 pub short : ShortFrames saneParameters
 short = record { ofA = λ e. omega arith; ofM = λ e. omega arith; ofT = λ e. omega arith }
 
--- ---- counts
-
--- the count of a string is small
-pub text-most : (x : List ℕ) → cond (isEmpty x) 0 (b (length x)) ≤ length x + 1
-text-most [] = omega arith
-text-most (y ∷ x) = omega arith
-
--- and so is a call's
-count-most : (a x : ℕ) → a ≤ 16401 → x ≤ 16384 → saneCount a x ≤ 1030
-unfolding saneCount
-count-most zero zero h g = omega arith
-count-most (suc a) zero h g = omega arith
-count-most zero (suc x) h g = omega arith
-count-most (suc a) (suc x) h g = omega arith
-
 -- ---- wrap and unwrap
 
--- what is known once the tag t is found: d is the history and c the closing byte of A, h the history with A, q what the keystream cost, o the
--- output buffer, y the cryptogram and g the history with it
-pub record Done (s : SessionState DeckState) (i : CallInput) (n : ℕ) (d : DeckState) (c : ℕ) (h : Compressed) (q : ℕ) (o y : List ℕ) (g : Compressed) (t : List ℕ) : Type 0 where
-  pub begun : Begun sane s i n d c h
-  pub streamed : (o ≡ written (sum (i .text) (run (output d) 16 (length (i .text)))) (i .out))
-      × (q ≡ cond (isEmpty (i .text)) 0 (outputCount 16 (length (i .text))))
-  pub sized : length y ≡ length (i .text)
-  pub finished : (g .state ≡ withText saneParameters incremental (h .state) (s .toggle) y)
-      × (t ≡ tagOf saneParameters incremental (g .state))
-      × (g .count ≡ cond (isEmpty y) 0 (b (length y)) + outputCount 0 16)
+-- what is known once the tag is found, as of every mode with these steps
+abbrev pub Done : (s : SessionState DeckState) (i : CallInput) (n : ℕ) (d : DeckState) (c : ℕ) (h : Compressed) (q : ℕ) (o y : List ℕ) (g : Compressed) (t : List ℕ) → Type 0
+Done = stream.Done letterN (λ e. false ∷ e ∷ []) (λ e. true ∷ e ∷ []) not
 
 module _ {s : SessionState DeckState} {i : CallInput} {n : ℕ} {d : DeckState} {c : ℕ} {h : Compressed} {q : ℕ} {o y : List ℕ} {g : Compressed} {t : List ℕ}
     (k : Done s i n d c h q o y g t) where
-  body-is : o ≡ written (addKeystream saneParameters incremental (s .history) (i .text)) (i .out)
-  body-is = k .streamed .0 ∙ ap (λ (u : DeckState). written (addKeystream saneParameters incremental u (i .text)) (i .out)) (k .begun .held)
-
-  counted : q + h .count + g .count ≡ saneCount (length (metadataString i)) (length (i .text))
-  counted =
-      let z : cond (isEmpty (i .text)) 0 (outputCount 16 (length (i .text))) ≡ countStream (i .text) = ap (cond (isEmpty (i .text)) 0) (omega arith) in
-      omega (
-        arith,
-        sane-leaf-counts (metadataString i) (i .text) y (s .toggle) (k .sized),
-        begun-count short (k .begun),
-        ap (λ (u : ℕ). cond (not (isEmpty (metadataString i)) || isEmpty (i .text)) u 0) (blocks-is (framed (metadataString i) (false ∷ s .toggle ∷ [])) (omega arith)),
-        k .streamed .1,
-        k .finished .2,
-        ap (cond (isEmpty y) 0) (blocks-is (framed y (true ∷ s .toggle ∷ [])) (omega arith)),
-      )
-
   pub done-most : q + h .count + g .count ≤ 1030
-  done-most =
-      let w = within sane s i (k .begun .checked) (k .begun .none) in
-      omega (arith, counted, count-most (length (metadataString i)) (length (i .text)) (k .begun .long) (w .text))
-
-  -- the history with the cryptogram z
-  abbrev ends : List ℕ → DeckState
-  ends z = withText saneParameters incremental (withA saneParameters incremental (s .history) (s .toggle) (metadataString i) (i .text)) (s .toggle) z
-
-  worked : (z : List ℕ) → y ≡ z
-      → Worked sane s i (stepResult saneParameters incremental (ends z) (addKeystream saneParameters incremental (s .history) (i .text))) (g .state)
-      (q + h .count + g .count) o t
-  worked z e =
-      let a : g .state ≡ ends z =
-      k .finished .0 ∙ ap₂ (λ (u : DeckState) (v : List ℕ). withText saneParameters incremental u (s .toggle) v) (begun-state short (k .begun)) e in
-      record {
-        none = sym (k .begun .checked) ∙ k .begun .none;
-        after = a;
-        count = counted;
-        sized = added-length (output (s .history)) 16 (i .text);
-        body = body-is;
-        tag = k .finished .1 ∙ ap (tagOf saneParameters incremental) a;
-      }
+  done-most = stream.done-most letterN (λ e. false ∷ e ∷ []) (λ e. true ∷ e ∷ []) not short k
 
   pub wrap-worked : y ≡ take (length (i .text)) o → Worked sane s i (wrapSteps sane incremental s i) (g .state) (q + h .count + g .count) o t
-  unfolding streamWrap
-  wrap-worked e = worked _ (e ∙ added-taken (output (s .history)) 16 (i .text) (i .out) o body-is)
+  wrap-worked = stream.wrap-worked letterN (λ e. false ∷ e ∷ []) (λ e. true ∷ e ∷ []) not short k
 
   pub unwrap-worked : y ≡ i .text → Worked sane s i (unwrapSteps sane incremental s i) (g .state) (q + h .count + g .count) o t
-  unfolding streamUnwrap
-  unwrap-worked e = worked _ e
+  unwrap-worked = stream.unwrap-worked letterN (λ e. false ∷ e ∷ []) (λ e. true ∷ e ∷ []) not short k
 
 -- ---- start
 

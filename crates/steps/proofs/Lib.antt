@@ -2,3 +2,4 @@
 pub mod Buffers
 pub mod History
 pub mod Calls
+pub mod Stream

@@ -15,7 +15,8 @@ use Rattle.modes.specs.Mode.{isEmpty, saneParameters}
 use Rattle.xoofff.proofs.Leaves.{blocks-most}
 use Rattle.steps.specs.Steps.{outputCount}
 use Rattle.steps.proofs.Calls.{text-state, text-count}
-use Rattle.sane.proofs.Calls.{short, text-most}
+use Rattle.steps.proofs.Stream.{text-most}
+use Rattle.sane.proofs.Calls.{short}
 use Rattle.sane.proofs.finish.Statement.{statement}
 use Rattle.sane.proofs.finish.Tie as tie
 

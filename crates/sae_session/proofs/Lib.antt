@@ -1,0 +1,3 @@
+-- The theorems.
+pub mod Contracts
+pub mod Demands

@@ -1,0 +1,2 @@
+-- The definitions that the contracts and the theorems cite.
+pub mod Lent
