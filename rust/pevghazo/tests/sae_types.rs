@@ -134,16 +134,16 @@ fn nothing_is_wrapped() {
 #[test]
 fn a_box_of_letters() {
     let (mut trial, mut session) = (trial(), start());
-    let letters: Vec<(u32, Vec<u8>)> = (0..20).map(|i| (i % 32, vec![i as u8; 7 * i as usize])).collect();
-    let all: Vec<u8> = letters.iter().flat_map(|(group, text)| trial.trial_seal(*group, b"size C", text)).collect();
+    let texts: Vec<Vec<u8>> = (0..20).map(|i| vec![i; 7 * usize::from(i)]).collect();
+    let letters: Vec<_> = (0..).zip(&texts).map(|(group, text)| trial.trial_seal(group, b"size C", text)).collect();
+    let all = letters.concat();
     let mut rest = &all[..];
-    for (group, text) in &letters {
+    for (group, (text, letter)) in (0..).zip(texts.iter().zip(&letters)) {
         session = SaeSession::from_bytes(&session.to_bytes()).unwrap();
         let opened = session.open(rest).unwrap();
-        assert_eq!((opened.group, opened.metadata, &opened.message), (*group, &b"size C"[..], text));
+        assert_eq!((opened.group, opened.metadata, &opened.message), (group, &b"size C"[..], text));
         rest = opened.rest;
-        let again = session.open(&all[all.len() - rest.len() - text.len() - 16 - 6 - 11..]);
-        assert!(again.is_err(), "the same letter again");
+        assert_eq!(session.open(letter).unwrap_err().number, Number::WrongTag, "the same letter again");
     }
     assert!(rest.is_empty());
     assert_eq!((session.index(), session.toggle()), (trial.index, trial.toggle));
