@@ -162,7 +162,8 @@ fn any_record() {
     if is_whole_run() {
         let [closed, open] = numbers;
         assert!([0, 6, 7, 8, 9, 11, 18].iter().all(|number| open[*number] > 10), "{open:?}");
-        assert!(closed[5] > 100 && closed[18] > 100 && closed[5] + closed[18] == closed.iter().sum(), "{closed:?}");
+        assert!(closed[5] > least_times() && closed[18] > least_times(), "{closed:?}");
+        assert_eq!(closed[5] + closed[18], closed.iter().sum(), "{closed:?}");
     }
 }
 
@@ -271,6 +272,6 @@ fn any_start() {
     let mut numbers = [0; 19];
     cases("any_start", |random| numbers[edges::any_start::<SaeRecord>(random) as usize] += 1);
     if is_whole_run() {
-        assert!([0, 4, 6, 7].iter().all(|number| numbers[*number] > 100), "{numbers:?}");
+        assert!([0, 4, 6, 7].iter().all(|number| numbers[*number] > least_times()), "{numbers:?}");
     }
 }

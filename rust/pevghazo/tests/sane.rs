@@ -183,6 +183,6 @@ fn any_start() {
     let mut numbers = [0; 12];
     cases("any_start", |random| numbers[edges::any_start::<SaneRecord>(random) as usize] += 1);
     if is_whole_run() {
-        assert!([0, 4, 6, 7].iter().all(|number| numbers[*number] > 100), "{numbers:?}");
+        assert!([0, 4, 6, 7].iter().all(|number| numbers[*number] > least_times()), "{numbers:?}");
     }
 }
