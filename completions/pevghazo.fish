@@ -209,7 +209,7 @@ complete -c pevghazo -n '__fish_seen_subcommand_from sae; and __fish_seen_subcom
 complete -c pevghazo -n '__fish_seen_subcommand_from sae; and __fish_seen_subcommand_from open; and not __fish_seen_subcommand_from help' -l format -x -a 'text csv' -d 'the report for people, or a table with commas; text'
 complete -c pevghazo -n '__fish_seen_subcommand_from sae; and __fish_seen_subcommand_from open; and not __fish_seen_subcommand_from help' -l wait -x -d 'how long to wait for another program that uses the state file; 10'
 complete -c pevghazo -n '__fish_seen_subcommand_from sae; and __fish_seen_subcommand_from open; and not __fish_seen_subcommand_from help' -l restore -d 'take a state file that is an older copy'
-complete -c pevghazo -n '__fish_seen_subcommand_from sae; and not __fish_seen_subcommand_from start open seal show' -a seal -d 'refused: old sessions only open letters'
+complete -c pevghazo -n '__fish_seen_subcommand_from sae; and not __fish_seen_subcommand_from start open seal show' -a seal -d 'is refused, as old sessions only open letters'
 complete -c pevghazo -n '__fish_seen_subcommand_from sae; and __fish_seen_subcommand_from seal; and not __fish_seen_subcommand_from help' -l state -r -F -d 'the state file'
 complete -c pevghazo -n '__fish_seen_subcommand_from sae; and __fish_seen_subcommand_from seal; and not __fish_seen_subcommand_from help' -l message -r -F -d 'the message, at most 16384 bytes'
 complete -c pevghazo -n '__fish_seen_subcommand_from sae; and __fish_seen_subcommand_from seal; and not __fish_seen_subcommand_from help' -l metadata -r -F -d 'metadata, which travel in the clear, at most 16384 bytes'
