@@ -215,11 +215,7 @@ impl fmt::Display for Failure {
             Failure::OtherGroup { asked, own } => {
                 write!(f, "This is for group {asked}, and the state file is that of group {own}.")
             }
-            Failure::OtherLetter(letter) => f.write_str(match letter {
-                Letter::S => OF_SANSE,
-                Letter::N => OF_SANE,
-                Letter::F => OF_OLD,
-            }),
+            Failure::OtherLetter(letter) => f.write_str(other_letter(*letter)),
             Failure::Stopped(stop) => stop.fmt(f),
             Failure::UsedKey => f.write_str(USED_KEY),
             Failure::UsedNonce => {
@@ -304,6 +300,15 @@ impl Failure {
 const USED_KEY: &str = "\
 This key was used in this state file before: under it, old envelopes would be accepted again. Make a new one, as with \
 `pevghazo keygen`; `--reuse-key` takes it all the same.";
+
+/// What is said of an envelope with a letter that is not the state file's.
+fn other_letter(letter: Letter) -> &'static str {
+    match letter {
+        Letter::S => OF_SANSE,
+        Letter::N => OF_SANE,
+        Letter::F => OF_OLD,
+    }
+}
 
 /// What is said of an envelope that is for a group's or the office's state file.
 const OF_SANSE: &str = "\
