@@ -1,4 +1,4 @@
-/* A session of either mode as bytes. Nothing here branches on a lane of an open session, or takes an address from one. */
+/* A session of any mode as bytes. Nothing here branches on a lane of an open session, or takes an address from one. */
 #include "pevghazo/stored.h"
 
 /* Where index, toggle and openness stand in the bytes. */
@@ -27,7 +27,7 @@ static uint32_t get(const uint8_t *place) {
     return (uint32_t)place[0] | (uint32_t)place[1] << 8 | (uint32_t)place[2] << 16 | (uint32_t)place[3] << 24;
 }
 
-/* Writes the bytes of a record with these fields, of either mode. */
+/* Writes the bytes of a record with these fields, of any mode. */
 static uint32_t store(const uint32_t *acc, const uint32_t *mask, uint32_t index, uint8_t toggle, uint8_t opened, uint8_t *bytes,
                       size_t bytes_len) {
     uint32_t others = index | toggle, number;
@@ -46,7 +46,7 @@ static uint32_t store(const uint32_t *acc, const uint32_t *mask, uint32_t index,
     return PEVGHAZO_ACCEPTED;
 }
 
-/* Reads the fields of a record of either mode from its bytes. */
+/* Reads the fields of a record of any mode from its bytes. */
 static uint32_t load(uint32_t *acc, uint32_t *mask, uint32_t *index, pevghazo_flag *toggle, pevghazo_flag *opened, const uint8_t *bytes,
                      size_t bytes_len) {
     uint32_t others = 0, number;
@@ -78,5 +78,13 @@ uint32_t pevghazo_store_sane_session(const pevghazo_sane_session *s, uint8_t *by
 }
 
 uint32_t pevghazo_load_sane_session(pevghazo_sane_session *s, const uint8_t *bytes, size_t bytes_len) {
+    return load(s->acc, s->mask, &s->index, &s->toggle, &s->opened, bytes, bytes_len);
+}
+
+uint32_t pevghazo_store_sae_session(const pevghazo_sae_session *s, uint8_t *bytes, size_t bytes_len) {
+    return store(s->acc, s->mask, s->index, byte_of(&s->toggle), byte_of(&s->opened), bytes, bytes_len);
+}
+
+uint32_t pevghazo_load_sae_session(pevghazo_sae_session *s, const uint8_t *bytes, size_t bytes_len) {
     return load(s->acc, s->mask, &s->index, &s->toggle, &s->opened, bytes, bytes_len);
 }

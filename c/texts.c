@@ -14,7 +14,7 @@ const char *pevghazo_number_text(uint32_t number) {
     case PEVGHAZO_BAD_KEY: return "The key must have 16 to 47 bytes.";
     case PEVGHAZO_NOT_OPEN: return "The session is not open.";
     case PEVGHAZO_TOO_LONG: return "The metadata, the message or the nonce has more than 16,384 bytes.";
-    case PEVGHAZO_BAD_TAG_LENGTH: return "The tag must have 32 bytes in SANSE (letter S), and 16 in SANE (letter N).";
+    case PEVGHAZO_BAD_TAG_LENGTH: return "The tag must have 32 bytes in SANSE (letter S), and 16 in SANE (letter N) and in old letters (letter F).";
     case PEVGHAZO_NO_ROOM: return "The output buffer is too short.";
     case PEVGHAZO_INDEX_FULL: return "The session is full: start a new one with a new key, or in SANE with a new nonce.";
     case PEVGHAZO_ALLOWANCE: return "The group's allowance for the day does not cover this call.";
@@ -25,6 +25,7 @@ const char *pevghazo_number_text(uint32_t number) {
     case PEVGHAZO_POOL_FULL: return "The pool is full: with this line it would need more than 256 runs.";
     case PEVGHAZO_NO_SUCH_DAY: return "The line's day does not exist in the years 1900 to 2199, or its size's window has a date that no year has.";
     case PEVGHAZO_OUT_OF_SEASON: return "The line's day is outside the window in which rings of its size may be issued.";
+    case PEVGHAZO_READ_ONLY: return "Old letters, those of the first version (letter F), are only opened: none is sealed any more.";
     case PEVGHAZO_STORED_LENGTH: return "The stored bytes are too few or too many.";
     case PEVGHAZO_STORED_FLAG: return "The stored bytes hold a flag that is neither 0 nor 1.";
     case PEVGHAZO_STORED_INDEX: return "The stored bytes hold an index above 1,048,576.";

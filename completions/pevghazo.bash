@@ -19,28 +19,35 @@ _pevghazo() {
     for i in "${all[@]}"; do
         if [[ -n $skip ]]; then skip=''; continue; fi
         case $i in
-            --state|--wait|--allowance|--group|--key|--message|--metadata|--metadata-text|--out|--in|--from|--metadata-out|--mark|--packets|--format|--packet|--code|--counter|--nonce|--expect|--windows|--year) skip=1 ;;
+            --state|--wait|--allowance|--group|--key|--message|--metadata|--metadata-text|--out|--in|--from|--metadata-out|--mark|--packets|--format|--packet|--code|--counter|--nonce|--expect|--out-dir|--windows|--year) skip=1 ;;
             -*) ;;
-            office|group|sane|pool|season) [[ -z $area$name ]] && area=$i || name=${name:-$i} ;;
+            office|group|sane|sae|pool|season) [[ -z $area$name ]] && area=$i || name=${name:-$i} ;;
             help) [[ -z $help$area$name ]] && help=1 || name=${name:-$i} ;;
             *) name=${name:-$i} ;;
         esac
     done
     case "$area $name $before" in
+        'sae open --format') mapfile -t COMPREPLY < <(compgen -P "$prefix" -W 'text csv' -- "$word"); return ;;
         'season show --format') mapfile -t COMPREPLY < <(compgen -P "$prefix" -W 'text html' -- "$word"); return ;;
     esac
     case $before in
         --format) mapfile -t COMPREPLY < <(compgen -P "$prefix" -W 'text csv html' -- "$word"); return ;;
         --state|--key|--message|--metadata|--out|--in|--metadata-out|--nonce|--windows) compopt -o filenames; mapfile -t COMPREPLY < <(compgen -P "$prefix" -f -- "$word"); return ;;
+        --out-dir) compopt -o filenames; mapfile -t COMPREPLY < <(compgen -P "$prefix" -d -- "$word"); return ;;
         --wait|--allowance|--group|--metadata-text|--from|--mark|--packets|--packet|--code|--counter|--expect|--year) return ;;
     esac
     local words
     [[ -n $help && -n $name ]] && return
+    case "$area $name $word" in
+        'sae open -'*) ;;
+        'sae open '*) compopt -o filenames; mapfile -t COMPREPLY < <(compgen -f -- "$word"); return ;;
+    esac
     case "$area $name" in
-        ' ') words='office group sane pool season keygen demo help --help --version' ;;
+        ' ') words='office group sane sae pool season keygen demo help --help --version' ;;
         'office ') words='create day open-group seal open resend reread forget nearly-full codes check-code show --help' ;;
         'group ') words='start seal open resend reread forget codes check-code show --help' ;;
         'sane ') words='start seal open resend reread forget show --help' ;;
+        'sae ') words='start open seal show --help' ;;
         'pool ') words='create add show find --help' ;;
         'season ') words='first-day show --help' ;;
         'office create') words='--state --wait --help' ;;
@@ -71,6 +78,10 @@ _pevghazo() {
         'sane reread') words='--state --out --metadata-out --wait --restore --help' ;;
         'sane forget') words='--state --envelope --wait --restore --help' ;;
         'sane show') words='--state --json --wait --restore --help' ;;
+        'sae start') words='--state --group --key --counter --nonce --expect --replace --wait --restore --help' ;;
+        'sae open') words='--state --out-dir --format --wait --restore --help' ;;
+        'sae seal') words='--state --message --metadata --metadata-text --out --wait --restore --help' ;;
+        'sae show') words='--state --json --wait --restore --help' ;;
         'pool create') words='--state --wait --help' ;;
         'pool add') words='--state --in --windows --all-or-none --wait --restore --help' ;;
         'pool show') words='--state --runs --csv --json --wait --restore --help' ;;

@@ -1,11 +1,12 @@
 /* The C library that programs link, with each buffer of a call directly beside closed pages and at every address modulo 16 (tests/pages.h), at the
- * lengths where blocks begin and end. Sessions in SANSE, alone and in a table, are compared with the independent implementation; those in SANE,
- * codes, and calls on a pool and with windows, with the same calls on ordinary buffers, which rust/pevghazo/tests compares with it. The other side
- * works on copies elsewhere. tests/buffers.sh builds and runs this. */
+ * lengths where blocks begin and end. Sessions in SANSE, alone and in a table, and those of old letters are compared with the independent
+ * implementation; those in SANE, codes, and calls on a pool and with windows, with the same calls on ordinary buffers, which rust/pevghazo/tests
+ * compares with it. The other side works on copies elsewhere. tests/buffers.sh builds and runs this. */
 #include "pages.h"
 #include <pevghazo.h>
 #include <stdio.h>
 #include <string.h>
+#include <sys/mman.h>
 
 /* The independent implementation (rust/bench). */
 void rust_start(pevghazo_session *s, const uint8_t *key, size_t n);
@@ -16,9 +17,13 @@ uint32_t rust_wrap_envelope(pevghazo_session *s, const uint8_t *header, size_t h
 uint32_t rust_unwrap_envelope(pevghazo_session *s, const uint8_t *header, size_t h, const uint8_t *metadata, size_t a, const uint8_t *cryptogram,
                               size_t m, const uint8_t *tag, uint8_t *out);
 uint32_t rust_count(size_t a, size_t m);
+void rust_sae_start(pevghazo_sae_session *s, const uint8_t *key, size_t n, const uint8_t *nonce, size_t nonce_n, uint8_t *tag);
+uint32_t rust_trial_wrap(pevghazo_sae_session *s, const uint8_t *metadata, size_t a, const uint8_t *message, size_t m, uint8_t *out, uint8_t *tag);
+uint32_t rust_sae_unwrap(pevghazo_sae_session *s, const uint8_t *metadata, size_t a, const uint8_t *cryptogram, size_t m, const uint8_t *tag,
+                         uint8_t *out);
 
-/* Of metadata, messages and nonces. SANE's keystream is the output from byte 16 on, so that its blocks begin and end 16 bytes earlier. A header beside
- * short texts has 10 or 11 bytes, so that the first block of header and metadata ends with 36 or 37 bytes of these. */
+/* Of metadata, messages and nonces. The keystream of SANE and of old letters is the output from byte 16 on, so that its blocks begin and end 16
+ * bytes earlier. A header beside short texts has 10 or 11 bytes, so that the first block of header and metadata ends with 36 or 37 bytes of these. */
 static const size_t lengths[] = {0, 1, 31, 32, 33, 36, 37, 38, 47, 48, 49, 79, 80, 81, 95, 96, 97, PEVGHAZO_TEXT_MAX - 1, PEVGHAZO_TEXT_MAX};
 enum { LENGTHS = sizeof lengths / sizeof lengths[0] };
 
@@ -34,9 +39,10 @@ static row rows[BUFFERS];
 static size_t n[BUFFERS];
 static _Alignas(16) uint8_t other[BUFFERS][PEVGHAZO_TEXT_MAX];
 
-/* A session of either mode, and its fields; behind them anything may stand. In a table the group's count follows it. */
+/* A session of any mode, and its fields; behind them anything may stand. In a table the group's count follows it. */
 enum { ONE_SESSION = sizeof(pevghazo_session), FIELDS = offsetof(pevghazo_session, opened) + 1, IN_TABLE = sizeof(pevghazo_record) };
 PEVGHAZO_LAYOUT(one_layout, sizeof(pevghazo_sane_session) == ONE_SESSION && offsetof(pevghazo_sane_session, opened) == FIELDS - 1);
+PEVGHAZO_LAYOUT(old_layout, sizeof(pevghazo_sae_session) == ONE_SESSION && offsetof(pevghazo_sae_session, opened) == FIELDS - 1);
 
 static int where;
 static uint32_t packet;
@@ -46,17 +52,17 @@ static unsigned calls;
 
 /* Those of a lone session, of a group of a table and of a session in SANE, five each; a packet's code; a header; the start of a day; the
  * nearly-full question, by a mark that no index is above, so that every record is read; those of a pool, which are asked for a ring that it does
- * not have; and those with windows. */
+ * not have; those with windows; and those of old letters. */
 enum { LONE, GROUP, SANE, KINDS };
 enum { START, WRAP, UNWRAP, WRAP_ENVELOPE, UNWRAP_ENVELOPE, OPEN_GROUP, WRAP_GROUP, UNWRAP_GROUP, WRAP_ENVELOPE_GROUP, UNWRAP_ENVELOPE_GROUP,
        SANE_START, SANE_WRAP, SANE_UNWRAP, SANE_WRAP_ENVELOPE, SANE_UNWRAP_ENVELOPE, CODE, WRITE_HEADER, DAY, QUESTION,
-       ADD, HOLDS, RINGS, ADD_IN_SEASON, FIRST_DAY, CALLS, OF_A_KIND = 5 };
+       ADD, HOLDS, RINGS, ADD_IN_SEASON, FIRST_DAY, SAE_START, SAE_WRAP, SAE_UNWRAP, CALLS, OF_A_KIND = 5 };
 static const char *const names[CALLS] = {"start", "wrap", "unwrap", "wrap for an envelope", "unwrap for an envelope", "open a group",
                                          "wrap for a group", "unwrap for a group", "wrap for a group's envelope", "unwrap for a group's envelope",
                                          "start in SANE", "wrap in SANE", "unwrap in SANE", "wrap for an envelope in SANE",
                                          "unwrap for an envelope in SANE", "code", "write a header", "start of a day", "nearly-full question",
                                          "add a line", "whether a ring is held", "rings", "add a line inside the season",
-                                         "first permitted day"};
+                                         "first permitted day", "start of old letters", "wrap of an old letter", "unwrap of an old letter"};
 static const uint32_t group = 17, allowance = UINT32_MAX;
 
 /* Whether a call's records are those of a table, and how many there are then. */
@@ -109,6 +115,16 @@ static uint32_t called_on_pool(int call, uint8_t *const b[BUFFERS]) {
     }
 }
 
+/* The number that the library gives, of the calls of old letters. */
+static uint32_t called_on_old(int call, uint8_t *const b[BUFFERS]) {
+    pevghazo_sae_session *old = (void *)b[RECORD];
+    switch (call) {
+    case SAE_START: return pevghazo_sae_start(old, b[KEY], n[KEY], b[NONCE], n[NONCE], b[TAG], n[TAG]).number;
+    case SAE_WRAP: return pevghazo_sae_wrap(old, b[METADATA], n[METADATA], b[INPUT], n[INPUT], b[OUTPUT], n[OUTPUT], b[TAG], n[TAG]).number;
+    default: return pevghazo_sae_unwrap(old, b[METADATA], n[METADATA], b[INPUT], n[INPUT], b[TAG], n[TAG], b[OUTPUT], n[OUTPUT]).number;
+    }
+}
+
 /* The number that the library gives. */
 static uint32_t called(int call, uint8_t *const b[BUFFERS]) {
     pevghazo_session *session = (void *)b[RECORD];
@@ -137,6 +153,9 @@ static uint32_t called(int call, uint8_t *const b[BUFFERS]) {
     case SANE_UNWRAP:
         return pevghazo_sane_unwrap(sane, b[METADATA], n[METADATA], b[INPUT], n[INPUT], b[TAG], n[TAG], b[OUTPUT], n[OUTPUT]).number;
     case CODE: return pevghazo_code(session, packet, b[OUTPUT], n[OUTPUT]).number;
+    case SAE_START:
+    case SAE_WRAP:
+    case SAE_UNWRAP: return called_on_old(call, b);
     default: return called_for_envelope(call, b);
     }
 }
@@ -166,6 +185,9 @@ static uint32_t expected(int call) {
     case UNWRAP_ENVELOPE_GROUP:
         return rust_unwrap_envelope(session, b[HEADER], n[HEADER], b[METADATA], n[METADATA], b[INPUT], n[INPUT], b[TAG], b[OUTPUT]);
     case DAY: return PEVGHAZO_ACCEPTED;
+    case SAE_START: return rust_sae_start((void *)b[RECORD], b[KEY], n[KEY], b[NONCE], n[NONCE], b[TAG]), PEVGHAZO_ACCEPTED;
+    case SAE_WRAP: return PEVGHAZO_READ_ONLY;
+    case SAE_UNWRAP: return rust_sae_unwrap((void *)b[RECORD], b[METADATA], n[METADATA], b[INPUT], n[INPUT], b[TAG], b[OUTPUT]);
     default: return called(call, b);
     }
 }
@@ -208,23 +230,30 @@ static void fill(int buffer, size_t length) {
     random_bytes(other[buffer], length);
 }
 
-/* Under a key of each length, in SANE with a nonce of each length; the last session stays. */
-static void starts(int kind) {
-    n[RECORD] = kind == GROUP ? PEVGHAZO_GROUPS * IN_TABLE : ONE_SESSION;
+/* Under a key of each length, in SANE and for old letters with a nonce of each length; the last session stays. */
+static void starts(int call) {
+    const bool with_nonce = call == SANE_START || call == SAE_START;
+    n[RECORD] = in_table(call) ? PEVGHAZO_GROUPS * IN_TABLE : ONE_SESSION;
     memset(other[RECORD], 0, n[RECORD]);
     for (size_t length = PEVGHAZO_KEY_MIN; length <= PEVGHAZO_KEY_MAX; length++) {
         fill(KEY, length);
-        fill(TAG, kind == SANE ? PEVGHAZO_SANE_TAG_LENGTH : PEVGHAZO_TAG_LENGTH);
-        for (int i = 0; i < (kind == SANE ? LENGTHS : 1); i++) {
+        fill(TAG, with_nonce ? PEVGHAZO_SANE_TAG_LENGTH : PEVGHAZO_TAG_LENGTH);
+        for (int i = 0; i < (with_nonce ? LENGTHS : 1); i++) {
             fill(NONCE, lengths[i]);
-            both(OF_A_KIND * kind + START, PEVGHAZO_ACCEPTED);
+            both(call, PEVGHAZO_ACCEPTED);
         }
     }
 }
 
-/* Wraps a message by this call of a kind; the end that has the record of before then refuses it with a wrong tag, and takes it with the right one,
- * by that call. */
-static void message(int kind, int wrap, int unwrap, size_t a, size_t m) {
+/* The next letter of the first version, by the independent implementation alone. */
+static void trial_wrap(void) {
+    if (rust_trial_wrap((void *)other[RECORD], other[METADATA], n[METADATA], other[INPUT], n[INPUT], other[OUTPUT], other[TAG]) != PEVGHAZO_ACCEPTED)
+        fail("the independent implementation refuses");
+}
+
+/* Wraps a message by this call; the end that has the record of before then refuses it with a wrong tag, and takes it with the right one, by that
+ * call. An old letter is not wrapped by the library. */
+static void message(int wrap, int unwrap, size_t a, size_t m) {
     static uint8_t before[PEVGHAZO_TEXT_MAX], sent[PEVGHAZO_TEXT_MAX];
     uint8_t *wrong = &other[TAG][calls % n[TAG]];
     fill(METADATA, a);
@@ -232,14 +261,15 @@ static void message(int kind, int wrap, int unwrap, size_t a, size_t m) {
     fill(OUTPUT, m);
     memcpy(before, other[RECORD], n[RECORD]);
     memcpy(sent, other[INPUT], m);
-    both(OF_A_KIND * kind + wrap, PEVGHAZO_ACCEPTED);
+    both(wrap, wrap == SAE_WRAP ? PEVGHAZO_READ_ONLY : PEVGHAZO_ACCEPTED);
+    if (wrap == SAE_WRAP) trial_wrap();
     memcpy(other[RECORD], before, n[RECORD]);
     memcpy(other[INPUT], other[OUTPUT], m);
     *wrong ^= 1;
-    both(OF_A_KIND * kind + unwrap, PEVGHAZO_WRONG_TAG);
+    both(unwrap, PEVGHAZO_WRONG_TAG);
     *wrong ^= 1;
     fill(OUTPUT, m);
-    both(OF_A_KIND * kind + unwrap, PEVGHAZO_ACCEPTED);
+    both(unwrap, PEVGHAZO_ACCEPTED);
     if (memcmp(other[OUTPUT], sent, m) != 0) fail("another message comes back");
 }
 
@@ -253,7 +283,7 @@ static void put_header(char letter, size_t a, size_t m) {
 /* The same for an envelope, whose header is written into a buffer of just its length, too. */
 static void message_in_envelope(int kind, size_t a, size_t m) {
     put_header(kind == SANE ? PEVGHAZO_LETTER_N : PEVGHAZO_LETTER_S, a, m);
-    message(kind, WRAP_ENVELOPE, UNWRAP_ENVELOPE, a, m);
+    message(OF_A_KIND * kind + WRAP_ENVELOPE, OF_A_KIND * kind + UNWRAP_ENVELOPE, a, m);
     if (kind == SANE) return;
     fill(OUTPUT, n[HEADER]);
     both(WRITE_HEADER, PEVGHAZO_ACCEPTED);
@@ -285,14 +315,37 @@ static void code(void) {
 }
 
 static void session(int kind) {
-    starts(kind);
+    starts(OF_A_KIND * kind + START);
     for (int i = 0; i < LENGTHS; i++)
         for (int j = 0; j < LENGTHS; j++) {
-            message(kind, WRAP, UNWRAP, lengths[i], lengths[j]);
+            message(OF_A_KIND * kind + WRAP, OF_A_KIND * kind + UNWRAP, lengths[i], lengths[j]);
             message_in_envelope(kind, lengths[i], lengths[j]);
             if (kind == LONE) code();
         }
     refused_headers(kind);
+}
+
+/* Old letters, under keys and nonces of each length. */
+static void old_letters(void) {
+    starts(SAE_START);
+    for (int i = 0; i < LENGTHS; i++)
+        for (int j = 0; j < LENGTHS; j++) message(SAE_WRAP, SAE_UNWRAP, lengths[i], lengths[j]);
+}
+
+/* What is refused by 18 touches no byte of its buffers, however long they are: here they are closed as a whole, and of more than 4 GiB each. */
+static void refused_untouched(void) {
+    const size_t far_len = ((size_t)1 << 32) + 4096;
+    uint8_t *far = mmap(NULL, 4 * far_len, PROT_NONE, MAP_PRIVATE | MAP_ANONYMOUS | MAP_NORESERVE, -1, 0);
+    uint8_t *const b[4] = {far, far + far_len, far + 2 * far_len, far + 3 * far_len};
+    pevghazo_sae_session closed = {{0}, {0}, 0, 0, 0};
+    snprintf(doing, sizeof doing, "what is refused by 18, with closed buffers of %zu bytes", far_len);
+    if (far == MAP_FAILED) fail("there is no room for them");
+    if (pevghazo_sae_wrap(&closed, b[0], far_len, b[1], far_len, b[2], far_len, b[3], far_len).number != PEVGHAZO_READ_ONLY) fail("another number");
+    if (pevghazo_write_envelope(PEVGHAZO_LETTER_F, 7, b[0], far_len, b[1], far_len, b[2], far_len, b[3], far_len).number != PEVGHAZO_READ_ONLY)
+        fail("another number for an envelope");
+    if (pevghazo_write_header(PEVGHAZO_LETTER_F, 7, far_len, far_len, b[3], far_len).number != PEVGHAZO_READ_ONLY) fail("another number for a header");
+    munmap(far, 4 * far_len);
+    calls += 3;
 }
 
 /* A day over a run of so many records, of any content, and the question. */
@@ -374,7 +427,9 @@ static void everywhere(void) {
         for (int i = 0; i < 5; i++) run(runs[i]);
         pool();
         season();
+        old_letters();
     }
+    refused_untouched();
 }
 
 int main(void) {

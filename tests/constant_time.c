@@ -2,9 +2,10 @@
  *
  * Valgrind's memcheck follows every bit that was never set, and reports a branch or an address that depends on one. Here the secrets are
  * marked so: the key, the lanes of a record, and the message, before they are handed to the library. Start, wrap, codes, the start of a day and
- * the nearly-full question must give no report, and neither must a call that is refused for its header.
+ * the nearly-full question must give no report, and neither must a call that is refused for its header, or a wrap of old letters.
  * Unwrap may give one, once in a call: its verdict on the tag, which everybody may know. tests/constant_time.sh runs this for lone sessions, for a
- * group of a table and for sessions in SANE, without an envelope and for one, and checks that all these reports come from one branch. The lengths
+ * group of a table and for sessions in SANE, without an envelope and for one, and for sessions of old letters, and checks that all these reports
+ * come from one branch. Old letters are made by the independent implementation, from a record that is no secret then. The lengths
  * go up to the limit of 16,384 bytes. A second argument N plants a leak in every wrap of a message of more than N bytes, and 'early' and N a
  * comparison that ends at the first difference in every unwrap of one; they must be seen.
  *
@@ -18,21 +19,34 @@
 
 enum { LONGEST = PEVGHAZO_TEXT_MAX, ROOM = LONGEST + 16 };
 
-/* A session's bytes, in either mode: the lanes, then index, toggle and openness, which are no secret. */
+/* The independent implementation's wrap of the first version (rust/bench). */
+uint32_t rust_trial_wrap(pevghazo_sae_session *s, const uint8_t *metadata, size_t a, const uint8_t *message, size_t m, uint8_t *out, uint8_t *tag);
+
+/* A session's bytes, in every mode: the lanes, then index, toggle and openness, which are no secret. */
 enum { LANES = offsetof(pevghazo_session, index), PUBLIC = offsetof(pevghazo_session, opened) + 1 - LANES, RECORD = sizeof(pevghazo_session) };
 PEVGHAZO_LAYOUT(one_layout, sizeof(pevghazo_sane_session) == RECORD && offsetof(pevghazo_sane_session, index) == LANES);
+PEVGHAZO_LAYOUT(old_layout, sizeof(pevghazo_sae_session) == RECORD && offsetof(pevghazo_sae_session, index) == LANES);
 
 /* Short lengths, of which all pairs are tried, and long ones, each with itself, none and one block; 16,320 bytes are 340 whole blocks, and 32 bytes
- * the first block of keystream in SANE. */
+ * the first block of keystream in SANE and in old letters. */
 static const size_t lengths[] = {0, 1, 16, 32, 33, 47, 48, 49, 95, 96, 97, 200, 1024};
 static const size_t long_lengths[] = {1025, 5000, 16320, LONGEST - 1, LONGEST};
 enum { LENGTHS = sizeof lengths / sizeof lengths[0], LONG_LENGTHS = sizeof long_lengths / sizeof long_lengths[0] };
 
-/* Whose calls are made: those of a lone session, of a group of a table, or of a session in SANE; and whether for an envelope. */
-enum { LONE, GROUP, SANE, KINDS, WORDS = 2 * KINDS };
-static const char *const words[WORDS] = {"lone", "group", "sane", "lone-envelope", "group-envelope", "sane-envelope"};
+/* Whose calls are made: those of a lone session, of a group of a table, of a session in SANE, or of one of old letters; and whether for an
+ * envelope, which these have not. */
+enum { LONE, GROUP, SANE, SAE, WORDS = 7 };
+static const struct {
+    const char *word;
+    int kind;
+    bool for_envelope;
+} words[WORDS] = {{"lone", LONE, false},         {"group", GROUP, false},         {"sane", SANE, false},        {"sae", SAE, false},
+                  {"lone-envelope", LONE, true}, {"group-envelope", GROUP, true}, {"sane-envelope", SANE, true}};
 static int kind;
 static bool for_envelope;
+
+/* Whether the sessions start with a nonce, and have shorter tags and no codes. */
+static bool with_nonce(void) { return kind == SANE || kind == SAE; }
 
 static const char *doing = "";
 static unsigned verdicts, calls;
@@ -109,10 +123,11 @@ static void leaks_are_seen(void) {
 /* A group's session stands in a table, and so does the lone one; one more record is for runs of 33. */
 static pevghazo_record table[PEVGHAZO_GROUPS + 1];
 static pevghazo_sane_session sane;
+static pevghazo_sae_session sae;
 static const uint32_t group = 7, allowance = UINT32_MAX;
 
-static uint8_t *record(void) { return kind == SANE ? (uint8_t *)&sane : (uint8_t *)&table[group].session; }
-static size_t tag_len(void) { return kind == SANE ? PEVGHAZO_SANE_TAG_LENGTH : PEVGHAZO_TAG_LENGTH; }
+static uint8_t *record(void) { return kind == SAE ? (uint8_t *)&sae : kind == SANE ? (uint8_t *)&sane : (uint8_t *)&table[group].session; }
+static size_t tag_len(void) { return with_nonce() ? PEVGHAZO_SANE_TAG_LENGTH : PEVGHAZO_TAG_LENGTH; }
 static void hide_lanes(void) { hide(record(), LANES); }
 
 /* The group's count is public after an unwrap too, whatever the verdict: a wrong tag counts as much. */
@@ -136,11 +151,12 @@ static void put_header(size_t a, size_t m) {
     header_len = written.len;
 }
 
-/* A nonce is used in SANE alone, and is no secret. */
+/* A nonce is used in SANE and for old letters alone, and is no secret. */
 static pevghazo_answer call_start(const uint8_t *key, size_t key_len, size_t nonce_len) {
     switch (kind) {
     case LONE: return pevghazo_start(&table[group].session, key, key_len);
     case GROUP: return pevghazo_open_group(table, PEVGHAZO_GROUPS, group, allowance, key, key_len);
+    case SAE: return pevghazo_sae_start(&sae, key, key_len, metadata, nonce_len, tag, tag_len());
     default: return pevghazo_sane_start(&sane, key, key_len, metadata, nonce_len, tag, tag_len());
     }
 }
@@ -184,6 +200,7 @@ static pevghazo_answer call_unwrap(size_t a, size_t m, const uint8_t *arrived) {
     case LONE: return pevghazo_unwrap(&table[group].session, metadata, a, cryptogram, m, arrived, tag_len(), back, ROOM);
     case GROUP:
         return pevghazo_unwrap_group(table, PEVGHAZO_GROUPS, group, allowance, metadata, a, cryptogram, m, arrived, tag_len(), back, ROOM);
+    case SAE: return pevghazo_sae_unwrap(&sae, metadata, a, cryptogram, m, arrived, tag_len(), back, ROOM);
     default: return pevghazo_sane_unwrap(&sane, metadata, a, cryptogram, m, arrived, tag_len(), back, ROOM);
     }
 }
@@ -199,7 +216,7 @@ static void start(size_t key_len, size_t nonce_len) {
     numbers_are_public();
     if (answer.number != 0) fail("refused");
     is_secret(record() + LANES / 2, LANES / 2, "the mask does not depend on the key");
-    if (kind == SANE) {
+    if (with_nonce()) {
         is_secret(record(), LANES / 2, "the accumulator does not depend on the key");
         is_secret(tag, tag_len(), "the tag does not depend on the key");
     }
@@ -220,6 +237,27 @@ static void wrap(size_t a, size_t m) {
     reveal(message, m);
     reveal(cryptogram, m);
     reveal(tag, sizeof tag);
+}
+
+/* A wrap of old letters, which is refused: neither its answer nor a byte that it leaves depends on a secret. Then the letter is made as the first
+ * version did, with nothing hidden. */
+static void refused_wrap(size_t a, size_t m) {
+    reveal(tag, sizeof tag);
+    hide_lanes();
+    hide(message, m);
+    reports();
+    pevghazo_answer answer = pevghazo_sae_wrap(&sae, metadata, a, message, m, cryptogram, ROOM, tag, tag_len());
+    if (m > planted) leak_by_branch(&message[m - 1]);
+    no_report();
+    is_public(&answer, sizeof answer, "the answer depends on a secret");
+    numbers_are_public();
+    is_public(cryptogram, sizeof cryptogram, "the output buffer depends on a secret");
+    is_public(tag, sizeof tag, "the tag buffer depends on a secret");
+    if (answer.number != PEVGHAZO_READ_ONLY || answer.count != 0) fail("the number is not the expected one");
+    is_secret(&sae, LANES, "the session was altered");
+    reveal(&sae, LANES);
+    reveal(message, m);
+    if (rust_trial_wrap(&sae, metadata, a, message, m, cryptogram, tag) != PEVGHAZO_ACCEPTED) fail("the first version refuses");
 }
 
 /* `wrong` damages the tag's bit of that number; RIGHT leaves it. */
@@ -288,11 +326,15 @@ static void store_and_load(void) {
     doing = "store and load";
     hide_lanes();
     reports();
-    number = kind == SANE ? pevghazo_store_sane_session(&sane, bytes, sizeof bytes) : pevghazo_store_session(&table[group].session, bytes, sizeof bytes);
+    number = kind == SAE    ? pevghazo_store_sae_session(&sae, bytes, sizeof bytes)
+             : kind == SANE ? pevghazo_store_sane_session(&sane, bytes, sizeof bytes)
+                            : pevghazo_store_session(&table[group].session, bytes, sizeof bytes);
     if (number != PEVGHAZO_ACCEPTED) fail("storing is refused");
     no_report();
     is_secret(bytes, LANES, "the stored bytes do not depend on the session");
-    number = kind == SANE ? pevghazo_load_sane_session(&sane, bytes, sizeof bytes) : pevghazo_load_session(&table[group].session, bytes, sizeof bytes);
+    number = kind == SAE    ? pevghazo_load_sae_session(&sae, bytes, sizeof bytes)
+             : kind == SANE ? pevghazo_load_sane_session(&sane, bytes, sizeof bytes)
+                            : pevghazo_load_session(&table[group].session, bytes, sizeof bytes);
     if (number != PEVGHAZO_ACCEPTED) fail("loading is refused");
     no_report();
     numbers_are_public();
@@ -389,7 +431,8 @@ static void message_of(size_t a, size_t m) {
     doing = text;
     if (for_envelope) put_header(a, m);
     snprintf(text, sizeof text, "wrap, %zu and %zu bytes", a, m);
-    wrap(a, m);
+    if (kind == SAE) refused_wrap(a, m);
+    else wrap(a, m);
     snprintf(text, sizeof text, "unwrap, %zu and %zu bytes", a, m);
     memcpy(record(), before, RECORD);
     unwrap(a, m, wrong);
@@ -411,21 +454,21 @@ static void messages(void) {
         for (int j = 0; j < LENGTHS; j++) message_of(lengths[i], lengths[j]);
 }
 
-/* All lengths of a key; in SANE with nonces of some lengths, of which the last stays. */
+/* All lengths of a key; in SANE and for old letters with nonces of some lengths, of which the last stays. */
 static void starts(void) {
     static const size_t nonces[] = {0, 1, 47, 48, LONGEST, 8};
     doing = kind == GROUP ? "open a group" : "start";
     for (size_t n = PEVGHAZO_KEY_MIN; n <= PEVGHAZO_KEY_MAX; n++) {
-        if (kind != SANE) start(n, 0);
-        for (size_t i = 0; kind == SANE && i < sizeof nonces / sizeof nonces[0]; i++) start(n, nonces[i]);
+        if (!with_nonce()) start(n, 0);
+        for (size_t i = 0; with_nonce() && i < sizeof nonces / sizeof nonces[0]; i++) start(n, nonces[i]);
     }
 }
 
 int main(int argc, char **argv) {
     const bool early = argc == 4 && strcmp(argv[2], "early") == 0;
     int word = 0;
-    while (word < WORDS && (argc < 2 || strcmp(argv[1], words[word]) != 0)) word++;
-    kind = word % KINDS, for_envelope = word >= KINDS;
+    while (word < WORDS && (argc < 2 || strcmp(argv[1], words[word].word) != 0)) word++;
+    if (word < WORDS) kind = words[word].kind, for_envelope = words[word].for_envelope;
     if (!RUNNING_ON_VALGRIND || word == WORDS || argc > 4 || (argc == 4 && !early)) {
         fprintf(stderr, "constant time: run tests/constant_time.sh, which runs this under valgrind for each kind of session\n");
         return 2;
@@ -435,11 +478,11 @@ int main(int argc, char **argv) {
     for (int i = 0; i < ROOM; i++) metadata[i] = (uint8_t)(3 * i), message[i] = (uint8_t)(5 * i + 1);
     leaks_are_seen();
     starts();
-    if (kind != SANE) code(0, PEVGHAZO_CODE_LENGTH, PEVGHAZO_NO_CODE);
+    if (!with_nonce()) code(0, PEVGHAZO_CODE_LENGTH, PEVGHAZO_NO_CODE);
     store_and_load();
     messages();
     if (for_envelope) refused_headers();
-    if (kind != SANE) codes();
+    if (!with_nonce()) codes();
     if (kind == GROUP) runs();
     printf("constant time, %s: %u calls, %u verdicts on tags seen, nothing else\n", argv[1], calls, verdicts);
     return 0;

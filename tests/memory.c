@@ -13,6 +13,7 @@ static int memory;
 static pevghazo_record office[PEVGHAZO_GROUPS];
 static pevghazo_session lone;
 static pevghazo_sane_session sane;
+static pevghazo_sae_session sae;
 static const uint8_t key[] = "a key for the memory's test", metadata[] = "size C";
 static uint8_t message[300], out[300], tag[PEVGHAZO_TAG_LENGTH], sane_tag[PEVGHAZO_SANE_TAG_LENGTH], header[PEVGHAZO_HEADER_MAX];
 
@@ -38,14 +39,15 @@ __attribute__((noinline)) static unsigned lanes_below(const uint32_t acc[12], co
     return found;
 }
 
-/* The calls that leave something behind; and the start of a day, which may leave nothing. */
+/* The calls that leave something behind; and the start of a day and the wrap of old letters, which may leave nothing. */
 enum { START, WRAP, UNWRAP, WRAP_ENVELOPE, UNWRAP_ENVELOPE, CODE,
        OPEN_GROUP, WRAP_GROUP, UNWRAP_GROUP, WRAP_ENVELOPE_GROUP, UNWRAP_ENVELOPE_GROUP,
-       SANE_START, SANE_WRAP, SANE_UNWRAP, SANE_WRAP_ENVELOPE, SANE_UNWRAP_ENVELOPE, CALLS, DAY = CALLS };
+       SANE_START, SANE_WRAP, SANE_UNWRAP, SANE_WRAP_ENVELOPE, SANE_UNWRAP_ENVELOPE, SAE_START, SAE_UNWRAP, CALLS, DAY = CALLS, SAE_WRAP };
 static const char *const names[] = {"start", "wrap", "unwrap", "wrap for an envelope", "unwrap for an envelope", "code",
                                     "open a group", "wrap for a group", "unwrap for a group", "wrap for a group's envelope",
                                     "unwrap for a group's envelope", "start in SANE", "wrap in SANE", "unwrap in SANE",
-                                    "wrap for an envelope in SANE", "unwrap for an envelope in SANE", "start of a day"};
+                                    "wrap for an envelope in SANE", "unwrap for an envelope in SANE", "start of old letters",
+                                    "unwrap of an old letter", "start of a day", "wrap of an old letter"};
 
 static uint32_t call_for_envelope(int which, size_t n) {
     const uint32_t allowance = UINT32_MAX;
@@ -80,6 +82,9 @@ static uint32_t call(int which, size_t n) {
     case SANE_WRAP: return pevghazo_sane_wrap(&sane, metadata, sizeof metadata, message, n, out, n, sane_tag, sizeof sane_tag).number;
     case DAY: return pevghazo_start_day(office, PEVGHAZO_GROUPS, 0);
     case SANE_UNWRAP: return pevghazo_sane_unwrap(&sane, metadata, sizeof metadata, out, n, sane_tag, sizeof sane_tag, message, n).number;
+    case SAE_START: return pevghazo_sae_start(&sae, key, sizeof key, message, n, sane_tag, sizeof sane_tag).number;
+    case SAE_WRAP: return pevghazo_sae_wrap(&sae, metadata, sizeof metadata, message, n, out, n, sane_tag, sizeof sane_tag).number;
+    case SAE_UNWRAP: return pevghazo_sae_unwrap(&sae, metadata, sizeof metadata, out, n, sane_tag, sizeof sane_tag, message, n).number;
     default: return call_for_envelope(which, n);
     }
 }
@@ -94,6 +99,7 @@ __attribute__((noinline)) static uint32_t called(int which, size_t n, int wiped)
 /* The lanes on the stack of the session that a call works on. */
 static unsigned lanes_of(int which) {
     const pevghazo_session *session = which < OPEN_GROUP ? &lone : &office[7].session;
+    if (which == SAE_START || which == SAE_UNWRAP || which == SAE_WRAP) return lanes_below(sae.acc, sae.mask);
     return which < SANE_START || which == DAY ? lanes_below(session->acc, session->mask) : lanes_below(sane.acc, sane.mask);
 }
 
@@ -104,12 +110,12 @@ static void on_the_stack(int which, size_t n) {
     if (lanes_of(which) != 0) fail("lanes are left on the stack", names[which]);
 }
 
-/* After the start of a day and the wipe there is no lane of a group's session, neither its own nor one that stood there before. */
-static void after_a_day(size_t n) {
-    (void)called(WRAP_GROUP, n, 0);
-    if (lanes_of(DAY) == 0) fail("no lane is found on the stack, so this test sees nothing", names[DAY]);
-    (void)called(DAY, n, 1);
-    if (lanes_of(DAY) != 0) fail("lanes are left on the stack", names[DAY]);
+/* After such a call and the wipe there is no lane of its session, neither its own nor one that a call before it left there. */
+static void wiped_after(int which, int before, size_t n) {
+    (void)called(before, n, 0);
+    if (lanes_of(which) == 0) fail("no lane is found on the stack, so this test sees nothing", names[which]);
+    (void)called(which, n, 1);
+    if (lanes_of(which) != 0) fail("lanes are left on the stack", names[which]);
 }
 
 /* A secret that nobody reads after the wipe: a compiler that looked at all files at once would see that. */
@@ -136,7 +142,10 @@ int main(void) {
     for (unsigned i = 0; i < sizeof message; i++) message[i] = (uint8_t)(7 * i + 1);
     for (int which = 0; which < CALLS; which++)
         for (size_t n = 0; n <= sizeof message; n += 100) on_the_stack(which, n);
-    for (size_t n = 0; n <= sizeof message; n += 100) after_a_day(n);
+    for (size_t n = 0; n <= sizeof message; n += 100) {
+        wiped_after(DAY, WRAP_GROUP, n);
+        wiped_after(SAE_WRAP, SAE_UNWRAP, n);
+    }
     if (bytes_of_the_secret(0) < 16) fail("a buffer's bytes are not found, so this test sees nothing", "wipe");
     if (bytes_of_the_secret(1) != 0) fail("a wiped buffer holds its bytes", "wipe");
     puts("memory: calls leave lanes on the stack, and the wipes take them away");

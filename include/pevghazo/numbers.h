@@ -8,8 +8,8 @@
 extern "C" {
 #endif
 
-/* Numbers, in the order in which they are checked; but a code meets 5, 12, 8, and an addition to a pool inside the season 13, 16, 17, 14, 15, in
- * these orders. */
+/* Numbers, in the order in which they are checked; but a code meets 5, 12, 8, an addition to a pool inside the season 13, 16, 17, 14, 15, in
+ * these orders, and 18 is met before every other. */
 enum {
     PEVGHAZO_ACCEPTED = 0,
     PEVGHAZO_BAD_HEADER = 1,     /* the envelope's header does not follow the layout, or is not the one of the call */
@@ -18,7 +18,7 @@ enum {
     PEVGHAZO_BAD_KEY = 4,        /* the key does not have 16 to 47 bytes */
     PEVGHAZO_NOT_OPEN = 5,       /* the session is not open */
     PEVGHAZO_TOO_LONG = 6,       /* metadata, message or nonce has more than 16,384 bytes */
-    PEVGHAZO_BAD_TAG_LENGTH = 7, /* the tag, or the tag buffer, does not have 32 bytes, or in SANE 16 */
+    PEVGHAZO_BAD_TAG_LENGTH = 7, /* the tag, or the tag buffer, does not have 32 bytes, or in SANE and in old letters 16 */
     PEVGHAZO_NO_ROOM = 8,        /* the output buffer is too short */
     PEVGHAZO_INDEX_FULL = 9,     /* the index after the call would exceed 1,048,576 */
     PEVGHAZO_ALLOWANCE = 10,     /* the allowance is smaller than the group's count of the day plus this call's count */
@@ -28,15 +28,19 @@ enum {
     PEVGHAZO_POOLED = 14,        /* a number of the line is pooled already in its size */
     PEVGHAZO_POOL_FULL = 15,     /* the pool would need more than 256 runs after joining */
     PEVGHAZO_NO_SUCH_DAY = 16,   /* the line's day does not exist in 1900 to 2199, or its size's window has a date that no leap year has */
-    PEVGHAZO_OUT_OF_SEASON = 17  /* the line's day is outside its size's window */
+    PEVGHAZO_OUT_OF_SEASON = 17, /* the line's day is outside its size's window */
+    PEVGHAZO_READ_ONLY = 18      /* old letters (letter F) are only opened: none is wrapped, and no envelope of one is written */
 };
 
-/* Limits: the groups of a table, the bytes of a tag in SANSE and in SANE, and the most bytes of metadata and of a message. */
+/* Limits: the groups of a table, the bytes of a tag in SANSE, in SANE and in old letters (SAE), and the most bytes of metadata and of a message,
+ * and of a nonce, which may have none. */
 enum {
     PEVGHAZO_GROUPS = 32,
     PEVGHAZO_TAG_LENGTH = 32,
     PEVGHAZO_SANE_TAG_LENGTH = 16,
-    PEVGHAZO_TEXT_MAX = 16384
+    PEVGHAZO_SAE_TAG_LENGTH = 16,
+    PEVGHAZO_TEXT_MAX = 16384,
+    PEVGHAZO_NONCE_MAX = 16384
 };
 
 /* A plain English sentence for a number, also for those of stored.h; never NULL, also where there is no such number. It must not be altered

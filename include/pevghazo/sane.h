@@ -26,9 +26,6 @@
 extern "C" {
 #endif
 
-/* Limit: the most bytes of a nonce; it may have none. The bytes of a tag are PEVGHAZO_SANE_TAG_LENGTH. */
-enum { PEVGHAZO_NONCE_MAX = 16384 };
-
 /* A session in SANE. It has the fields of a pevghazo_session and is as secret. Zeroed memory is a closed one, and it must not be copied and
  * used twice. It is a type of its own, so that compilers warn, or refuse the program, where a record of one mode is handed to a call of the
  * other. */

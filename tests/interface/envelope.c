@@ -31,7 +31,8 @@ static size_t header_of(uint8_t letter, uint32_t group, uint8_t header[PEVGHAZO_
 /* The checks of writing a header, in their order; and the header, with the buffer's other bytes kept. */
 static void headers(void) {
     static const struct { uint8_t letter; uint32_t group; size_t metadata, message, room; uint32_t number; } refused[] = {
-        {'F', 32, 16385, 0, 0, PEVGHAZO_BAD_HEADER},   {'S', 32, 16385, 0, 0, PEVGHAZO_BAD_GROUP}, {'N', 31, 16385, 0, 0, PEVGHAZO_TOO_LONG},
+        {'F', 32, 16385, 0, 0, PEVGHAZO_READ_ONLY},    {'f', 32, 16385, 0, 0, PEVGHAZO_BAD_HEADER},   {'S', 32, 16385, 0, 0, PEVGHAZO_BAD_GROUP},
+        {'F', 7, 20, 48, 99, PEVGHAZO_READ_ONLY},      {'N', 31, 16385, 0, 0, PEVGHAZO_TOO_LONG},
         {'S', 31, 0, 16385, 0, PEVGHAZO_TOO_LONG},     {'S', 31, SIZE_MAX, 0, 99, PEVGHAZO_TOO_LONG}, {'N', 7, 20, 48, 9, PEVGHAZO_NO_ROOM},
         {'S', 31, 16384, 16384, 16, PEVGHAZO_NO_ROOM}};
     uint8_t out[100], kept[100];
@@ -134,7 +135,7 @@ static void sealed_before(void) {
 /* Headers that are not the call's get 1, before all else; nothing is altered. */
 static void other_headers(void) {
     static const char *const others[] = {"", "S", "S,7,6,11", "S,7,6,11,,", " S,7,6,11,", "S,07,6,11,", "S,32,6,11,", "S,7,7,11,", "S,7,6,10,",
-                                         "N,7,6,11,"};
+                                         "N,7,6,11,", "F,7,6,11,"};
     static pevghazo_session closed;
     static pevghazo_record short_table[PEVGHAZO_GROUPS - 1];
     uint8_t out[message_len], tag[PEVGHAZO_TAG_LENGTH], kept[PEVGHAZO_TAG_LENGTH];

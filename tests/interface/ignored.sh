@@ -12,7 +12,9 @@ for call in 'pevghazo_start(s, a, 16)' 'pevghazo_wrap(s, a, 9, b, 9, c, 9, a, 32
   'pevghazo_sane_wrap_envelope(n, b, 9, a, 9, b, 9, c, 9, a, 16)' 'pevghazo_sane_unwrap_envelope(n, b, 9, a, 9, b, 9, c, 16, a, 9)' \
   'pevghazo_write_header(0, 0, 9, 9, a, 17)' \
   'pevghazo_pool_add(p, a, 25)' 'pevghazo_pool_holds(p, 67, 1)' 'pevghazo_pool_rings(p)' \
-  'pevghazo_pool_add_in_season(p, w, a, 25)' 'pevghazo_first_day(w, a, 25)'; do
+  'pevghazo_pool_add_in_season(p, w, a, 25)' 'pevghazo_first_day(w, a, 25)' \
+  'pevghazo_sae_start(o, a, 16, b, 9, c, 16)' 'pevghazo_sae_unwrap(o, a, 9, b, 9, c, 16, a, 9)' \
+  'pevghazo_sae_wrap(o, a, 9, b, 9, c, 9, a, 16)' 'pevghazo_store_sae_session(o, a, 102)' 'pevghazo_load_sae_session(o, a, 102)'; do
   for compiler in "gcc -x c -std=c89" "gcc -x c -std=c17" "clang -x c -std=c89" "g++ -x c++ -std=c++98" "g++ -x c++ -std=c++17"; do
     has ${compiler%% *} || continue
     $compiler $flags -DUSED "-DCALL=$call" tests/interface/ignored.c -c -o "$out/object.o"

@@ -1,4 +1,4 @@
-# A record of one kind does not go to a call of another: C with warnings as errors refuses it, and so does C++. Kinds are the sessions of either
+# A record of one kind does not go to a call of another: C with warnings as errors refuses it, and so does C++. Kinds are the sessions of each
 # mode, the records of a table, a pool, and windows. Read by interface.sh.
 for call in 'pevghazo_start(n, a, 16)' 'pevghazo_wrap(n, a, 9, b, 9, c, 9, a, 32)' 'pevghazo_unwrap(n, a, 9, b, 9, c, 32, a, 9)' \
   'pevghazo_start(t, a, 16)' 'pevghazo_code(n, 0, a, 8)' 'pevghazo_code(t, 0, a, 8)' 'pevghazo_store_session(t, a, 102)' \
@@ -16,7 +16,14 @@ for call in 'pevghazo_start(n, a, 16)' 'pevghazo_wrap(n, a, 9, b, 9, c, 9, a, 32
   'pevghazo_pool_add(t, a, 25)' 'pevghazo_pool_holds(s, 67, 1)' 'pevghazo_pool_rings(p->runs)' 'pevghazo_start(p, a, 16)' \
   'pevghazo_nearly_full(p, 32, 9)' 'pevghazo_pool_add_in_season(t, w, a, 25)' 'pevghazo_pool_add_in_season(p, p, a, 25)' \
   'pevghazo_pool_add_in_season(w, p, a, 25)' 'pevghazo_first_day(p, a, 25)' 'pevghazo_first_day(w->sizes, a, 25)' \
-  'pevghazo_pool_add(w, a, 25)' 'pevghazo_pool_rings(w)'; do
+  'pevghazo_pool_add(w, a, 25)' 'pevghazo_pool_rings(w)' \
+  'pevghazo_sae_start(n, a, 16, b, 9, c, 16)' 'pevghazo_sae_start(s, a, 16, b, 9, c, 16)' 'pevghazo_sae_unwrap(n, a, 9, b, 9, c, 16, a, 9)' \
+  'pevghazo_sae_unwrap(s, a, 9, b, 9, c, 16, a, 9)' 'pevghazo_sae_wrap(n, a, 9, b, 9, c, 9, a, 16)' \
+  'pevghazo_sane_start(o, a, 16, b, 9, c, 16)' 'pevghazo_sane_wrap(o, a, 9, b, 9, c, 9, a, 16)' \
+  'pevghazo_sane_unwrap(o, a, 9, b, 9, c, 16, a, 9)' 'pevghazo_sane_unwrap_envelope(o, b, 9, a, 9, b, 9, c, 16, a, 9)' \
+  'pevghazo_start(o, a, 16)' 'pevghazo_wrap(o, a, 9, b, 9, c, 9, a, 32)' 'pevghazo_code(o, 0, a, 8)' 'pevghazo_nearly_full(o, 32, 9)' \
+  'pevghazo_store_sae_session(n, a, 102)' 'pevghazo_load_sae_session(s, a, 102)' 'pevghazo_store_sane_session(o, a, 102)' \
+  'pevghazo_load_session(o, a, 102)'; do
   for compiler in "gcc -x c -std=c89" "gcc -x c -std=c17" "clang -x c -std=c89" "g++ -x c++ -std=c++98" "g++ -x c++ -std=c++17"; do
     has ${compiler%% *} || continue
     if $compiler $flags -DUSED "-DCALL=$call" tests/interface/ignored.c -c -o "$out/object.o" 2>"$out/log"; then

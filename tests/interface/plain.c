@@ -1,4 +1,4 @@
-/* The functions in plain C beside the proved ones, in old C: texts, version, and sessions of either mode as bytes. `print` as an argument prints
+/* The functions in plain C beside the proved ones, in old C: texts, version, and sessions of every mode as bytes. `print` as an argument prints
  * what the Rust crate must print, too: the sentences, and the sessions' bytes and codes. */
 #include <pevghazo.h>
 #include <stdio.h>
@@ -14,7 +14,8 @@ static void check(const char *what, int holds) {
 static const uint8_t key[] = "a key for the stored bytes", metadata[] = "size C", message[] = "12001-12100";
 static pevghazo_session session, zero;
 static pevghazo_sane_session sane_session;
-static uint8_t stored[PEVGHAZO_SESSION_BYTES], sane_stored[PEVGHAZO_SESSION_BYTES];
+static pevghazo_sae_session sae_session;
+static uint8_t stored[PEVGHAZO_SESSION_BYTES], sane_stored[PEVGHAZO_SESSION_BYTES], sae_stored[PEVGHAZO_SESSION_BYTES];
 
 static void texts(void) {
     const char *none = pevghazo_number_text(100);
@@ -25,7 +26,7 @@ static void texts(void) {
     check("the library's version is another than the headers'", strcmp(version, pevghazo_version()) == 0);
     for (i = 0; i <= 300; i++) {
         const char *text = pevghazo_number_text(i);
-        const int is_number = i <= PEVGHAZO_OUT_OF_SEASON || (i >= PEVGHAZO_STORED_LENGTH && i <= PEVGHAZO_STORED_CLOSED);
+        const int is_number = i <= PEVGHAZO_READ_ONLY || (i >= PEVGHAZO_STORED_LENGTH && i <= PEVGHAZO_STORED_CLOSED);
         check("a text is no sentence", strlen(text) > 5 && text[strlen(text) - 1] == '.');
         check("a number has no text, or a text no number", (strcmp(text, none) != 0) == is_number);
         for (j = 0; is_number && j < i; j++) check("two numbers have one text", strcmp(text, pevghazo_number_text(j)) != 0);
@@ -33,25 +34,30 @@ static void texts(void) {
     check("the highest number has a text", strcmp(pevghazo_number_text(0xFFFFFFFF), none) == 0);
 }
 
-/* The record and the bytes stay where a call is refused, in either mode: the two kinds of record have one layout. */
+/* The record and the bytes stay where a call is refused, in every mode: the three kinds of record have one layout. */
 static void refused(uint32_t number, const pevghazo_session *bad, const uint8_t *bytes, size_t bytes_len) {
     static uint8_t out[300], before[300];
     pevghazo_session record = session;
     pevghazo_sane_session bad_sane, sane = sane_session;
+    pevghazo_sae_session bad_sae, sae = sae_session;
     memset(out, 0xA5, sizeof out);
     memcpy(before, out, sizeof out);
     if (bad != NULL) {
         memcpy(&bad_sane, bad, sizeof bad_sane);
+        memcpy(&bad_sae, bad, sizeof bad_sae);
         check("storing gives another number", pevghazo_store_session(bad, out, bytes_len) == number);
         check("storing in SANE gives another number", pevghazo_store_sane_session(&bad_sane, out, bytes_len) == number);
+        check("storing old letters gives another number", pevghazo_store_sae_session(&bad_sae, out, bytes_len) == number);
     }
     check("a refused storing alters the bytes", memcmp(out, before, sizeof out) == 0);
     if (bytes != NULL) {
         check("loading gives another number", pevghazo_load_session(&record, bytes, bytes_len) == number);
         check("loading in SANE gives another number", pevghazo_load_sane_session(&sane, bytes, bytes_len) == number);
+        check("loading old letters gives another number", pevghazo_load_sae_session(&sae, bytes, bytes_len) == number);
     }
     check("a refused loading alters the record", memcmp(&record, &session, sizeof record) == 0);
     check("a refused loading in SANE alters the record", memcmp(&sane, &sane_session, sizeof sane) == 0);
+    check("a refused loading of old letters alters the record", memcmp(&sae, &sae_session, sizeof sae) == 0);
 }
 
 /* A session with one byte of its record and of its stored bytes altered; the two stand at the same place. */
@@ -73,6 +79,17 @@ static void sane_comes_back(void) {
     check("another session in SANE comes back", memcmp(back.acc, sane_session.acc, sizeof back.acc) == 0
           && memcmp(back.mask, sane_session.mask, sizeof back.mask) == 0 && back.index == sane_session.index && back.toggle == sane_session.toggle
           && back.opened == sane_session.opened);
+}
+
+/* The same of the session of old letters. */
+static void sae_comes_back(void) {
+    pevghazo_sae_session back;
+    check("storing old letters is refused", pevghazo_store_sae_session(&sae_session, sae_stored, sizeof sae_stored) == PEVGHAZO_ACCEPTED);
+    memset(&back, 0, sizeof back);
+    check("loading old letters is refused", pevghazo_load_sae_session(&back, sae_stored, sizeof sae_stored) == PEVGHAZO_ACCEPTED);
+    check("another session of old letters comes back", memcmp(back.acc, sae_session.acc, sizeof back.acc) == 0
+          && memcmp(back.mask, sae_session.mask, sizeof back.mask) == 0 && back.index == sae_session.index && back.toggle == sae_session.toggle
+          && back.opened == sae_session.opened);
 }
 
 /* The same of the session in SANSE. */
@@ -104,6 +121,18 @@ static void sane_sessions(void) {
                                       tag, sizeof tag).number
               == PEVGHAZO_ACCEPTED);
     sane_comes_back();
+}
+
+/* A session of old letters, started; with the toggle set, which no start leaves; and started again. */
+static void sae_sessions(void) {
+    static uint8_t tag[PEVGHAZO_SAE_TAG_LENGTH];
+    int toggle;
+    for (toggle = 1; toggle >= 0; toggle--) {
+        check("starting old letters is refused",
+              pevghazo_sae_start(&sae_session, key, sizeof key - 1, metadata, sizeof metadata - 1, tag, sizeof tag).number == PEVGHAZO_ACCEPTED);
+        sae_session.toggle = toggle == 1;
+        sae_comes_back();
+    }
 }
 
 static void sessions(void) {
@@ -170,10 +199,11 @@ static void print_bytes(const uint8_t *bytes) {
 
 static void print(void) {
     uint32_t number;
-    for (number = PEVGHAZO_BAD_HEADER; number <= PEVGHAZO_OUT_OF_SEASON; number++) puts(pevghazo_number_text(number));
+    for (number = PEVGHAZO_BAD_HEADER; number <= PEVGHAZO_READ_ONLY; number++) puts(pevghazo_number_text(number));
     for (number = PEVGHAZO_STORED_FLAG; number <= PEVGHAZO_STORED_CLOSED; number++) puts(pevghazo_number_text(number));
     print_bytes(stored);
     print_bytes(sane_stored);
+    print_bytes(sae_stored);
     print_code(0);
     print_code(PEVGHAZO_PACKET_MAX);
 }
@@ -181,6 +211,7 @@ static void print(void) {
 int main(int argc, char **argv) {
     texts();
     sane_sessions();
+    sae_sessions();
     sessions();
     wiped();
     if (argc == 2 && strcmp(argv[1], "print") == 0) print();

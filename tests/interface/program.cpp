@@ -1,4 +1,6 @@
-// A message from an office to a group, as it is and in an envelope, a packet's code at both ends, a pool, and seasons, in C++ with the installed library.
+// A message from an office to a group, as it is and in an envelope, a packet's code at both ends, a pool, seasons, and old letters, in C++ with the
+// installed library.
+#include "letters.h"
 #include <cstring>
 #include <iostream>
 #include <pevghazo.h>
@@ -107,6 +109,40 @@ bool seasons() {
     return first.number == PEVGHAZO_ACCEPTED && first.found && first.day == 20251115;
 }
 
+// The bytes of hexadecimal digits.
+bytes of_digits(const std::string &digits) {
+    bytes out;
+    for (std::size_t i = 0; i < digits.size(); i += 2) out.push_back(static_cast<std::uint8_t>(std::stoi(digits.substr(i, 2), nullptr, 16)));
+    return out;
+}
+
+// A box of old letters, each damaged first; and a wrap, which is refused.
+bool old_letters() {
+    const bytes key = of_digits(letters_key), nonce = of_digits(letters_nonce);
+    bytes tag(PEVGHAZO_SAE_TAG_LENGTH);
+    pevghazo_sae_session session{};
+    const auto started = pevghazo_sae_start(&session, key.data(), key.size(), nonce.data(), nonce.size(), tag.data(), tag.size());
+    if (started.number != PEVGHAZO_ACCEPTED || tag != of_digits(letters_start_tag)) return false;
+    for (const auto &letter : letters) {
+        const bytes a = of_digits(letter.metadata), c = of_digits(letter.cryptogram);
+        bytes t = of_digits(letter.tag), out(c.size() + 1);
+        const auto open = [&] {
+            return pevghazo_sae_unwrap(&session, a.data(), a.size(), c.data(), c.size(), t.data(), t.size(), out.data(), out.size()).number;
+        };
+        t[0] ^= 1;
+        if (open() != PEVGHAZO_WRONG_TAG) return false;
+        t[0] ^= 1;
+        if (open() != PEVGHAZO_ACCEPTED) return false;
+        out.pop_back();
+        if (out != of_digits(letter.message)) return false;
+    }
+    bytes out(1);
+    const auto wrapped = pevghazo_sae_wrap(&session, key.data(), 1, key.data(), 1, out.data(), out.size(), tag.data(), tag.size());
+    pevghazo_wipe(&session, sizeof session);
+    pevghazo_wipe_stack();
+    return wrapped.number == PEVGHAZO_READ_ONLY && wrapped.count == 0;
+}
+
 } // namespace
 
 int main() {
@@ -126,7 +162,7 @@ int main() {
     pevghazo_pool pool{};
     if (pevghazo_pool_add(&pool, line.data(), line.size()) != PEVGHAZO_ACCEPTED) return 1;
     if (pevghazo_pool_rings(&pool) != 100 || !pevghazo_pool_holds(&pool, 'C', 12100)) return 1;
-    if (!seasons()) return 1;
+    if (!seasons() || !old_letters()) return 1;
     try {
         (void)group.unwrap(metadata, cryptogram, tag);
         return 1;

@@ -1,12 +1,30 @@
 //! A program outside the repository, over the installed library: prints the sentences of the numbers, and the stored bytes and codes of
-//! sessions of either mode, which must be those that the C functions give.
+//! sessions of every mode, which must be those that the C functions give.
 
 use pevghazo::{
-    BadBytes, Letter, Number, PACKET_MAX, Plain, Pool, Refusal, SaneSession, Secret, Session, Size, Table, Window, Windows, envelope,
+    BadBytes, Letter, Number, PACKET_MAX, Plain, Pool, Refusal, SaeSession, SaneSession, Secret, Session, Size, Table, Window, Windows,
+    envelope,
 };
 
 fn digits(bytes: &Secret) -> String {
     bytes.iter().map(|byte| format!("{byte:02x}")).collect()
+}
+
+/// The bytes of hexadecimal digits.
+fn bytes(digits: &str) -> Vec<u8> {
+    let byte = |i: usize| u8::from_str_radix(&digits[i..i + 2], 16).expect("two digits");
+    (0..digits.len()).step_by(2).map(byte).collect()
+}
+
+/// The first letter of the first session of `vectors/sae.txt`, which has neither metadata nor a message.
+fn first_letter() -> Result<(), Refusal> {
+    let key = bytes("ae947c8d3be9b84b5dcb2583fb0e48bad0003213fe6196cb23ef05c0f474ce");
+    let (mut session, tag, _) = SaeSession::start(&key, b"")?;
+    assert_eq!(tag[..], bytes("4d6ef86b957df5311f9d7a940ab6fcb4"));
+    let letter = [&b"F,31,0,0,"[..], &bytes("1aac4534400f92ef158523286a2e644f")].concat();
+    let opened = session.open(&letter)?;
+    assert_eq!((opened.group, opened.metadata, &opened.message[..], opened.count), (31, &b""[..], &b""[..], 3));
+    Ok(())
 }
 
 fn main() -> Result<(), Refusal> {
@@ -27,6 +45,12 @@ fn main() -> Result<(), Refusal> {
     let (mut there, same_tag, _) = SaneSession::start(key, b"size C")?;
     let sealed = here.seal(7, &plain)?;
     assert_eq!((tag, &there.open(&sealed.envelope)?.message[..]), (same_tag, plain.message));
+    let (mut old, _, _) = SaeSession::start(key, b"size C")?;
+    assert_eq!(old.wrap(&plain).unwrap_err().number, Number::ReadOnly);
+    let as_letter = [b"F", &sealed.envelope[1..]].concat();
+    assert_eq!((envelope::read(&as_letter)?.letter, old.open(&as_letter).unwrap_err().number), (Letter::F, Number::WrongTag));
+    assert_eq!(envelope::write_header(Letter::F, 7, &plain).unwrap_err().number, Number::ReadOnly);
+    first_letter()?;
     let mut pool = Pool::new();
     pool.add(b"7,C,12001,12100,20250304\n")?;
     assert_eq!((pool.rings(), pool.holds(Size::C, 12_100), pool.holds(Size::D, 12_100)), (100, true, false));
@@ -43,6 +67,7 @@ fn main() -> Result<(), Refusal> {
     }
     println!("{}", digits(&session.to_bytes()));
     println!("{}", digits(&there.to_bytes()));
+    println!("{}", digits(&old.to_bytes()));
     for packet in [0, PACKET_MAX] {
         let (code, count) = session.code(packet)?;
         assert_eq!((office.code(7, packet)?, code.to_string().parse()), ((code, count), Ok(code)));

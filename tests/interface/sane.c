@@ -65,7 +65,7 @@ static void in_an_envelope(pevghazo_sane_session *from, pevghazo_sane_session *t
     check("wrapping", wrapped.number, PEVGHAZO_ACCEPTED);
     check("the count of wrapping", wrapped.count, 6);
     check("writing with another letter",
-          pevghazo_write_envelope('F', 32, metadata, metadata_len, cryptogram, message_len, tag, sizeof tag, envelope, 0).number,
+          pevghazo_write_envelope('M', 32, metadata, metadata_len, cryptogram, message_len, tag, sizeof tag, envelope, 0).number,
           PEVGHAZO_BAD_HEADER);
     check("writing with the letter S",
           pevghazo_write_envelope(PEVGHAZO_LETTER_S, 7, metadata, metadata_len, cryptogram, message_len, tag, sizeof tag, envelope, 0).number,

@@ -1,16 +1,16 @@
 //! The independent implementation behind a C interface, so that `bench/bench.c` can time it beside the proved library, and
-//! `tests/leaves.c` and `tests/buffers.c` can compare the leaves and the library's calls with it. The records are those of
-//! `include/pevghazo.h`; lengths must be within their limits.
+//! `tests/leaves.c` and `tests/buffers.c` can compare the leaves and the library's calls with it; and `tests/constant_time.c` has old
+//! letters to open. The records are those of `include/pevghazo.h`; lengths must be within their limits.
 
 use std::slice::{from_raw_parts, from_raw_parts_mut};
 
 use pevghazo_reference::deck::Deck;
 use pevghazo_reference::refusal::Refusal;
 use pevghazo_reference::sanse::count;
-use pevghazo_reference::session::Session;
+use pevghazo_reference::session::{Record as Kept, SaeSession, Session};
 use pevghazo_reference::xoodoo::{BLOCK, State, XOOFFF_ROUNDS, inverse};
 
-/// `pevghazo_session` of the header.
+/// `pevghazo_session` of the header, or `pevghazo_sae_session`, which has the same layout.
 #[repr(C)]
 pub struct Record {
     acc: [u32; 12],
@@ -21,18 +21,18 @@ pub struct Record {
 }
 
 impl Record {
-    fn session(&self) -> Session {
-        Session {
+    fn session<M>(&self) -> Kept<M> {
+        Kept {
             accumulator: self.acc,
             mask: self.mask,
             index: self.index,
             toggle: self.toggle,
             open: self.opened,
-            ..Session::CLOSED
+            ..Kept::CLOSED
         }
     }
 
-    fn set(&mut self, session: Session) {
+    fn set<M>(&mut self, session: Kept<M>) {
         self.acc = session.accumulator;
         self.mask = session.mask;
         self.index = session.index;
@@ -69,7 +69,7 @@ pub unsafe extern "C" fn rust_wrap(
 ) -> bool {
     let (metadata, message) = unsafe { (from_raw_parts(metadata, metadata_len), from_raw_parts(message, message_len)) };
     let out = unsafe { from_raw_parts_mut(out, message_len) };
-    let mut here = session.session();
+    let mut here: Session = session.session();
     let answer = here.wrap(metadata, message, out, tag);
     session.set(here);
     answer.is_ok()
@@ -93,7 +93,7 @@ pub unsafe extern "C" fn rust_unwrap(
     let metadata = unsafe { from_raw_parts(metadata, metadata_len) };
     let cryptogram = unsafe { from_raw_parts(cryptogram, cryptogram_len) };
     let out = unsafe { from_raw_parts_mut(out, cryptogram_len) };
-    let mut here = session.session();
+    let mut here: Session = session.session();
     let answer = here.unwrap(metadata, cryptogram, tag, out);
     session.set(here);
     answer.is_ok()
@@ -118,7 +118,7 @@ pub unsafe extern "C" fn rust_wrap_envelope(
 ) -> u32 {
     let (header, metadata) = unsafe { (from_raw_parts(header, header_len), from_raw_parts(metadata, metadata_len)) };
     let (message, out) = unsafe { (from_raw_parts(message, message_len), from_raw_parts_mut(out, message_len)) };
-    let mut here = session.session();
+    let mut here: Session = session.session();
     let answer = here.wrap_for(Some(header), metadata, message, out, tag);
     session.set(here);
     number(answer)
@@ -144,8 +144,73 @@ pub unsafe extern "C" fn rust_unwrap_envelope(
     let (header, metadata) = unsafe { (from_raw_parts(header, header_len), from_raw_parts(metadata, metadata_len)) };
     let cryptogram = unsafe { from_raw_parts(cryptogram, cryptogram_len) };
     let out = unsafe { from_raw_parts_mut(out, cryptogram_len) };
-    let mut here = session.session();
+    let mut here: Session = session.session();
     let answer = here.unwrap_for(Some(header), metadata, cryptogram, tag, out);
+    session.set(here);
+    number(answer)
+}
+
+/// Starts a session of old letters under a key and a nonce within the limits.
+///
+/// # Safety
+///
+/// As for [`rust_start`].
+#[unsafe(no_mangle)]
+pub unsafe extern "C" fn rust_sae_start(
+    session: &mut Record,
+    key: *const u8,
+    key_len: usize,
+    nonce: *const u8,
+    nonce_len: usize,
+    tag: &mut [u8; 16],
+) {
+    let (key, nonce) = unsafe { (from_raw_parts(key, key_len), from_raw_parts(nonce, nonce_len)) };
+    session.set(SaeSession::start(key, nonce, tag).expect("a good key").0);
+}
+
+/// Wraps `message` as the first version did, and gives the number.
+///
+/// # Safety
+///
+/// As for [`rust_wrap`].
+#[unsafe(no_mangle)]
+pub unsafe extern "C" fn rust_trial_wrap(
+    session: &mut Record,
+    metadata: *const u8,
+    metadata_len: usize,
+    message: *const u8,
+    message_len: usize,
+    out: *mut u8,
+    tag: &mut [u8; 16],
+) -> u32 {
+    let (metadata, message) = unsafe { (from_raw_parts(metadata, metadata_len), from_raw_parts(message, message_len)) };
+    let out = unsafe { from_raw_parts_mut(out, message_len) };
+    let mut here: SaeSession = session.session();
+    let answer = here.trial_wrap(metadata, message, out, tag);
+    session.set(here);
+    number(answer)
+}
+
+/// Unwraps an old letter, and gives the number.
+///
+/// # Safety
+///
+/// As for [`rust_unwrap`].
+#[unsafe(no_mangle)]
+pub unsafe extern "C" fn rust_sae_unwrap(
+    session: &mut Record,
+    metadata: *const u8,
+    metadata_len: usize,
+    cryptogram: *const u8,
+    cryptogram_len: usize,
+    tag: &[u8; 16],
+    out: *mut u8,
+) -> u32 {
+    let metadata = unsafe { from_raw_parts(metadata, metadata_len) };
+    let cryptogram = unsafe { from_raw_parts(cryptogram, cryptogram_len) };
+    let out = unsafe { from_raw_parts_mut(out, cryptogram_len) };
+    let mut here: SaeSession = session.session();
+    let answer = here.unwrap(metadata, cryptogram, tag, out);
     session.set(here);
     number(answer)
 }

@@ -21,11 +21,12 @@ pub enum Request {
     Run(&'static Command, Arguments),
 }
 
-/// The options of a command line, each at most once, and the words after those of the command, with their names.
+/// The options of a command line, each at most once, and the words after those of the command: with their names, or files.
 #[derive(Debug, Default)]
 pub struct Arguments {
     given: Given,
     operands: Vec<(&'static str, String)>,
+    files: Vec<OsString>,
 }
 
 /// Options as they were given.
@@ -43,6 +44,11 @@ impl Arguments {
         found
             .map(|(_, word)| word.as_str())
             .ok_or_else(|| Failure::Usage(format!("The word {name} is missing: see --help.")))
+    }
+
+    /// The files that follow the words of a command that takes any number of them.
+    pub fn files(&self) -> &[OsString] {
+        &self.files
     }
 
     /// Whether an option was given.
@@ -133,8 +139,10 @@ pub fn digits<T: FromStr>(text: &str) -> Option<T> {
 
 /// Reads a command line, without the program's own name.
 pub fn parse(tokens: impl IntoIterator<Item = OsString>) -> Result<Request, Failure> {
-    let (words, given) = split(tokens)?;
-    let words: Vec<&str> = words.iter().map(String::as_str).collect();
+    let (tokens, given) = split(tokens)?;
+    // Only names of files may be other than text.
+    let texts: Vec<String> = tokens.iter().map(|token| token.to_string_lossy().into_owned()).collect();
+    let words: Vec<&str> = texts.iter().map(String::as_str).collect();
     let has = |name: &str| given.iter().any(|(known, _)| known.name == name);
     match words[..] {
         ["completions", shell] if given.is_empty() => return completions::of(shell).map(Request::Print),
@@ -148,7 +156,8 @@ pub fn parse(tokens: impl IntoIterator<Item = OsString>) -> Result<Request, Fail
         None if has("version") => Ok(Request::Print(help::version())),
         None => Err(Failure::Usage(format!("Which command?\n\n{}", help::list(area).trim_end()))),
         Some(command) => {
-            let arguments = check(command, given, operands)?;
+            let files = &tokens[tokens.len() - operands.len()..];
+            let arguments = check(command, given, operands, files)?;
             Ok(if command.id == Id::Help { Request::Print(help::list("")) } else { Request::Run(command, arguments) })
         }
     }
@@ -190,8 +199,8 @@ fn command_of<'w, 'a>(words: &'w [&'a str]) -> Result<Found<'w, 'a>, Unfit<'a>> 
     let [name, operands @ ..] = rest else { return Ok((area, None, &[])) };
     let command = table::find(area, name).ok_or(Unfit { word: name, command: None })?;
     match operands.get(command.operands().count()) {
-        Some(word) => Err(Unfit { word, command: Some(command) }),
-        None => Ok((area, Some(command), operands)),
+        Some(word) if !command.takes_files() => Err(Unfit { word, command: Some(command) }),
+        _ => Ok((area, Some(command), operands)),
     }
 }
 
@@ -220,7 +229,7 @@ fn quotes(given: &[(&Opt, OsString)]) -> String {
 }
 
 /// Splits a command line into its words and its options.
-fn split(tokens: impl IntoIterator<Item = OsString>) -> Result<(Vec<String>, Given), Failure> {
+fn split(tokens: impl IntoIterator<Item = OsString>) -> Result<(Vec<OsString>, Given), Failure> {
     let mut words = Vec::new();
     let mut given = Given::new();
     let mut tokens = tokens.into_iter();
@@ -230,7 +239,7 @@ fn split(tokens: impl IntoIterator<Item = OsString>) -> Result<(Vec<String>, Giv
         } else if let Some(option) = letter(&token) {
             (option, OsString::new())
         } else {
-            words.push(token.into_string().map_err(|word| unknown_word(&word.to_string_lossy(), &given))?);
+            words.push(token);
             continue;
         };
         if given.iter().any(|(known, _)| known.name == option.name) {
@@ -271,8 +280,8 @@ fn long(option: &[u8], tokens: &mut impl Iterator<Item = OsString>) -> Result<(&
 }
 
 /// Checks that all options are the command's own, that none is missing, and that each value is what its option takes. The words after
-/// the command are its own to check, in their order.
-fn check(command: &'static Command, given: Given, operands: &[&str]) -> Result<Arguments, Failure> {
+/// the command are its own to check, in their order; but of files there is at least one.
+fn check(command: &'static Command, given: Given, operands: &[&str], files: &[OsString]) -> Result<Arguments, Failure> {
     let mut own = Given::new();
     for (option, value) in given {
         let name = option.name;
@@ -282,7 +291,8 @@ fn check(command: &'static Command, given: Given, operands: &[&str]) -> Result<A
         own.push((option, value));
     }
     let operands = command.operands().zip(operands.iter().map(|word| word.to_string())).collect();
-    let arguments = Arguments { given: own, operands };
+    let files = if command.takes_files() { files.to_vec() } else { Vec::new() };
+    let arguments = Arguments { given: own, operands, files };
     for option in command.options {
         if option.required {
             arguments.required(option.name)?;
@@ -293,8 +303,11 @@ fn check(command: &'static Command, given: Given, operands: &[&str]) -> Result<A
             Value::Counter(_) => arguments.counter(option.name).map(drop)?,
             Value::Year => arguments.required_year(option.name).map(drop)?,
             Value::Word(words) => arguments.word(option.name, words).map(drop)?,
-            Value::None | Value::File | Value::Text(_) => {}
+            Value::None | Value::File | Value::Folder | Value::Text(_) => {}
         }
+    }
+    if command.takes_files() && arguments.files.is_empty() {
+        return Err(Failure::Usage(format!("No file is named: see `{} --help`.", command.title())));
     }
     Ok(arguments)
 }
@@ -398,6 +411,22 @@ mod tests {
         assert!(said.starts_with("The word \"more\" is one too many: "), "{said}");
         let said = parsed("help office --state f").unwrap_err().to_string();
         assert!(said.starts_with("The word \"office\" is one too many: "), "{said}");
+    }
+
+    /// Files stand among the options, in their order, and may have any names.
+    #[test]
+    fn files_in_any_number() {
+        let odd = OsString::from_vec(b"b\xff".to_vec());
+        let line = ["sae", "a", "open", "--state", "f", "--out-dir=d", "help", "pool"].map(OsString::from);
+        assert_eq!(parse(line.clone()).unwrap_err().status(), 2);
+        let line = ["sae", "open", "a", "--state", "f", "--out-dir=d", "help", "pool"].map(OsString::from);
+        let Ok(Request::Run(_, arguments)) = parse(line.into_iter().chain([odd.clone()])) else { panic!() };
+        assert_eq!(arguments.files(), ["a".into(), "help".into(), "pool".into(), odd]);
+        assert_eq!(arguments.value("out-dir"), Some(OsStr::new("d")));
+        let said = parsed("sae open --state f --out-dir d").unwrap_err().to_string();
+        assert_eq!(said, "No file is named: see `pevghazo sae open --help`.");
+        let said = parsed("help sae open a").unwrap_err().to_string();
+        assert!(said.starts_with("There is no command \"a\" here"), "{said}");
     }
 
     #[test]

@@ -91,6 +91,19 @@ fn bash_words(text: &mut String) {
     }
 }
 
+/// The commands that files follow, as patterns of bash: files are offered, unless an option is being typed.
+fn bash_files(text: &mut String) {
+    text.push_str("    case \"$area $name $word\" in\n");
+    for command in COMMANDS.iter().filter(|command| command.takes_files()) {
+        let _ = writeln!(
+            text,
+            "        '{0} -'*) ;;\n        '{0} '*) compopt -o filenames; mapfile -t COMPREPLY < <(compgen -f -- \"$word\"); return ;;",
+            command.path()
+        );
+    }
+    text.push_str("    esac\n");
+}
+
 /// What bash does to offer words.
 fn offered(words: &str) -> String {
     format!("mapfile -t COMPREPLY < <(compgen -P \"$prefix\" -W '{words}' -- \"$word\"); return")
@@ -134,10 +147,17 @@ fn bash() -> String {
     );
     let _ = writeln!(
         text,
-        "        {}) return ;;\n    esac\n    local words",
-        with_value(|value| !matches!(value, Value::None | Value::File | Value::Word(_)))
+        "        {}) compopt -o filenames; mapfile -t COMPREPLY < <(compgen -P \"$prefix\" -d -- \"$word\"); return ;;",
+        with_value(|value| value == Value::Folder)
     );
-    text.push_str("    [[ -n $help && -n $name ]] && return\n    case \"$area $name\" in\n");
+    let _ = writeln!(
+        text,
+        "        {}) return ;;\n    esac\n    local words",
+        with_value(|value| !matches!(value, Value::None | Value::File | Value::Folder | Value::Word(_)))
+    );
+    text.push_str("    [[ -n $help && -n $name ]] && return\n");
+    bash_files(&mut text);
+    text.push_str("    case \"$area $name\" in\n");
     let _ = writeln!(
         text,
         "        ' ') words='{} --help --version' ;;",
@@ -177,6 +197,7 @@ fn zsh_option(option: &Opt) -> String {
     match option.value {
         Value::None => format!("'--{name}[{about}]'"),
         Value::File => format!("'--{name}=[{about}]:file:_files'"),
+        Value::Folder => format!("'--{name}=[{about}]:folder:_files -/'"),
         Value::Word(words) => format!("'--{name}=[{about}]:word:({})'", words.join(" ")),
         value => format!("'--{name}=[{about}]:{value}: '"),
     }
@@ -208,7 +229,8 @@ fn zsh() -> String {
     }
     for command in COMMANDS {
         let options = joined(all_options(command).map(zsh_option));
-        let _ = writeln!(text, "        '{} {}') _arguments '*: :' {options} ;;", command.area, command.name);
+        let words = if command.takes_files() { "*:file:_files" } else { "*: :" };
+        let _ = writeln!(text, "        '{} {}') _arguments '{words}' {options} ;;", command.area, command.name);
     }
     text.push_str("    esac\n}\n_pevghazo \"$@\"\n");
     text
@@ -246,10 +268,14 @@ fn fish() -> String {
             format!("{area}; and __fish_seen_subcommand_from {}", command.name)
         };
         let seen = format!("{seen}; and not __fish_seen_subcommand_from help");
+        if command.takes_files() {
+            let _ = writeln!(text, "complete -c pevghazo -n '{seen}' -F");
+        }
         for option in command.options {
             let value = match option.value {
                 Value::None => String::new(),
                 Value::File => " -r -F".to_string(),
+                Value::Folder => " -x -a '(__fish_complete_directories)'".to_string(),
                 Value::Word(words) => format!(" -x -a '{}'", words.join(" ")),
                 _ => " -x".to_string(),
             };

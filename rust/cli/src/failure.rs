@@ -6,6 +6,7 @@ use std::{fmt, io};
 use pevghazo::{Group, Letter, Number, Refusal, Size};
 use pevghazo_store::{self as store, shown};
 
+use crate::letters::Stop;
 use crate::refused::Reason;
 use crate::state::Bad;
 
@@ -60,8 +61,12 @@ pub enum Failure {
         /// The group of the state file.
         own: u32,
     },
-    /// An envelope of the other mode's letter.
+    /// An envelope with another letter than those of the state file's sessions.
     OtherLetter(Letter),
+    /// The opening of a box of old letters has stopped at one of them.
+    Stopped(Box<Stop>),
+    /// Letters of a box were opened, but the report could not be printed.
+    NotReported(Box<Failure>),
     /// The key was used in this state file before.
     UsedKey,
     /// The nonce was used under this key before.
@@ -73,8 +78,8 @@ pub enum Failure {
         /// The last one.
         last: u64,
     },
-    /// The tag of a start is not the expected one.
-    OtherTag,
+    /// The tag of a start in this letter's mode is not the expected one.
+    OtherTag(Letter),
     /// A code that was read off a packet is not the packet's.
     Mismatch {
         /// The group.
@@ -172,11 +177,17 @@ impl Failure {
             Failure::NotNow(_) => 5,
             Failure::OtherGroup { .. } | Failure::OtherLetter(_) => 6,
             Failure::UsedKey | Failure::UsedNonce | Failure::UsedCounter { .. } => 7,
-            Failure::Mismatch { .. } | Failure::OtherTag | Failure::NotPooled { .. } => 9,
+            Failure::Mismatch { .. } | Failure::OtherTag(_) | Failure::NotPooled { .. } => 9,
             Failure::Refused(refusal, _) | Failure::Spent { refusal, .. } => 10 + refusal.number.number(),
             Failure::Lines { reason, .. } | Failure::Day(reason) => 10 + reason.number.number(),
-            Failure::Kept { source, .. } | Failure::Added(source) => source.status(),
+            Failure::Stopped(stop) => stop.source.status(),
+            Failure::Kept { source, .. } | Failure::Added(source) | Failure::NotReported(source) => source.status(),
         }
+    }
+
+    /// The number of a refusal of a call on a session, or of reading an envelope.
+    pub fn number(&self) -> Option<Number> {
+        if let Failure::Refused(refusal, _) = self { Some(refusal.number) } else { None }
     }
 }
 
@@ -204,13 +215,14 @@ impl fmt::Display for Failure {
             Failure::OtherGroup { asked, own } => {
                 write!(f, "This is for group {asked}, and the state file is that of group {own}.")
             }
-            Failure::OtherLetter(letter) => f.write_str(if *letter == Letter::S { OF_SANSE } else { OF_SANE }),
+            Failure::OtherLetter(letter) => f.write_str(other_letter(*letter)),
+            Failure::Stopped(stop) => stop.fmt(f),
             Failure::UsedKey => f.write_str(USED_KEY),
             Failure::UsedNonce => {
                 write!(f, "This nonce was used under this key in this state file before. {SHARED} Take another one.")
             }
             Failure::UsedCounter { counter, last } => used_counter(f, *counter, *last),
-            Failure::OtherTag => f.write_str(OTHER_TAG),
+            Failure::OtherTag(letter) => f.write_str(if *letter == Letter::F { OTHER_OLD_TAG } else { OTHER_TAG }),
             Failure::Mismatch { group, packet, index } => mismatch(f, *group, *packet, *index),
             Failure::NotPooled { size, number } => write!(f, "The ring {size} {number} is not in the pool."),
             Failure::Lines { reason, line, refused, added } => lines(f, reason, *line, *refused, *added),
@@ -225,6 +237,7 @@ impl fmt::Display for Failure {
             | Failure::LargeInput(_) => self.fmt_file(f),
             Failure::Added(_)
             | Failure::NotAdded(_)
+            | Failure::NotReported(_)
             | Failure::NotCounted(..)
             | Failure::Kept { .. }
             | Failure::NotNoted(_) => self.fmt_afterwards(f),
@@ -260,6 +273,12 @@ impl Failure {
                 write!(f, "{source} The lines were added all the same: `pool show` shows the pool.")
             }
             Failure::NotAdded(error) => write!(f, "{error} Nothing was added."),
+            Failure::NotReported(source) => {
+                write!(
+                    f,
+                    "{source} The letters were opened all the same: the same command reports them as opened before."
+                )
+            }
             Failure::NotCounted(refusal, error) => {
                 refused(f, refusal, Letter::S)?;
                 let not_added = if error.is_committed() { "" } else { "Its count could not be added to the group's: " };
@@ -282,14 +301,26 @@ const USED_KEY: &str = "\
 This key was used in this state file before: under it, old envelopes would be accepted again. Make a new one, as with \
 `pevghazo keygen`; `--reuse-key` takes it all the same.";
 
+/// What is said of an envelope with a letter that is not the state file's.
+fn other_letter(letter: Letter) -> &'static str {
+    match letter {
+        Letter::S => OF_SANSE,
+        Letter::N => OF_SANE,
+        Letter::F => OF_OLD,
+    }
+}
+
 /// What is said of an envelope that is for a group's or the office's state file.
 const OF_SANSE: &str = "\
-This envelope has the letter S, and those of a session in SANE have the letter N: `pevghazo group open`, or `pevghazo office \
-open`, is for this one.";
+This envelope has the letter S: it is that of a session in SANSE, and `pevghazo group open`, or `pevghazo office open`, is for it.";
 
 /// What is said of an envelope that is for a session in SANE.
 const OF_SANE: &str =
     "This envelope has the letter N: it is that of a session in SANE, and `pevghazo sane open` is for it.";
+
+/// What is said of an old letter.
+const OF_OLD: &str =
+    "This envelope has the letter F: it is an old letter, of the first version, and `pevghazo sae open` is for it.";
 
 /// Why a nonce is not used twice.
 const SHARED: &str = "Under one key and one nonce two messages would share keystream, and whoever sees both envelopes learns \
@@ -314,6 +345,11 @@ const OTHER_TAG: &str = "\
 This is not the tag of a start with this key and this nonce: the other end has another key or another nonce, or its tag was not \
 typed as it stands there. Nothing was started, and the nonce can still be used.";
 
+/// The same of an old session.
+const OTHER_OLD_TAG: &str = "\
+This is not the tag of a start with this key and this nonce: one of them is not that of the old session, or its tag was not typed as it \
+was noted. Nothing was started.";
+
 /// What is said of a wrong tag besides that it is wrong.
 const WRONG_TAG: &str = "\
 Or both ends have sealed at once: then neither envelope can be opened, and the session is replaced under a new key.";
@@ -326,14 +362,20 @@ the session is replaced under another nonce.";
 /// What is said of a wrong tag at last: earlier versions did not seal the header.
 const EARLIER: &str = "Or a version before 0.8 has sealed it: only such a version opens it.";
 
-/// The sentence of a refusal with its number, and what is said of a wrong tag besides.
+/// What is said besides where a session of the first version was to seal.
+const SEALED_TODAY: &str =
+    "Today `pevghazo group seal`, `pevghazo office seal` and `pevghazo sane seal` seal messages.";
+
+/// The sentence of a refusal with its number, and what is said besides of a wrong tag, or of sealing as the first version did. Of an old
+/// letter with a wrong tag, its box says more.
 fn refused(f: &mut fmt::Formatter<'_>, refusal: &Refusal, letter: Letter) -> fmt::Result {
     write!(f, "Refused, number {}: {}", refusal.number.number(), refusal.number.sentence())?;
-    if refusal.number != Number::WrongTag {
-        return Ok(());
+    match (refusal.number, letter) {
+        (Number::WrongTag, Letter::S) => write!(f, " {WRONG_TAG} {EARLIER}"),
+        (Number::WrongTag, Letter::N) => write!(f, " {WRONG_SANE_TAG} {EARLIER}"),
+        (Number::ReadOnly, _) => write!(f, " {SEALED_TODAY}"),
+        _ => Ok(()),
     }
-    let at_once = if letter == Letter::S { WRONG_TAG } else { WRONG_SANE_TAG };
-    write!(f, " {at_once} {EARLIER}")
 }
 
 /// The sentences of a refusal by a group's allowance.

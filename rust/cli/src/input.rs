@@ -72,14 +72,16 @@ pub fn nonce(arguments: &Arguments) -> Result<Nonce, Failure> {
 
 /// The bytes that an envelope is to be read from.
 pub fn envelope(arguments: &Arguments) -> Result<Secret, Failure> {
-    let name = Path::new(arguments.required("in")?);
-    let mut bytes = read(name, ENVELOPES_MAX + 1, |_| Ok(()))?;
-    if bytes.len() > ENVELOPES_MAX {
-        return Err(Failure::LargeInput(name.to_path_buf()));
-    }
+    let mut bytes = envelopes(Path::new(arguments.required("in")?))?;
     let from = arguments.number("from")?.unwrap_or(0);
     bytes.skip(usize::try_from(from).unwrap_or(usize::MAX));
     Ok(bytes)
+}
+
+/// All bytes of a file with envelopes.
+pub fn envelopes(name: &Path) -> Result<Secret, Failure> {
+    let bytes = read(name, ENVELOPES_MAX + 1, |_| Ok(()))?;
+    if bytes.len() > ENVELOPES_MAX { Err(Failure::LargeInput(name.to_path_buf())) } else { Ok(bytes) }
 }
 
 /// A key: all bytes of its file, which others may not read.

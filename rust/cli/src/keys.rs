@@ -4,7 +4,7 @@
 //! enough to pass for a message. It says nothing about the key to those who do not have it, but belongs to the state file, which
 //! is as secret as the key.
 
-use pevghazo::{Plain, Refusal, Session, TAG_LENGTH};
+use pevghazo::{Plain, Refusal, Session, TAG_LENGTH, Tag};
 use pevghazo_store::Secret;
 
 use crate::failure::Failure;
@@ -13,7 +13,7 @@ use crate::state::{Bad, Part, Reader, put_count};
 /// The bytes of a fingerprint.
 pub const FINGERPRINT: usize = TAG_LENGTH / 2;
 
-/// A key's fingerprint.
+/// The fingerprint of a key, or of something else under a key.
 pub type Fingerprint = [u8; FINGERPRINT];
 
 /// The fixed text, as metadata without a message.
@@ -21,11 +21,24 @@ const TEXT: &[u8] = b"pevghazo: the fingerprint of a key";
 
 /// The fingerprint of a key; number 4 for one of a wrong length.
 pub fn fingerprint(key: &[u8]) -> Result<Fingerprint, Refusal> {
+    fingerprint_of(key, &[TEXT])
+}
+
+/// The fingerprint of some texts under a key.
+pub fn fingerprint_of(key: &[u8], texts: &[&[u8]]) -> Result<Fingerprint, Refusal> {
+    let tag = tag_of(key, texts)?;
+    Ok(std::array::from_fn(|place| tag[place]))
+}
+
+/// The last tag of a fresh session under a key that is given these texts one after the other, as metadata without a message. It
+/// covers all of them.
+pub fn tag_of(key: &[u8], texts: &[&[u8]]) -> Result<Tag, Refusal> {
     let (mut session, _) = Session::start(key)?;
-    let mut first = [0; FINGERPRINT];
-    let wrapped = session.wrap(&Plain { metadata: TEXT, message: &[] })?;
-    first.copy_from_slice(&wrapped.tag[..FINGERPRINT]);
-    Ok(first)
+    let mut tag = [0; TAG_LENGTH];
+    for metadata in texts {
+        tag = session.wrap(&Plain { metadata, message: &[] })?.tag;
+    }
+    Ok(tag)
 }
 
 /// The keys that were used in a state file.

@@ -1,10 +1,11 @@
-//! The command line `pevghazo`: sealing for the office and for its groups, with the sessions in a state file, a pool of unused rings in
-//! another, and the seasons in which rings may be issued.
+//! The command line `pevghazo`: sealing for the office and for its groups, with the sessions in a state file, the opening of old letters,
+//! a pool of unused rings in another state file, and the seasons in which rings may be issued.
 //!
 //! Every command that alters a session works in the same order: read all inputs, open and lock the state file, make the call of
 //! the proved library, commit the new state together with what belongs to it (the envelope, or the opened message), and only
 //! then hand that out. A kill at any moment leaves the state before or after the call, and what was not handed out is still in
-//! it. A pool's state is committed once for all lines of an input. `docs/COMMANDS.md` is the manual.
+//! it. A pool's state is committed once for all lines of an input; that of old letters after each letter, once its message is in its
+//! file. `docs/COMMANDS.md` is the manual.
 //!
 //! | module | what it holds |
 //! |---|---|
@@ -14,6 +15,7 @@
 //! | [`commands`] | what each command does |
 //! | [`end`] | the ends of sessions, and their sealing, opening and codes by the proved library |
 //! | [`labels`] | the codes of packets as lines, as a table and as a page to print |
+//! | [`letters`] | a box of old letters, the report on it, and the letters that were opened in a state file |
 //! | [`windows`] | the file with the windows of the sizes, and why their season refuses a line |
 //! | [`calendar`] | a year's calendar of the sizes that are open, for a terminal and as a page to print |
 //! | [`page`] | what pages to print have in common |
@@ -22,7 +24,7 @@
 //! | [`state`] | what a state file holds, and its bytes |
 //! | [`keys`] | the keys that were used in a state file, and their fingerprints |
 //! | [`starts`] | the nonces that were used in the state file of a session in SANE, under each key |
-//! | [`tag`] | the tag of a start in SANE, as it is shown and typed |
+//! | [`tag`] | the tag of a start with a nonce, as it is shown and typed |
 //! | [`state_file`] | opening, locking and committing a state file |
 //! | [`input`], [`output`] | files and standard streams; an output is written as a whole or not at all |
 //! | [`streams`] | the standard streams as the program was started with them |
@@ -39,6 +41,7 @@ mod help;
 mod input;
 mod keys;
 mod labels;
+mod letters;
 mod lines;
 mod output;
 mod page;

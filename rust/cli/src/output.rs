@@ -139,8 +139,15 @@ impl Output {
     }
 }
 
+/// The folder of an option, with links resolved; it must be there.
+pub fn folder(arguments: &Arguments, option: &str) -> Result<PathBuf, Failure> {
+    let name = Path::new(arguments.required(option)?);
+    let path = fs::canonicalize(name).map_err(Failure::file("find the folder", name))?;
+    if path.is_dir() { Ok(path) } else { Err(Failure::file("write to", name)(ErrorKind::NotADirectory.into())) }
+}
+
 /// Makes a file with these bytes, unless it is there again.
-fn write_file(path: &Path, bytes: &[u8], time: Time) -> Result<(), Failure> {
+pub fn write_file(path: &Path, bytes: &[u8], time: Time) -> Result<(), Failure> {
     new_file::remove_leftovers(path);
     if time == Time::First || !has(path, bytes) {
         new_file::create(path, bytes).map_err(|error| match error.kind() {

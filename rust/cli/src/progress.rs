@@ -1,4 +1,4 @@
-//! How far a long input was read, shown to a person: on the standard error, where it is a terminal.
+//! How far a long input was gone through, shown to a person: on the standard error, where it is a terminal.
 
 use std::io::{IsTerminal, Write, stderr};
 
@@ -22,8 +22,20 @@ impl Progress {
 
     /// Shows how many lines were read, and how much of the input, now and then.
     pub fn show(&mut self, lines: u64, read: u64, length: Option<u64>) {
-        if self.is_terminal && lines.is_multiple_of(EVERY) {
-            say(&format!("{CLEAR}{}", text(lines, read, length)));
+        if lines.is_multiple_of(EVERY) {
+            self.put(&text(lines, read, length));
+        }
+    }
+
+    /// Shows how many letters of a box were gone through.
+    pub fn show_letters(&mut self, letters: usize, all: usize) {
+        self.put(&format!("{letters} of {all} letters"));
+    }
+
+    /// Shows these words in the place of those before.
+    fn put(&mut self, words: &str) {
+        if self.is_terminal {
+            say(&format!("{CLEAR}{words}"));
             self.is_shown = true;
         }
     }

@@ -40,6 +40,15 @@ impl From<Secret> for Nonce {
     }
 }
 
+/// How a session was started.
+#[derive(Clone, Copy, Debug, Default, PartialEq, Eq)]
+pub struct Start {
+    /// The start's tag; zeros before the first start.
+    pub tag: SaneTag,
+    /// The counter that the nonce was, if it was one.
+    pub counter: Option<u64>,
+}
+
 /// What was used under one key.
 #[derive(Debug, PartialEq, Eq)]
 struct Key {
@@ -73,10 +82,8 @@ impl Key {
 /// The starts in a state file.
 #[derive(Debug, Default, PartialEq, Eq)]
 pub struct Starts {
-    /// The tag of the last one; zeros before the first.
-    tag: SaneTag,
-    /// The counter of the last one, if its nonce was one.
-    counter: Option<u64>,
+    /// The last one.
+    last: Start,
     /// The keys that were used.
     keys: Vec<Key>,
 }
@@ -85,14 +92,9 @@ impl Starts {
     /// The most keys, and nonces that are no counters, of a state file.
     pub const MOST: usize = 1 << 16;
 
-    /// The tag of the last start.
-    pub fn tag(&self) -> SaneTag {
-        self.tag
-    }
-
-    /// The counter of the last start; none where its nonce was no counter.
-    pub fn counter(&self) -> Option<u64> {
-        self.counter
+    /// The last start.
+    pub fn last(&self) -> Start {
+        self.last
     }
 
     /// How many keys were used.
@@ -114,7 +116,7 @@ impl Starts {
             self.keys.len() - 1
         });
         self.keys[place].note(nonce, tag);
-        (self.tag, self.counter) = (tag, nonce.counter());
+        self.last = Start { tag, counter: nonce.counter() };
         Ok(())
     }
 
@@ -128,17 +130,26 @@ impl Starts {
 const FULL: &str = "\
 As many keys, and nonces that are no counters, were used in this state file as it holds: begin a new one with a new key.";
 
-impl Part for Starts {
+impl Part for Start {
     fn put(&self, bytes: &mut Secret) {
         bytes.add(&self.tag);
         put_counter(bytes, self.counter);
+    }
+
+    fn read(reader: &mut Reader) -> Result<Start, Bad> {
+        Ok(Start { tag: reader.array()?, counter: read_counter(reader)? })
+    }
+}
+
+impl Part for Starts {
+    fn put(&self, bytes: &mut Secret) {
+        self.last.put(bytes);
         put_count(bytes, self.keys.len());
         self.keys.iter().for_each(|key| key.put(bytes));
     }
 
     fn read(reader: &mut Reader) -> Result<Starts, Bad> {
-        let (tag, counter) = (reader.array()?, read_counter(reader)?);
-        Ok(Starts { tag, counter, keys: reader.list(Starts::MOST, Key::read)? })
+        Ok(Starts { last: Start::read(reader)?, keys: reader.list(Starts::MOST, Key::read)? })
     }
 }
 
@@ -179,7 +190,7 @@ impl Starts {
         let key = |others| Key { fingerprint: [2; 16], counter: Some(u64::MAX), others: vec![[3; 16]; others] };
         let mut keys: Vec<_> = (1..keys).map(|_| key(0)).collect();
         keys.push(key(Starts::MOST - keys.len() - 1));
-        Starts { tag: [1; 16], counter: Some(u64::MAX), keys }
+        Starts { last: Start { tag: [1; 16], counter: Some(u64::MAX) }, keys }
     }
 }
 
@@ -237,7 +248,7 @@ mod tests {
         ] {
             assert_eq!(add(&mut starts, key, &Nonce::from(counter)), taken, "{key} {counter}");
         }
-        assert_eq!((starts.keys(), starts.counter(), starts.tag()), (2, Some(5), tag(&Nonce::from(5))));
+        assert_eq!((starts.keys(), starts.last()), (2, Start { tag: tag(&Nonce::from(5)), counter: Some(5) }));
     }
 
     #[test]
@@ -257,7 +268,7 @@ mod tests {
         ] {
             assert_eq!(add(&mut starts, key, &file(bytes)), taken, "{key} {bytes:?}");
         }
-        assert_eq!((starts.keys(), starts.counter(), starts.tag()), (2, None, tag(&file(b"a nonce"))));
+        assert_eq!((starts.keys(), starts.last()), (2, Start { tag: tag(&file(b"a nonce")), counter: None }));
         assert_eq!(add(&mut starts, 0, &Nonce::from(2)), Err(7));
         assert_eq!(add(&mut starts, 0, &Nonce::from(3)), Ok(()));
     }

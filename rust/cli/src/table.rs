@@ -6,15 +6,16 @@ use std::ops::RangeInclusive;
 
 use pevghazo::PACKET_MAX;
 
-/// What commands are about, whose first words these are: the ends of sessions, of which either end of one in SANE has the third; the
-/// pool; and issue seasons.
-pub const AREAS: [&str; 5] = ["office", "group", "sane", "pool", "season"];
+/// What commands are about, whose first words these are: the ends of sessions, of which either end of one in SANE has the third; old
+/// letters; the pool; and issue seasons.
+pub const AREAS: [&str; 6] = ["office", "group", "sane", "sae", "pool", "season"];
 
 /// What the commands of each are.
-pub const ABOUT_AREAS: [&str; 5] = [
+pub const ABOUT_AREAS: [&str; 6] = [
     "the commands of the office",
     "the commands of a group",
     "the commands of a session in SANE, at either end",
+    "the commands of old letters, of the first version",
     "the commands of a pool of unused rings",
     "the commands of issue seasons",
 ];
@@ -24,6 +25,12 @@ pub const FORMATS: [&str; 3] = ["text", "csv", "html"];
 
 /// How a calendar may be given.
 pub const CALENDARS: [&str; 2] = ["text", "html"];
+
+/// How the report on a box of old letters may be given.
+pub const REPORTS: [&str; 2] = ["text", "csv"];
+
+/// The words of a command that any number of files follow, but at least one.
+pub const FILES: &str = "FILE ..";
 
 /// The years whose days exist for issue lines.
 pub const YEARS: RangeInclusive<u32> = 1900..=2199;
@@ -79,6 +86,10 @@ pub enum Id {
     SaneReread,
     SaneForget,
     SaneShow,
+    SaeStart,
+    SaeOpen,
+    SaeSeal,
+    SaeShow,
     PoolCreate,
     PoolAdd,
     PoolShow,
@@ -101,6 +112,11 @@ impl Command {
     pub fn operands(&self) -> impl Iterator<Item = &'static str> {
         let words = if self.words.contains("..") { "" } else { self.words };
         words.split([' ', '[', ']']).filter(|word| !word.is_empty())
+    }
+
+    /// Whether files follow, any number of them.
+    pub fn takes_files(&self) -> bool {
+        self.words == FILES
     }
 
     /// The command as it is typed.
@@ -136,6 +152,8 @@ pub enum Value {
     None,
     /// A file's name.
     File,
+    /// A folder's name.
+    Folder,
     /// Some text.
     Text(&'static str),
     /// A number, of which those up to this one have a meaning.
@@ -155,6 +173,7 @@ impl fmt::Display for Value {
         match self {
             Value::None => Ok(()),
             Value::File => f.write_str("FILE"),
+            Value::Folder => f.write_str("DIR"),
             Value::Text(name) | Value::Number(name, _) | Value::Range(name, _) | Value::Counter(name) => {
                 f.write_str(name)
             }
@@ -246,6 +265,11 @@ const YEAR: Opt = required("year", Value::Year, "the year, 1900 to 2199");
 const CALENDAR: Opt = optional("format", Value::Word(&CALENDARS), "for a terminal, or a page to print; text");
 const CALENDAR_OUT: Opt = optional("out", Value::File, "where the calendar goes; the standard output");
 const KEY_OUT: Opt = required("out", Value::File, "where the key goes");
+const NOTED: Opt = optional("expect", Value::Text("TAG"), "start only if the tag is this one, as it was noted then");
+const FOLDER: Opt = required("out-dir", Value::Folder, "the folder in which each message gets a new file");
+const REPORT: Opt = optional("format", Value::Word(&REPORTS), "the report for people, or a table with commas; text");
+const NO_MESSAGE: Opt = Opt { required: false, ..MESSAGE };
+const NO_OUT: Opt = Opt { required: false, ..ENVELOPE_OUT };
 
 const NEW_KEY: &str = "\
 Every session needs a key of its own: under a key that was used before, old envelopes would be accepted again. So such a
@@ -265,6 +289,21 @@ The message is kept in the state: `reread` hands it out again, `forget` removes 
 covers the header too, with the group's number: envelopes that a version before 0.8 has sealed are refused.";
 const FORGOTTEN: &str = "\
 What was not handed out is not forgotten. Without its envelope a session cannot go on, unless the other end has it.";
+
+const READ_AGAIN: &str = "\
+Key and nonce are those that the old session was started with; either `--counter` or `--nonce` is needed. Nothing is sealed in it,
+so it may be read again from its start, as often as is wanted: in another state file, or here with `--replace`. Prints the tag of the
+start, as the first version did. With `--expect`, another tag is a `mismatch` with status 9, and nothing is started.";
+const BOX_OPENED: &str = "\
+Opens the letters of the files in the order given; a file may hold several, one after the other. Each message goes to a new file
+NUMBER-NAME.message in the folder, where NUMBER is the letter's place in its session and NAME its file's name, and metadata, if there
+are any, go to NUMBER-NAME.metadata. Stops at the first letter that does not open, says which one, and which letter of the box
+belongs there; what was opened before stays opened. Letters that were opened in an earlier run are known by their bytes: once the
+order is mended, run it over the whole box again. At the end prints a report on all letters. The status of a refusal is 10 and its
+number; 6 is an envelope of another group or with another letter than F.";
+const ONLY_OPENED: &str = "\
+Sessions of the first version only open letters: this is always refused, with status 28. `group seal`, `office seal` and `sane seal`
+seal messages today.";
 
 const CODES_CHANGE: &str = "\
 Codes belong to the session as it stands and change with the next message that is sealed or opened here. So both ends have
@@ -554,6 +593,42 @@ pub const COMMANDS: &[Command] = &[
         name: "show",
         words: "",
         about: "show the session, its counter and its start's tag",
+        options: &[STATE, JSON, WAIT, RESTORE],
+        more: "",
+    },
+    Command {
+        id: Id::SaeStart,
+        area: "sae",
+        name: "start",
+        words: "",
+        about: "start the reading of an old session and its state file",
+        options: &[STATE, GROUP, KEY, COUNTER, NONCE, NOTED, REPLACE, WAIT, RESTORE],
+        more: READ_AGAIN,
+    },
+    Command {
+        id: Id::SaeOpen,
+        area: "sae",
+        name: "open",
+        words: FILES,
+        about: "open a box of old letters, in their order",
+        options: &[STATE, FOLDER, REPORT, WAIT, RESTORE],
+        more: BOX_OPENED,
+    },
+    Command {
+        id: Id::SaeSeal,
+        area: "sae",
+        name: "seal",
+        words: "",
+        about: "is refused, as old sessions only open letters",
+        options: &[STATE, NO_MESSAGE, METADATA, METADATA_TEXT, NO_OUT, WAIT, RESTORE],
+        more: ONLY_OPENED,
+    },
+    Command {
+        id: Id::SaeShow,
+        area: "sae",
+        name: "show",
+        words: "",
+        about: "show the old session and how many letters were opened",
         options: &[STATE, JSON, WAIT, RESTORE],
         more: "",
     },

@@ -1,4 +1,4 @@
-//! The tag of a SANE start, as people see, send and type it.
+//! The tag of a start with a nonce, as people see, send and type it.
 
 use std::fmt;
 use std::str::FromStr;

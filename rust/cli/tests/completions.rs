@@ -46,7 +46,7 @@ fn bash_offers_words_options_and_files() {
     assert_eq!(offered(&folder, &["of"]), ["office"]);
     assert_eq!(offered(&folder, &["office", "op"]), ["open-group", "open"]);
     assert_eq!(offered(&folder, &["group", "s"]), ["start", "seal", "show"]);
-    assert_eq!(offered(&folder, &["s"]), ["sane", "season"]);
+    assert_eq!(offered(&folder, &["s"]), ["sane", "sae", "season"]);
     assert_eq!(offered(&folder, &["sane", "s"]), ["start", "seal", "show"]);
     assert_eq!(offered(&folder, &["sane", "start", "--n"]), ["--nonce"]);
     assert_eq!(offered(&folder, &["sane", "start", "--nonce", "of"]), ["office.state"]);
@@ -73,7 +73,7 @@ fn bash_offers_words_options_and_files() {
     // The words of a command after `help`.
     assert_eq!(
         offered(&folder, &["help", ""]),
-        ["office", "group", "sane", "pool", "season", "keygen", "demo", "help"]
+        ["office", "group", "sane", "sae", "pool", "season", "keygen", "demo", "help"]
     );
     assert_eq!(offered(&folder, &["help", "office", "op"]), ["open-group", "open"]);
     assert_eq!(offered(&folder, &["help", "office", "open", ""]), [""; 0]);
@@ -116,4 +116,26 @@ fn bash_offers_the_pool() {
         ["--state", "--runs", "--csv", "--json", "--wait", "--restore", "--help"]
     );
     assert_eq!(offered(&folder, &["pool", "find", "C", "12001", "--s"]), ["--state"]);
+}
+
+/// A command that files follow, any number of them, and a folder.
+#[test]
+fn bash_offers_files_for_old_letters() {
+    let folder = Folder::new();
+    ["1.env", "2.env"].iter().for_each(|name| folder.write(name, b""));
+    std::fs::create_dir(folder.0.join("out")).unwrap();
+    assert_eq!(offered(&folder, &["sae", ""]), ["start", "open", "seal", "show", "--help"]);
+    assert_eq!(offered(&folder, &["sae", "open", "1"]), ["1.env"]);
+    let mut files = offered(&folder, &["sae", "open", "--state", "old", "1.env", ""]);
+    files.sort();
+    assert_eq!(files, ["1.env", "2.env", "out"]);
+    assert_eq!(
+        offered(&folder, &["sae", "open", "1.env", "--"]),
+        ["--state", "--out-dir", "--format", "--wait", "--restore", "--help"]
+    );
+    assert_eq!(offered(&folder, &["sae", "open", "1.env", "--out-dir", ""]), ["out"]);
+    assert_eq!(offered(&folder, &["sae", "open", "--out-dir=o"]), ["--out-dir=out"]);
+    assert_eq!(offered(&folder, &["sae", "open", "--format", ""]), ["text", "csv"]);
+    assert_eq!(offered(&folder, &["sae", "show", ""]), ["--state", "--json", "--wait", "--restore", "--help"]);
+    assert_eq!(offered(&folder, &["help", "sae", "open", ""]), [""; 0]);
 }

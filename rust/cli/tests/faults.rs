@@ -171,6 +171,15 @@ fn sane_start() {
     Case::new(&[SANE_STARTS, SANE_SEALS], "sane", replaces).every_step();
 }
 
+/// A start of an old session; `sae_faults.rs` has the opening of its letters.
+#[test]
+fn sae_start() {
+    let start = "sae --state old start --group 5 --key new-key --counter 1";
+    Case::new(&[], "old", start).every_step();
+    let replaces = "sae --state old start --group 5 --key new-key --counter 2 --replace";
+    Case::new(&[start], "old", replaces).every_step();
+}
+
 /// No message is sealed twice in SANE, where two of them would share keystream.
 #[test]
 fn sane_seal_and_open() {

@@ -17,7 +17,7 @@ fn every_command_has_a_help_text_and_a_place_in_the_manual() {
     let list = folder.done("--help");
     let lines = list.lines().filter_map(|line| line.strip_prefix("  pevghazo "));
     let titles: Vec<&str> = lines.filter_map(|line| Some(line.split_once("  ")?.0.trim())).collect();
-    assert_eq!(titles.len(), 37, "{list}");
+    assert_eq!(titles.len(), 41, "{list}");
     for title in titles {
         let help = folder.done(&format!("{title} --help"));
         assert!(help.starts_with(&format!("pevghazo {title}: ")), "{help}");
@@ -36,7 +36,7 @@ fn every_command_has_a_help_text_and_a_place_in_the_manual() {
         }
     }
     assert!(manual.contains("`--state FILE`") && manual.contains("`--wait SECONDS`"));
-    for end in ["office", "group", "sane"] {
+    for end in ["office", "group", "sane", "sae"] {
         let list = folder.done(&format!("{end} --help"));
         assert!(list.contains(&format!("pevghazo {end} seal ")), "{list}");
     }
@@ -51,7 +51,7 @@ fn every_command_has_a_help_text_and_a_place_in_the_manual() {
 #[test]
 fn the_manual_has_every_status() {
     let manual = include_str!("../../../docs/COMMANDS.md");
-    for status in (0..=9).filter(|status| *status != 1).chain(11..=16).chain(19..=27) {
+    for status in (0..=9).filter(|status| *status != 1).chain(11..=16).chain(19..=28) {
         assert!(manual.contains(&format!("\n| {status} | ")), "{status}");
     }
 }
@@ -59,7 +59,7 @@ fn the_manual_has_every_status() {
 #[test]
 fn a_wrong_command_line_says_where_help_is() {
     let folder = Folder::new();
-    for line in ["", "office", "group", "sane", "pool", "season"] {
+    for line in ["", "office", "group", "sane", "sae", "pool", "season"] {
         assert!(folder.fails(2, line).contains("Which command?"), "{line}");
     }
     for line in ["nothing", "office nothing", "office show --nothing", "office show --mark 3 --state f"] {

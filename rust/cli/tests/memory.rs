@@ -8,6 +8,7 @@ use std::fs::{self, File};
 use std::io::{BufRead, BufReader};
 use std::os::unix::fs::FileExt;
 
+use common::letters::trial;
 use common::{Folder, VARIABLE, place_at_office};
 
 /// A part of the program's memory that it can write to.
@@ -74,6 +75,9 @@ fn no_secret_is_in_memory_when_a_command_ends() {
     folder.write("new-key", b"another quite secret key of group 5");
     folder.done("sane --state sane start --group 5 --key key --counter 1");
     folder.done("sane --state other start --group 5 --key new-key --counter 2");
+    folder.done("sae --state old start --group 5 --key key --counter 1");
+    let (mut trial, _) = trial(b"another quite secret key of group 5", &2u64.to_le_bytes());
+    folder.write("letter", &trial.trial_seal(5, b"size", message));
     let known = memory_at_end(&folder, "office --state office show");
     if known.is_empty() {
         eprintln!("not tried: this system does not let the test read another program's memory");
@@ -105,6 +109,10 @@ fn no_secret_is_in_memory_when_a_command_ends() {
         ("sane --state sane open --in to-sane --out opened-here", "sane", 12),
         ("sane --state sane forget", "sane", 12),
         ("sane --state sane show --json", "sane", 12),
+        ("sae --state old start --group 5 --key new-key --counter 2 --replace", "old", 12),
+        ("sae --state old open letter --out-dir .", "old", 12),
+        ("sae --state old show --json", "old", 12),
+        ("sae --state old seal --message text", "old", 12),
     ] {
         let before = lanes(&folder, state, place);
         let areas = memory_at_end(&folder, line);

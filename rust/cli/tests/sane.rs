@@ -6,6 +6,7 @@ use std::fs;
 
 use common::envelopes::sealed;
 use common::sane::{ENDS, START, pair, reference, shown, tag_of, text, with_keys};
+use common::vectors::Vector;
 use common::{Folder, PLACE, SESSION};
 use pevghazo_reference::envelope;
 use pevghazo_reference::session::SaneSession;
@@ -44,31 +45,10 @@ fn a_season_at_both_ends() {
     assert_eq!(folder.read("again"), folder.read("envelope"));
 }
 
-/// A record of the vectors.
-struct Vector(&'static str);
-
 impl Vector {
-    /// The word of a field.
-    fn word(&self, name: &str) -> &'static str {
-        let start = format!("{name} = ");
-        self.0.lines().find_map(|line| line.strip_prefix(&start)).unwrap_or_else(|| panic!("{name}: {}", self.0))
-    }
-
-    /// The bytes of a field; none are a hyphen.
-    fn bytes(&self, name: &str) -> Vec<u8> {
-        let byte = |digits: &[u8]| u8::from_str_radix(std::str::from_utf8(digits).unwrap(), 16).unwrap();
-        if self.word(name) == "-" { Vec::new() } else { self.word(name).as_bytes().chunks(2).map(byte).collect() }
-    }
-
     /// The state file of an end.
     fn state(&self, end: &str) -> String {
         format!("{}-{end}", self.word("session"))
-    }
-
-    /// The envelope of metadata, cryptogram and tag.
-    fn envelope(&self) -> Vec<u8> {
-        let [a, c, t] = ["A", "C", "T"].map(|name| self.bytes(name));
-        [format!("N,5,{},{},", a.len(), c.len()).as_bytes(), &a, &c, &t].concat()
     }
 
     /// Both ends start, with the nonce as a file. Gives the independent implementation's session.
@@ -87,7 +67,7 @@ impl Vector {
         let state = self.state(if self.word("end") == "a" { "b" } else { "a" });
         let (before, open) = (folder.read(&state), format!("sane open --state {state} --out opened --in"));
         let _ = fs::remove_file(folder.0.join("opened"));
-        folder.write("without", &self.envelope());
+        folder.write("without", &self.envelope('N'));
         folder.fails(21, &format!("{open} without"));
         assert!(folder.read(&state) == before && folder.read("opened").is_none(), "{}", self.0);
         folder.done(&format!("{open} envelope"));
@@ -119,7 +99,7 @@ fn the_vectors_at_both_ends() {
     let folder = Folder::new();
     let text = include_str!("../../../vectors/sane.txt");
     let (mut made, mut session) = ([0; 2], None);
-    for vector in text.split("\n\n").filter(|record| record.starts_with("op = ")).map(Vector) {
+    for vector in Vector::all(text) {
         match (vector.word("op"), &mut session) {
             ("start", _) => {
                 session = Some(vector.start(&folder));
@@ -150,7 +130,7 @@ fn refusals_by_their_numbers() {
     folder.write("long", &[7; 16_385]);
     let open = "sane open --state group --in in --out out";
     let arrives = |bytes: &[u8]| folder.write("in", bytes);
-    for header in ["", "N", "N,5,0,0", "n,5,0,0,", "F,5,0,0,", "N,05,0,0,", "N,32,0,0,", "N,5,0,16385,"] {
+    for header in ["", "N", "N,5,0,0", "n,5,0,0,", "A,5,0,0,", "N,05,0,0,", "N,32,0,0,", "N,5,0,16385,"] {
         arrives(&[header.as_bytes(), &[b' '; 40][..40 * header.len().min(1)]].concat());
         fails(&folder, 11, open);
     }
@@ -226,8 +206,8 @@ fn an_envelope_of_the_other_mode_or_of_another_group() {
         assert_eq!(said, format!("pevghazo: {sentence}\n"));
     }
     let said = folder.fails(6, "sane open --state sane --in S --out out");
-    let sentence = "This envelope has the letter S, and those of a session in SANE have the letter N: `pevghazo group open`, or \
-                    `pevghazo office open`, is for this one.";
+    let sentence = "This envelope has the letter S: it is that of a session in SANSE, and `pevghazo group open`, or `pevghazo office \
+                    open`, is for it.";
     assert_eq!(said, format!("pevghazo: {sentence}\n"));
     let said = folder.fails(6, "sane open --state sane --in N6 --out out");
     assert_eq!(said, "pevghazo: This is for group 6, and the state file is that of group 5.\n");

@@ -233,6 +233,22 @@ fn demo_of_a_busy_group(shown: &str) {
     }
 }
 
+/// The demo's old letters: they open in their order alone, and none is sealed. That they are the first version's, a test beside them sees.
+fn demo_of_old_letters(shown: &str) {
+    for text in [
+        "      Stopped at letter 2 of 3, 3.env. Refused, number 11: ",
+        " Letter 3, 2.env, belongs here. Letters opened: 1. Opened before: 0. Not tried: 1.\n",
+        "       1     4        5      18  opened before      1  1.env\n",
+        "       2     4        6      18  opened             2  2.env to 0002-2.env.message\n",
+        "  0001-1.env.message: \"S 10001 to S 10100\"\n",
+        "  0002-2.env.message: \"S 10088 to S 10100\"\n",
+        "  0003-3.env.message: \"S 10101 to S 10200\"\n",
+        "      Refused, number 18: ",
+    ] {
+        assert_eq!(shown.matches(text).count(), 1, "{text}{shown}");
+    }
+}
+
 /// The demo's pool: 13 and 50 rings of one size that touch, and 20 of another.
 fn demo_of_a_pool(shown: &str) {
     for text in [
@@ -270,7 +286,7 @@ fn the_demo_plays_a_season() {
             assert!(line.contains(&format!("group {group:2}")), "{line}");
         }
     }
-    assert_eq!(shown.matches("Refused, number 11: ").count(), 6, "{shown}");
+    assert_eq!(shown.matches("Refused, number 11: ").count(), 7, "{shown}");
     assert_eq!(shown.matches("This is for group 4, and the state file is that of group 27.").count(), 1, "{shown}");
     demo_of_one_key(&shown);
     demo_of_a_busy_group(&shown);
@@ -284,6 +300,7 @@ fn the_demo_plays_a_season() {
     assert!(shown.contains("  the office checks the code of packet 0: match\n"), "{shown}");
     assert!(shown.contains("      This is not the code of packet 1 of group 4 at index 4. "), "{shown}");
     demo_in_sane(&shown);
+    demo_of_old_letters(&shown);
     demo_of_a_pool(&shown);
     demo_of_seasons(&shown);
     // Of the groups, which have indices of 8, 4, 0, 12 and 20.

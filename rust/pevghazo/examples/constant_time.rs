@@ -1,5 +1,6 @@
 //! Constant time: does a branch or an address of comparing two codes depend on one of them? And does one depend on the key or
-//! the message where a session of either mode is started, wraps, seals, is stored, loaded and dropped?
+//! the message where a session of either mode is started, wraps, seals, is stored, loaded and dropped, or where one of old letters is
+//! started, refuses to wrap, is stored, loaded and dropped?
 //!
 //! `tests/constant_time.sh` runs this under valgrind's memcheck, which follows every bit that was never set and reports a branch
 //! or an address that depends on one. The secrets are marked so here. Unwrapping, whose verdict everybody may know, is looked at
@@ -8,7 +9,7 @@
 use std::hint::black_box;
 use std::process::exit;
 
-use pevghazo::{Code, Plain, SaneSession, Session, envelope};
+use pevghazo::{Code, Number, Plain, SaeSession, SaneSession, Session, envelope};
 
 /// The requests to valgrind, as `valgrind.h` and `memcheck.h` number them.
 mod request {
@@ -114,6 +115,7 @@ fn main() {
         |session, plain| cryptogram(&session.seal(7, plain).expect("there is room").envelope),
         |session| SaneSession::from_bytes(&session.to_bytes()).expect("its own bytes"),
     );
+    old_letters();
     println!("constant time, comparing codes and the types of sessions: nothing seen");
 }
 
@@ -149,6 +151,24 @@ fn sessions<S>(
     }
     drop(session);
     check(errors() == before, doing, "a branch or an address depends on a secret");
+}
+
+/// A session of old letters, from start to end, with key and message as secrets; nothing is wrapped.
+fn old_letters() {
+    let doing = "a session of old letters";
+    let (key, message) = (black_box([0x35_u8; 32]), black_box([0x36_u8; 100]));
+    ask_of(request::MAKE_MEM_UNDEFINED, &key);
+    ask_of(request::MAKE_MEM_UNDEFINED, &message);
+    let before = errors();
+    let mut session = SaeSession::start(&key, b"41").expect("a good key").0;
+    let refusal = session.wrap(&Plain { metadata: b"size C", message: &message }).expect_err("nothing is wrapped");
+    check(refusal.number == Number::ReadOnly, doing, "another number");
+    let bytes = session.to_bytes();
+    session = SaeSession::from_bytes(&bytes).expect("its own bytes");
+    drop(session);
+    check(errors() == before, doing, "a branch or an address depends on a secret");
+    let followed = ask(request::CHECK_MEM_IS_DEFINED, bytes.as_ptr() as usize, 96) != 0;
+    check(followed, doing, "the session does not depend on the key, so this test sees nothing");
 }
 
 /// Comparing codes.

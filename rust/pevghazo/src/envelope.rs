@@ -1,7 +1,8 @@
 //! The envelope: the bytes in which a sealed message travels.
 //!
 //! It is the header `S,group,metadata length,message length,` in decimal, then metadata, cryptogram and tag. An envelope of
-//! a [`SaneSession`](crate::SaneSession) has the letter N and a shorter tag.
+//! a [`SaneSession`](crate::SaneSession) has the letter N and a shorter tag. One with the letter F is an old letter, which is read and
+//! never written, and which a [`SaeSession`](crate::SaeSession) opens.
 //!
 //! The header is under the tag: where a message is wrapped and unwrapped *for an envelope*, the header's bytes stand before the
 //! metadata in what the tag covers, so an envelope whose header was altered is refused, also where two groups have one key.
@@ -33,12 +34,12 @@
 //! this version together. What [`Session::wrap`](crate::Session::wrap) wrapped is unwrapped by
 //! [`Session::unwrap`](crate::Session::unwrap) as before, and not for an envelope. But metadata that begin with the bytes of a
 //! header, handed to a call without an envelope, are the same text as header and metadata of a call for one: who uses both sorts
-//! in one session keeps them apart by what the metadata begin with.
+//! in one session keeps them apart by what the metadata begin with. The header of an old letter is not under its tag.
 
 use crate::raw;
 use crate::refusal::{Number, Refusal, answer};
 use crate::texts::{Arrival, Opened, Plain, Sealed, Unwrapped, Wrapped};
-use crate::{HEADER_MAX, SANE_TAG_LENGTH, TAG_LENGTH};
+use crate::{HEADER_MAX, SAE_TAG_LENGTH, SANE_TAG_LENGTH, TAG_LENGTH};
 
 /// The letter that an envelope begins with: the mode of the session that sealed it.
 ///
@@ -47,6 +48,7 @@ use crate::{HEADER_MAX, SANE_TAG_LENGTH, TAG_LENGTH};
 ///
 /// assert_eq!((Letter::S.byte(), Letter::S.tag_length()), (b'S', 32));
 /// assert_eq!((Letter::N.byte(), Letter::N.tag_length()), (b'N', 16));
+/// assert_eq!((Letter::F.byte(), Letter::F.tag_length()), (b'F', 16));
 /// ```
 #[derive(Clone, Copy, Debug, PartialEq, Eq, Hash)]
 pub enum Letter {
@@ -54,6 +56,8 @@ pub enum Letter {
     S,
     /// Xoofff-SANE: a [`SaneSession`](crate::SaneSession).
     N,
+    /// Farfalle-SAE, an old letter of the first version: a [`SaeSession`](crate::SaeSession). It is read and never written.
+    F,
 }
 
 impl Letter {
@@ -63,6 +67,7 @@ impl Letter {
         match self {
             Letter::S => b'S',
             Letter::N => b'N',
+            Letter::F => b'F',
         }
     }
 
@@ -72,12 +77,13 @@ impl Letter {
         match self {
             Letter::S => TAG_LENGTH,
             Letter::N => SANE_TAG_LENGTH,
+            Letter::F => SAE_TAG_LENGTH,
         }
     }
 
     /// The letter that the library has read.
     fn of(byte: u8) -> Letter {
-        let letter = [Letter::S, Letter::N].into_iter().find(|letter| letter.byte() == byte);
+        let letter = [Letter::S, Letter::N, Letter::F].into_iter().find(|letter| letter.byte() == byte);
         letter.unwrap_or_else(|| unreachable!("the library has no letter {byte}"))
     }
 }
@@ -105,8 +111,9 @@ pub struct Envelope<'a> {
 
 impl<'a> Envelope<'a> {
     /// Its parts without the header, as calls without an envelope take them: those on a session whose tags have this length, 32
-    /// bytes, or 16 for a [`SaneSession`](crate::SaneSession). An envelope of the other letter gets 7. What was wrapped for an
-    /// envelope is unwrapped by [`Session::unwrap_envelope`](crate::Session::unwrap_envelope) instead.
+    /// bytes, or 16 for a [`SaneSession`](crate::SaneSession) and a [`SaeSession`](crate::SaeSession). An envelope whose letter has
+    /// another length of tags gets 7. What was wrapped for an envelope is unwrapped by
+    /// [`Session::unwrap_envelope`](crate::Session::unwrap_envelope) instead.
     pub fn arrival<const TAG: usize>(&self) -> Result<Arrival<'a, TAG>, Refusal> {
         let tag = self.tag.try_into().map_err(|_| Refusal { number: Number::BadTagLength, count: 0 })?;
         Ok(Arrival { metadata: self.metadata, cryptogram: self.cryptogram, tag })
@@ -159,7 +166,8 @@ pub fn read(bytes: &[u8]) -> Result<Envelope<'_>, Refusal> {
     })
 }
 
-/// Writes the header alone of the envelope in which this metadata and message travel, to fresh bytes. Checks 3 and 6.
+/// Writes the header alone of the envelope in which this metadata and message travel, to fresh bytes. Checks 18, for the letter F, 3
+/// and 6.
 pub fn write_header(letter: Letter, group: u32, plain: &Plain<'_>) -> Result<Vec<u8>, Refusal> {
     let mut bytes = vec![0; HEADER_MAX];
     let written = raw::write_header(letter.byte(), group, plain.metadata.len(), plain.message.len(), &mut bytes);
@@ -168,7 +176,7 @@ pub fn write_header(letter: Letter, group: u32, plain: &Plain<'_>) -> Result<Vec
     Ok(bytes)
 }
 
-/// Writes an envelope to fresh bytes. Checks 3, 6 and 7; the letter says how long the tag is.
+/// Writes an envelope to fresh bytes. Checks 18, for the letter F, 3, 6 and 7; the letter says how long the tag is.
 pub fn write(letter: Letter, group: u32, metadata: &[u8], cryptogram: &[u8], tag: &[u8]) -> Result<Vec<u8>, Refusal> {
     let mut bytes = vec![0; HEADER_MAX + metadata.len() + cryptogram.len() + tag.len()];
     let len = write_to(letter, group, metadata, cryptogram, tag, &mut bytes)?;
@@ -176,8 +184,8 @@ pub fn write(letter: Letter, group: u32, metadata: &[u8], cryptogram: &[u8], tag
     Ok(bytes)
 }
 
-/// Writes an envelope to the start of a buffer, whose other bytes keep their content, and gives its length. Checks 3 and 6 to 8;
-/// the letter says how long the tag is.
+/// Writes an envelope to the start of a buffer, whose other bytes keep their content, and gives its length. Checks 18, for the letter
+/// F, 3 and 6 to 8; the letter says how long the tag is.
 pub fn write_to(
     letter: Letter,
     group: u32,

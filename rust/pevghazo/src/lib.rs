@@ -23,12 +23,14 @@
 //! ```
 //!
 //! There are two modes. A [`Session`] is in Xoofff-SANSE and needs nothing but the key. A [`SaneSession`] is in Xoofff-SANE: it
-//! starts with a *nonce* that must not repeat under one key, so it is for ends that keep a counter.
+//! starts with a *nonce* that must not repeat under one key, so it is for ends that keep a counter. A third one only opens: old letters
+//! of the first version, which a [`SaeSession`] reads.
 //!
 //! | what | where |
 //! |---|---|
 //! | one end of a session, as a group holds it | [`Session`] |
 //! | one end of a session of a group that keeps a counter | [`SaneSession`] |
+//! | old letters of the first version, in their order | [`SaeSession`] |
 //! | the office's 32 sessions, each with its count of the day, under one allowance | [`Table`] |
 //! | what is handed over, by name | [`Plain`], [`Arrival`] |
 //! | the bytes in which a sealed message travels | [`envelope`] |
@@ -54,6 +56,7 @@ mod pool;
 pub mod raw;
 mod record;
 mod refusal;
+mod sae;
 mod sane;
 mod season;
 mod secret;
@@ -67,6 +70,7 @@ pub use envelope::{Envelope, Letter};
 pub use pool::{BadRuns, Pool, Run};
 pub use raw::wipe;
 pub use refusal::{BadBytes, Number, Refusal};
+pub use sae::SaeSession;
 pub use sane::SaneSession;
 pub use season::{Window, Windows};
 pub use secret::Secret;
@@ -81,6 +85,8 @@ pub const GROUPS: usize = 32;
 pub const TAG_LENGTH: usize = 32;
 /// The bytes of a tag of a [`SaneSession`].
 pub const SANE_TAG_LENGTH: usize = 16;
+/// The bytes of a tag of a [`SaeSession`].
+pub const SAE_TAG_LENGTH: usize = 16;
 /// The fewest bytes of a key.
 pub const KEY_MIN: usize = 16;
 /// The most bytes of a key.
@@ -112,3 +118,5 @@ pub const DAY_MAX: u32 = 21_991_231;
 pub type Tag = [u8; TAG_LENGTH];
 /// A tag of a [`SaneSession`].
 pub type SaneTag = [u8; SANE_TAG_LENGTH];
+/// A tag of a [`SaeSession`].
+pub type SaeTag = [u8; SAE_TAG_LENGTH];

@@ -1,10 +1,10 @@
-//! The bytes in which records of either mode are stored, and what people may see of one.
+//! The bytes in which records of all modes are stored, and what people may see of one.
 
 use std::fmt;
 use std::hint::black_box;
 
 use crate::INDEX_MAX;
-use crate::raw::{Record, SaneRecord, clear_stack};
+use crate::raw::{Record, SaeRecord, SaneRecord, clear_stack};
 use crate::refusal::BadBytes;
 use crate::secret::Secret;
 
@@ -40,37 +40,30 @@ pub(crate) struct FieldsMut<'a> {
     opened: &'a mut bool,
 }
 
-impl Kind for Record {
-    fn closed() -> Record {
-        Record::closed()
-    }
+/// The records of all modes have fields of the same names.
+macro_rules! kind {
+    ($record:ident) => {
+        impl Kind for $record {
+            fn closed() -> $record {
+                $record::closed()
+            }
 
-    fn fields(&self) -> Fields<'_> {
-        let Record { acc, mask, index, toggle, opened } = self;
-        Fields { acc, mask, index: *index, toggle: *toggle, opened: *opened }
-    }
+            fn fields(&self) -> Fields<'_> {
+                let $record { acc, mask, index, toggle, opened } = self;
+                Fields { acc, mask, index: *index, toggle: *toggle, opened: *opened }
+            }
 
-    fn fields_mut(&mut self) -> FieldsMut<'_> {
-        let Record { acc, mask, index, toggle, opened } = self;
-        FieldsMut { acc, mask, index, toggle, opened }
-    }
+            fn fields_mut(&mut self) -> FieldsMut<'_> {
+                let $record { acc, mask, index, toggle, opened } = self;
+                FieldsMut { acc, mask, index, toggle, opened }
+            }
+        }
+    };
 }
 
-impl Kind for SaneRecord {
-    fn closed() -> SaneRecord {
-        SaneRecord::closed()
-    }
-
-    fn fields(&self) -> Fields<'_> {
-        let SaneRecord { acc, mask, index, toggle, opened } = self;
-        Fields { acc, mask, index: *index, toggle: *toggle, opened: *opened }
-    }
-
-    fn fields_mut(&mut self) -> FieldsMut<'_> {
-        let SaneRecord { acc, mask, index, toggle, opened } = self;
-        FieldsMut { acc, mask, index, toggle, opened }
-    }
-}
+kind!(Record);
+kind!(SaneRecord);
+kind!(SaeRecord);
 
 /// A record's bytes.
 pub(crate) fn to_bytes(record: &impl Kind) -> Secret {

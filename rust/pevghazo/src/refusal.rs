@@ -3,7 +3,8 @@
 use std::fmt;
 
 /// The numbers of refusals. A call's checks are made in the order of these numbers, and the first that is met is given; but a
-/// code meets 5, 12 and 8, and an addition to a pool inside the season 13, 16, 17, 14 and 15, in these orders.
+/// code meets 5, 12 and 8, an addition to a pool inside the season 13, 16, 17, 14 and 15, in these orders, and 18 is met before every
+/// other.
 ///
 /// More may follow, so a `match` on one has an arm for the others:
 ///
@@ -13,7 +14,7 @@ use std::fmt;
 ///     match number {
 ///         BadHeader | TooFewBytes | WrongTag => true,
 ///         BadGroup | BadKey | NotOpen | TooLong | BadTagLength | NoRoom | IndexFull | Allowance | NoCode => false,
-///         BadLine | Pooled | PoolFull | NoSuchDay | OutOfSeason => false,
+///         BadLine | Pooled | PoolFull | NoSuchDay | OutOfSeason | ReadOnly => false,
 ///     }
 /// }
 /// ```
@@ -24,7 +25,7 @@ pub enum Number {
     /// 1: the envelope's header does not follow the layout, or it is not that of the call: its letter, its lengths or, in a table,
     /// its group are others.
     BadHeader = 1,
-    /// 2: fewer bytes follow the header than its lengths and the tag's together; a tag has 32 bytes, or 16 with the letter N.
+    /// 2: fewer bytes follow the header than its lengths and the tag's together; a tag has 32 bytes, or 16 with the letters N and F.
     TooFewBytes = 2,
     /// 3: the group is above 31.
     BadGroup = 3,
@@ -34,8 +35,8 @@ pub enum Number {
     NotOpen = 5,
     /// 6: metadata, message or nonce has more than 16,384 bytes.
     TooLong = 6,
-    /// 7: the tag does not have 32 bytes, or 16 in SANE. The types of this crate rule it out, but for an envelope that is written,
-    /// or whose parts were altered after it was read.
+    /// 7: the tag does not have 32 bytes, or 16 in SANE and in old letters. The types of this crate rule it out, but for an envelope
+    /// that is written, or whose parts were altered after it was read.
     BadTagLength = 7,
     /// 8: the output buffer is too short.
     NoRoom = 8,
@@ -57,11 +58,13 @@ pub enum Number {
     NoSuchDay = 16,
     /// 17: the line's day is outside the window of its size.
     OutOfSeason = 17,
+    /// 18: old letters, those with the letter F, are only opened: none is wrapped, and no envelope of one is written.
+    ReadOnly = 18,
 }
 
 impl Number {
     /// All numbers, in their order.
-    pub const ALL: [Number; 17] = [
+    pub const ALL: [Number; 18] = [
         Number::BadHeader,
         Number::TooFewBytes,
         Number::BadGroup,
@@ -79,9 +82,10 @@ impl Number {
         Number::PoolFull,
         Number::NoSuchDay,
         Number::OutOfSeason,
+        Number::ReadOnly,
     ];
 
-    /// The number itself, 1 to 17.
+    /// The number itself, 1 to 18.
     pub const fn number(self) -> u8 {
         self as u8
     }
@@ -97,7 +101,9 @@ impl Number {
             Number::BadKey => "The key must have 16 to 47 bytes.",
             Number::NotOpen => "The session is not open.",
             Number::TooLong => "The metadata, the message or the nonce has more than 16,384 bytes.",
-            Number::BadTagLength => "The tag must have 32 bytes in SANSE (letter S), and 16 in SANE (letter N).",
+            Number::BadTagLength => {
+                "The tag must have 32 bytes in SANSE (letter S), and 16 in SANE (letter N) and in old letters (letter F)."
+            }
             Number::NoRoom => "The output buffer is too short.",
             Number::IndexFull => "The session is full: start a new one with a new key, or in SANE with a new nonce.",
             Number::Allowance => "The group's allowance for the day does not cover this call.",
@@ -114,6 +120,9 @@ impl Number {
                 "The line's day does not exist in the years 1900 to 2199, or its size's window has a date that no year has."
             }
             Number::OutOfSeason => "The line's day is outside the window in which rings of its size may be issued.",
+            Number::ReadOnly => {
+                "Old letters, those of the first version (letter F), are only opened: none is sealed any more."
+            }
         }
     }
 }
@@ -126,8 +135,8 @@ impl fmt::Display for Number {
 
 /// A refused call. Sessions, pools, buffers and counts of the day are as they were before it, but for [`Number::WrongTag`]: there the
 /// group's count in a table has grown by `count`, and the part of the output buffer that the message would have taken is zero.
-/// That holds of this crate's types; [`raw::start`](crate::raw::start) and [`raw::sane_start`](crate::raw::sane_start) close the record that
-/// they are lent where they are refused.
+/// That holds of this crate's types; [`raw::start`](crate::raw::start), [`raw::sane_start`](crate::raw::sane_start) and
+/// [`raw::sae_start`](crate::raw::sae_start) close the record that they are lent where they are refused.
 ///
 /// ```
 /// use pevghazo::{Number, Session};

@@ -137,8 +137,7 @@ impl SaneSession {
     }
 
     /// Unwraps an envelope that was [read](envelope::read), by its header, metadata, cryptogram and tag. Checks 1, 5, 9 and 11; an
-    /// envelope with the letter S, which is for a [`Session`](crate::Session), gets 1. Any group is taken, but the
-    /// tag covers it.
+    /// envelope with another [letter](Letter) gets 1. Any group is taken, but the tag covers it.
     pub fn unwrap_envelope(&mut self, envelope: &Envelope<'_>) -> Result<Unwrapped, Refusal> {
         Unwrapped::by(envelope.cryptogram.len(), |out| self.unwrap_envelope_to(envelope, out))
     }
@@ -177,8 +176,8 @@ impl SaneSession {
         Ok(sealed(Letter::N, group, plain, &wrapped))
     }
 
-    /// Opens the envelope at the start of the bytes; more bytes may follow. Checks 1, 2, 5, 9 and 11. An envelope with the
-    /// letter S, which is for a [`Session`](crate::Session), gets 1.
+    /// Opens the envelope at the start of the bytes; more bytes may follow. Checks 1, 2, 5, 9 and 11. An envelope with
+    /// another [letter](Letter) gets 1.
     ///
     /// A session does not know its group's number, so the header's is handed out and not looked at. But it is under the tag: an
     /// accepted envelope is the other end's next one, with the header that it was sealed with.

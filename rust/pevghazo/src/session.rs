@@ -139,8 +139,7 @@ impl Session {
     }
 
     /// Unwraps an envelope that was [read](envelope::read), by its header, metadata, cryptogram and tag. Checks 1, 5, 9 and 11; an
-    /// envelope with the letter N, which is for a [`SaneSession`](crate::SaneSession), gets 1. Any group is taken, but the
-    /// tag covers it.
+    /// envelope with another [letter](Letter) gets 1. Any group is taken, but the tag covers it.
     pub fn unwrap_envelope(&mut self, envelope: &Envelope<'_>) -> Result<Unwrapped, Refusal> {
         Unwrapped::by(envelope.cryptogram.len(), |out| self.unwrap_envelope_to(envelope, out))
     }
@@ -175,8 +174,8 @@ impl Session {
         Ok(sealed(Letter::S, group, plain, &wrapped))
     }
 
-    /// Opens the envelope at the start of the bytes; more bytes may follow. Checks 1, 2, 5, 9 and 11. An envelope with the
-    /// letter N, which is for a [`SaneSession`](crate::SaneSession), gets 1.
+    /// Opens the envelope at the start of the bytes; more bytes may follow. Checks 1, 2, 5, 9 and 11. An envelope with
+    /// another [letter](Letter) gets 1.
     ///
     /// A session does not know its group's number, so the header's is handed out and not looked at. But it is under the tag: an
     /// accepted envelope is the other end's next one, with the header that it was sealed with.

@@ -200,8 +200,8 @@ impl Table {
     }
 
     /// Opens the envelope at the start of the bytes, with the session of the group that its header names; more bytes may
-    /// follow. Checks 1, 2, 5 and 9 to 11; 11 adds its count to the group's. An envelope with the letter N, which is for
-    /// a [`SaneSession`](crate::SaneSession), gets 1.
+    /// follow. Checks 1, 2, 5 and 9 to 11; 11 adds its count to the group's. An envelope with another
+    /// [letter](Letter) gets 1.
     pub fn open<'a>(&mut self, bytes: &'a [u8]) -> Result<Opened<'a>, Refusal> {
         let envelope = envelope::read(bytes)?;
         envelope.opened(|out| self.unwrap_envelope_to(envelope.group, &envelope, out))

@@ -33,7 +33,8 @@ pub struct Plain<'a> {
     pub message: &'a [u8],
 }
 
-/// What is unwrapped, as it arrived. Its tag has 32 bytes, or 16 for a [`SaneSession`](crate::SaneSession).
+/// What is unwrapped, as it arrived. Its tag has 32 bytes, or 16 for a [`SaneSession`](crate::SaneSession) and a
+/// [`SaeSession`](crate::SaeSession).
 #[derive(Clone, Copy, Debug, PartialEq, Eq)]
 pub struct Arrival<'a, const TAG: usize = TAG_LENGTH> {
     /// The metadata.
@@ -103,7 +104,7 @@ pub struct Sealed {
 /// An opened envelope. The message's memory is the caller's: [`wipe`](crate::wipe) sets it to zero.
 #[must_use = "the session has gone on: the envelope cannot be opened again"]
 pub struct Opened<'a> {
-    /// The group that the header names, 0 to 31. The header is under the tag.
+    /// The group that the header names, 0 to 31. The header is under the tag, but for an old letter ([`SaeSession`](crate::SaeSession)).
     pub group: u32,
     /// The metadata, a part of the envelope's bytes.
     pub metadata: &'a [u8],

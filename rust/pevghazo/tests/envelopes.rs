@@ -1,4 +1,5 @@
-//! Envelopes through the C library, beside the independent implementation, with either letter and with others.
+//! Envelopes through the C library, beside the independent implementation, with every letter and with bytes that are none. Old letters,
+//! those with an F, are read and never written.
 
 mod common;
 
@@ -67,9 +68,9 @@ fn cut_and_damaged(random: &mut Random, written: &[u8], whole: usize) {
 
 #[test]
 fn written_and_read() {
-    let (mut numbers, mut letters) = ([0; 12], [0; 2]);
+    let (mut numbers, mut letters) = ([0; 19], [0; 2]);
     cases("written_and_read", |random| {
-        let letter = if random.once_in(10) { any_byte(random) } else { random.pick(b"SN") };
+        let letter = if random.once_in(10) { any_byte(random) } else { random.pick(b"SSSNNNF") };
         let group = if random.once_in(10) { random.pick(&[32, 99, u32::MAX]) } else { random.below(32) as u32 };
         let (metadata, cryptogram) = (text(random), text(random));
         let (a, c) = (maybe_long(random, &metadata, 20), maybe_long(random, &cryptogram, 20));
@@ -95,16 +96,40 @@ fn written_and_read() {
         }
     });
     if is_whole_run() {
-        assert!([0, 1, 3, 6, 7, 8].iter().all(|number| numbers[*number] > 20), "{numbers:?}");
-        assert!(letters.iter().all(|letter| *letter > 1_000), "{letters:?}");
+        assert!([0, 1, 3, 6, 7, 8, 18].iter().all(|number| numbers[*number] > 20), "{numbers:?}");
+        assert!(letters.iter().all(|letter| *letter > 10 * least_times()), "{letters:?}");
     }
 }
 
-/// The first number met of 1 for the letter, 3, 6, 7 by the letter, and 8; or 0.
+/// An old letter as it travels, cut off anywhere, damaged in the header, with bytes after it, and with the letter N in its place.
+#[test]
+fn old_letters_are_read() {
+    let mut numbers = [0; 3];
+    cases("old_letters_are_read", |random| {
+        let (group, a, c, tag) = (random.below(32) as u32, text(random), text(random), random.bytes(16));
+        let header = envelope::header_bytes(b'F', group, a.len(), c.len());
+        let whole = header.len() + a.len() + c.len() + 16;
+        let bytes = [&header, &a, &c, &tag, &random.bytes(random.clone().below(20))[..]].concat();
+        numbers[read(&bytes) as usize] += 1;
+        let (metadata, cryptogram) = (header.len(), header.len() + a.len());
+        let (letter, tag) = (b'F', whole - 16);
+        let expected = Parts { number: 0, letter, group, metadata, cryptogram, tag, place: whole };
+        assert_eq!(raw::read_envelope(&bytes), expected);
+        cut_and_damaged(random, &bytes, whole);
+        numbers[read(&bytes[..random.below(header.len())]) as usize] += 1;
+        numbers[read(&bytes[..whole - 1 - random.below(16)]) as usize] += 1;
+        let as_n = [b"N", &bytes[1..]].concat();
+        assert_eq!(raw::read_envelope(&as_n), Parts { letter: b'N', ..expected });
+    });
+    assert!(numbers[0] > 0 && numbers[0] == numbers[1] && numbers[0] == numbers[2], "{numbers:?}");
+}
+
+/// The first number met of 18 and 1 for the letter, 3, 6, 7 by the letter, and 8; or 0.
 fn number_of_writing(letter: u8, group: u32, longest: usize, tag: usize, fits: bool) -> u32 {
     let tag_length = match letter {
         b'S' => 32,
         b'N' => 16,
+        b'F' => return 18,
         _ => return 1,
     };
     match (group > 31, longest > 16_384, tag != tag_length, fits) {
@@ -138,9 +163,9 @@ fn writing_at_the_edges() {
 
 #[test]
 fn any_header_alone() {
-    let mut numbers = [0; 12];
+    let mut numbers = [0; 19];
     cases("any_header_alone", |random| {
-        let letter = if random.once_in(10) { any_byte(random) } else { random.pick(b"SN") };
+        let letter = if random.once_in(10) { any_byte(random) } else { random.pick(b"SSSNNNF") };
         let group = if random.once_in(10) { random.bits() as u32 } else { random.below(34) as u32 };
         let [a, m] = [(); 2].map(|()| match random.below(8) {
             0 => random.bits() as usize,
@@ -163,11 +188,11 @@ fn any_header_alone() {
         }
     });
     if is_whole_run() {
-        assert!([0, 1, 3, 6, 8].iter().all(|number| numbers[*number] > least_times()), "{numbers:?}");
+        assert!([0, 1, 3, 6, 8, 18].iter().all(|number| numbers[*number] > least_times()), "{numbers:?}");
     }
 }
 
-/// The first number met of 1 for the letter, 3, 6 for either length, and 8, or the header, with the buffer's other bytes kept.
+/// The first number met of 18 and 1 for the letter, 3, 6 for either length, and 8, or the header, with the buffer's other bytes kept.
 #[test]
 fn headers_alone_at_the_edges() {
     for letter in 0..=u8::MAX {
@@ -187,11 +212,11 @@ fn headers_alone_at_the_edges() {
     }
 }
 
-/// One layout with each letter: `S,7,20,48,` needs 100 bytes after it, and `N,7,20,48,` 84. A tag of the other letter's
-/// length makes an envelope of S too short, and leaves 16 bytes after one of N.
+/// One layout with each letter: `S,7,20,48,` needs 100 bytes after it, and `N,7,20,48,` and `F,7,20,48,` 84. A tag of another letter's
+/// length makes an envelope of S too short, and leaves 16 bytes after one of N or F.
 #[test]
-fn the_other_letters_tag_length() {
-    for (letter, tag) in [(b'S', 32), (b'N', 16)] {
+fn another_letters_tag_length() {
+    for (letter, tag) in [(b'S', 32), (b'N', 16), (b'F', 16)] {
         for after in 0..=120 {
             let mut bytes = [&[letter], &b",7,20,48,"[..]].concat();
             bytes.extend(Random::new(after as u64).bytes(after));
@@ -209,18 +234,18 @@ fn the_other_letters_tag_length() {
     }
 }
 
-/// The letter alone is what makes a header: every byte in its place, with enough bytes after it for either tag.
+/// The letter alone is what makes a header: every byte in its place, with enough bytes after it for every tag.
 #[test]
 fn every_letter() {
     for letter in 0..=u8::MAX {
         let bytes = [&[letter], &b",7,20,48,"[..], &[7; 100]].concat();
-        assert_eq!(read(&bytes), if b"SN".contains(&letter) { 0 } else { 1 }, "{letter}");
+        assert_eq!(read(&bytes), if b"SNF".contains(&letter) { 0 } else { 1 }, "{letter}");
     }
 }
 
 /// A byte, often one that a header may have or nearly so.
 fn any_byte(random: &mut Random) -> u8 {
-    if random.once_in(4) { random.bits() as u8 } else { random.pick(b"00112345689,,,SN /:-+snF\0") }
+    if random.once_in(4) { random.bits() as u8 } else { random.pick(b"00112345689,,,SNF /:-+snf\0") }
 }
 
 /// A number as a header may or may not have it.
@@ -265,8 +290,8 @@ fn any_header() {
         let length = random.below(70);
         let (a, m) = (random.below(20), random.below(20));
         let group = random.below(32);
-        let (letter, tag) = random.pick(&[(b"S,", 32), (b"N,", 16)]);
-        let odd = [&b"S"[..], b"N", b"s,", b"n,", b"F,", b",", b"SS,", b"SN,", b"S;", b"N;"];
+        let (letter, tag) = random.pick(&[(b"S,", 32), (b"N,", 16), (b"F,", 16)]);
+        let odd = [&b"S"[..], b"N", b"F", b"s,", b"n,", b"f,", b",", b"SS,", b"SN,", b"FN,", b"S;", b"N;", b"F;"];
         let mut bytes = if random.once_in(3) { random.pick(&odd).to_vec() } else { letter.to_vec() };
         for (usual, end) in [(group, b','), (a, b','), (m, b',')] {
             bytes.extend(any_number(random, usual).bytes());
@@ -298,7 +323,7 @@ fn any_header() {
 fn every_short_header() {
     // Every string of up to five bytes after the first comma, over the bytes that matter.
     let alphabet = b"S,019/:";
-    for (length, letter) in (0..=5).flat_map(|length| [(length, b'S'), (length, b'N')]) {
+    for (length, letter) in (0..=5).flat_map(|length| [(length, b'S'), (length, b'N'), (length, b'F')]) {
         for number in 0..alphabet.len().pow(length) {
             let mut bytes = vec![letter, b','];
             let mut n = number;
@@ -314,8 +339,8 @@ fn every_short_header() {
     }
     for group in 0..100 {
         for length in (0..200).chain(16_300..16_400).chain([99_999, 100_000]) {
-            // Too few bytes from a length of 200 on, for either letter.
-            for (letter, after) in [('S', 231), ('N', 215)] {
+            // Too few bytes from a length of 200 on, for every letter.
+            for (letter, after) in [('S', 231), ('N', 215), ('F', 215)] {
                 let mut bytes = format!("{letter},{group},{length},0,").into_bytes();
                 bytes.resize(bytes.len() + after, 7);
                 read(&bytes);

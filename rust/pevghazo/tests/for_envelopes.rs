@@ -10,7 +10,7 @@ use pevghazo::raw::{Answer, GroupRecord, Record, SaneRecord};
 use pevghazo_reference::deck::Deck;
 use pevghazo_reference::limits::INDEX_MAX;
 use pevghazo_reference::random::Random;
-use pevghazo_reference::session::{Header, Mode, Record as Reference, growth, metadata_string};
+use pevghazo_reference::session::{Header, Mode, Record as Reference, Scheme, growth, metadata_string};
 use pevghazo_reference::table::{GroupRecord as ReferenceGroup, Table};
 
 const KEY: &[u8] = b"one key for two groups.";
@@ -29,7 +29,7 @@ impl Start for Record {
 
 impl Start for SaneRecord {
     fn start() -> SaneBoth {
-        SaneBoth::start(&mut Random::new(1), KEY, b"41", &mut [0; 16]).0
+        SaneBoth::started(&mut Random::new(1), KEY, b"41")
     }
 }
 
@@ -231,7 +231,7 @@ fn order<R: Library>() {
     let full = Reference { index: INDEX_MAX, open: true, ..any_session(&mut Random::new(3)) };
     let closed = Reference { open: false, ..full.clone() };
     let fitting = header(letter, 7, 6, 11);
-    for misfit in [&b""[..], b"S", b"N", &fitting[1..], &header(letter, 32, 6, 11), &header(b'F', 7, 6, 11)] {
+    for misfit in [&b""[..], b"S", b"N", &fitting[1..], &header(letter, 32, 6, 11), &header(b'F', 7, 6, 11), b"F"] {
         for session in [&closed, &full] {
             refused::<R>(session, misfit, [6, 11, tag - 1, 10], 1);
             refused::<R>(session, misfit, [6, 11, tag, 11], 1);
@@ -429,13 +429,17 @@ fn every_header_that_is_one_byte_off() {
     assert_eq!(sent.to_group(&mut tables, 13, Some(&whole)).number, 0);
 }
 
-/// The other mode's letter, with all else as the call has it.
+/// Another mode's letter, with all else as the call has it.
 #[test]
-fn the_other_modes_letter() {
+fn another_modes_letter() {
     for (a, m) in [(0, 0), (6, 11), (16_384, 16_384)] {
-        let [sanse, sane] = [b'S', b'N'].map(|letter| header(letter, 7, a, m));
-        refused::<Record>(&Record::start().reference, &sane, [a, m, 32, m], 1);
-        refused::<SaneRecord>(&SaneRecord::start().reference, &sanse, [a, m, 16, m], 1);
+        let [sanse, sane, old] = [b'S', b'N', b'F'].map(|letter| header(letter, 7, a, m));
+        for other in [&sane, &old] {
+            refused::<Record>(&Record::start().reference, other, [a, m, 32, m], 1);
+        }
+        for other in [&sanse, &old] {
+            refused::<SaneRecord>(&SaneRecord::start().reference, other, [a, m, 16, m], 1);
+        }
         play::message(&mut Random::new(1), &mut Record::start(), Some(&sanse), (a, m));
         play::message(&mut Random::new(1), &mut SaneRecord::start(), Some(&sane), (a, m));
     }

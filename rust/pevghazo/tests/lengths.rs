@@ -1,6 +1,7 @@
-//! Wraps and unwraps of both modes through the C library, beside the independent implementation, at all short lengths and at
-//! those where blocks begin and end, with all buffers at addresses that are not aligned: answers, buffers, counts and records are
-//! the same, the message comes back, and the bytes around the buffers stay. Each is made without an envelope, and for one.
+//! Wraps and unwraps of both modes, and unwraps of old letters, through the C library, beside the independent implementation, at all
+//! short lengths and at those where blocks begin and end, with all buffers at addresses that are not aligned: answers, buffers,
+//! counts and records are the same, the message comes back, and the bytes around the buffers stay. Those of the modes are made
+//! without an envelope, and for one.
 
 mod common;
 
@@ -8,14 +9,15 @@ use std::array;
 use std::ops::Range;
 
 use common::headers::header;
-use common::{Both, BothOf, EDGES, Library, SaneBoth, answer_of, same};
+use common::letters::{answered, next};
+use common::{Arrival, Both, BothOf, EDGES, Library, SaeBoth, SaneBoth, answer_of, record_of, same};
 use pevghazo_reference::random::Random;
-use pevghazo_reference::session::Mode;
+use pevghazo_reference::session::{Mode, SaeSession, Scheme};
 
 /// How far behind a multiple of 16 the buffers stand.
 const OFFSETS: [usize; 5] = [1, 2, 3, 5, 7];
 
-/// The lengths at which blocks of SANE's keystream begin and end: it is the output from byte 16 on.
+/// The lengths at which blocks of SANE's and of old letters' keystream begin and end: it is the output from byte 16 on.
 const STREAM_EDGES: [usize; 6] = [31, 32, 33, 79, 80, 81];
 
 /// A buffer within a larger one, all of random bytes.
@@ -132,8 +134,35 @@ fn messages_in_sanse() {
 #[test]
 fn messages_in_sane() {
     let mut random = Random::new(1);
-    let ends = [(); 2].map(|()| SaneBoth::start(&mut random, &[9; 47], b"1", &mut [0; 16]).0);
+    let ends = [(); 2].map(|()| SaneBoth::started(&mut random, &[9; 47], b"1"));
     messages(&mut random, ends);
+}
+
+/// The next old letter of these lengths is opened.
+fn letter(random: &mut Random, sender: &mut SaeSession, end: &mut SaeBoth, case: &Case) {
+    let letter = next(sender, &random.bytes(case.a), &random.bytes(case.m));
+    let [mut metadata, mut cryptogram, mut tag, mut out] = placed(random, case.turn, [case.a, case.m, 16, case.m]);
+    let Arrival { metadata: a, cryptogram: c, tag: t, .. } = &letter;
+    for (place, bytes) in [(&mut metadata, a), (&mut cryptogram, c), (&mut tag, t)] {
+        place.put(bytes);
+    }
+    let answer = end.unwrap(metadata.get(), cryptogram.get(), tag.get(), out.get_mut());
+    assert_eq!((answer, out.get()), (answered(0, &letter), &letter.message[..]));
+    assert!(same(&end.library, &record_of(sender)), "another session than the sender's");
+    assert!([metadata, cryptogram, tag].iter().all(Placed::is_kept), "metadata, cryptogram or tag were altered");
+    assert!(out.is_kept_around(), "bytes beside the output were altered");
+}
+
+#[test]
+fn old_letters() {
+    let mut random = Random::new(1);
+    let mut end = SaeBoth::started(&mut random, &[9; 47], b"1");
+    let mut sender = end.reference.clone();
+    for (a, m) in lengths() {
+        for turn in 0..OFFSETS.len() {
+            letter(&mut random, &mut sender, &mut end, &Case { a, m, turn, group: None });
+        }
+    }
 }
 
 #[test]
@@ -144,7 +173,8 @@ fn starts() {
             for turn in 0..OFFSETS.len() {
                 let [key, nonce, mut tag] = placed(&mut random, turn, [key, nonce, 16]);
                 let answer = SaneBoth::start(&mut random, key.get(), nonce.get(), tag.get_mut()).1;
-                assert_eq!((answer.number, Both::start(&mut random, key.get()).1.number), (0, 0));
+                let old = SaeBoth::start(&mut random, key.get(), nonce.get(), tag.get_mut()).1;
+                assert_eq!((answer.number, old.number, Both::start(&mut random, key.get()).1.number), (0, 0, 0));
                 assert!(key.is_kept() && nonce.is_kept() && tag.is_kept_around());
             }
         }

@@ -2,18 +2,20 @@
 //!
 //! A process of its own makes the calls and looks through all of its memory, as a debugger or a core dump would show it. The
 //! lanes that it looks for are worked out here by the independent implementation and handed over as their complements, so that
-//! looking for them puts none there.
+//! looking for them puts none there. So are the old letters that it opens, which the library does not seal.
 
 use std::collections::BTreeSet;
 use std::fs::{self, File};
 use std::os::unix::fs::FileExt;
 use std::process::Command;
 
-use pevghazo::{Envelope, Letter, Plain, SaneSession, Session, Table, envelope, raw};
+use pevghazo::{Arrival, Envelope, Letter, Number, Plain, SaeSession, SaneSession, Session, Table, envelope, raw};
 use pevghazo_reference::deck::p;
 use pevghazo_reference::envelope::header_bytes;
 use pevghazo_reference::rolling::{roll_input, roll_output};
-use pevghazo_reference::session::{SaneSession as SaneReference, Session as Reference};
+use pevghazo_reference::session::{
+    Record, SaeSession as SaeReference, SaneSession as SaneReference, Session as Reference,
+};
 use pevghazo_reference::xoodoo::State;
 
 const KEY: &[u8] = b"a key for the memory's test";
@@ -22,6 +24,7 @@ const METADATA: &[u8] = b"size C";
 const GROUP: u32 = 7;
 const PACKET: u32 = 2;
 const VARIABLE: &str = "PEVGHAZO_LANES";
+const LETTERS: &str = "PEVGHAZO_LETTERS";
 
 /// The messages that go out, longer and longer, each without an envelope and then for one: whether it is for one.
 fn messages() -> [(bool, Vec<u8>); 6] {
@@ -35,10 +38,10 @@ fn header(letter: Letter, for_envelope: bool, message: &[u8]) -> Option<Vec<u8>>
     for_envelope.then(|| header_bytes(letter.byte(), GROUP, METADATA.len(), message.len()))
 }
 
-/// All lanes of mask and accumulator from the start to the last message in either mode, also those of the masks in between, and
+/// All lanes of mask and accumulator from the start to the last message in every mode, also those of the masks in between, and
 /// those of the states that outputs are made from, which would give these away.
 fn lanes() -> BTreeSet<u32> {
-    let states = sanse_states().into_iter().chain(sane_states());
+    let states = sanse_states().into_iter().chain(sane_states()).chain(sae_states());
     // Small numbers and runs of one byte stand in memory for other reasons.
     states.flatten().filter(|lane| *lane > 0xFFFF && lane.to_le_bytes() != [*lane as u8; 4]).collect()
 }
@@ -60,19 +63,43 @@ fn sanse_states() -> Vec<State> {
 
 /// The states in SANE; of outputs those of tags and keystreams.
 fn sane_states() -> Vec<State> {
-    let (mut session, _) = SaneReference::start(KEY, NONCE, &mut [0; 16]).unwrap();
+    let (session, _) = SaneReference::start(KEY, NONCE, &mut [0; 16]).unwrap();
+    stream_states(session, |session, for_envelope, message| {
+        let header = header(Letter::N, for_envelope, message);
+        let mut out = vec![0; message.len()];
+        session.wrap_for(header.as_deref(), METADATA, message, &mut out, &mut [0; 16]).unwrap();
+    })
+}
+
+/// The first version's session of old letters.
+fn trial() -> SaeReference {
+    SaeReference::start(KEY, NONCE, &mut [0; 16]).unwrap().0
+}
+
+/// The states of old letters.
+fn sae_states() -> Vec<State> {
+    stream_states(trial(), |session, _, message| drop(session.trial_seal(GROUP, METADATA, message)))
+}
+
+/// The states of a session whose keystream comes from the history before a message, over all messages.
+fn stream_states<M>(mut session: Record<M>, next: impl Fn(&mut Record<M>, bool, &[u8])) -> Vec<State> {
     let mut states = Vec::new();
     for (for_envelope, message) in messages() {
         states.push(session.accumulator);
         states.extend(output_states(&session.accumulator, (message.len() + 16).div_ceil(48)));
-        let header = header(Letter::N, for_envelope, &message);
-        let mut out = vec![0; message.len()];
-        session.wrap_for(header.as_deref(), METADATA, &message, &mut out, &mut [0; 16]).unwrap();
+        next(&mut session, for_envelope, &message);
     }
     states.push(session.accumulator);
     states.extend(output_states(&session.accumulator, 1));
     states.extend(masks(&session.mask));
     states
+}
+
+/// The old letters, in hexadecimal digits.
+fn letters() -> String {
+    let mut session = trial();
+    let letters = messages().map(|(_, message)| session.trial_seal(GROUP, METADATA, &message));
+    letters.map(|letter| letter.iter().map(|byte| format!("{byte:02x}")).collect::<String>()).join(" ")
 }
 
 /// The states that so many blocks of output are made from.
@@ -96,6 +123,7 @@ fn what_stays_in_memory() {
     let output = Command::new(std::env::current_exe().unwrap())
         .args(["--exact", "child", "--ignored", "--nocapture", "--test-threads=1"])
         .env(VARIABLE, hidden.join(" "))
+        .env(LETTERS, letters())
         .output()
         .unwrap();
     let said = String::from_utf8_lossy(&output.stdout);
@@ -188,6 +216,7 @@ fn child() {
     memory.nothing("before the first call");
     lone(&mut memory, || Session::start(KEY).unwrap().0, stored);
     lone(&mut memory, || SaneSession::start(KEY, NONCE).unwrap().0, stored_in_sane);
+    old_letters(&mut memory);
     table(&mut memory);
     println!("memory looked through");
 }
@@ -346,6 +375,39 @@ fn lone<E: End>(memory: &mut Memory, start: fn() -> E, store_and_load: fn(&mut M
     }
     drop(session);
     memory.nothing(&format!("after the end of a second session in {}", E::NAME));
+}
+
+/// The old letters as they were handed over.
+fn handed_over() -> Vec<Vec<u8>> {
+    let letters = std::env::var(LETTERS).expect("what_stays_in_memory sets it");
+    let byte = |digits: &[u8]| u8::from_str_radix(std::str::from_utf8(digits).unwrap(), 16).unwrap();
+    letters.split(' ').map(|letter| letter.as_bytes().chunks(2).map(byte).collect()).collect()
+}
+
+/// A session that opens old letters, each after a damaged one and a wrap, which are refused.
+fn old_letters(memory: &mut Memory) {
+    let mut session = SaeSession::start(KEY, NONCE).unwrap().0;
+    memory.one_record("after the start of old letters");
+    for letter in handed_over() {
+        let mut damaged = letter.clone();
+        *damaged.last_mut().unwrap() ^= 1;
+        assert_eq!(session.open(&damaged).unwrap_err().number, Number::WrongTag);
+        memory.one_record("after a refused letter");
+        assert!(session.wrap(&Plain { metadata: METADATA, message: &letter }).is_err());
+        memory.one_record("after a refused wrap of old letters");
+        let bytes = session.to_bytes();
+        drop(session);
+        memory.one_record("while old letters' session is stored");
+        session = SaeSession::from_bytes(&bytes).unwrap();
+        drop(bytes);
+        assert!(session.open(&letter).is_ok());
+        memory.one_record("after an old letter");
+    }
+    let parts: Arrival<'_, 16> = Arrival { metadata: METADATA, cryptogram: &[0x33; 400], tag: &[0; 16] };
+    assert!(session.unwrap(&parts).is_err());
+    memory.one_record("after a refused letter by its parts");
+    drop(session);
+    memory.nothing("after the end of a session of old letters");
 }
 
 /// A session that is stored and loaded.

@@ -3,24 +3,18 @@
 
 mod common;
 
+use common::edges;
 use common::headers::{Ways, all_were_there};
 use common::play::{self, Ends, Tally};
 use common::{
-    Arrival, SaneBoth, answer_of, cases, is_whole_run, key, least_times, length, maybe_long, other_length, record_of,
-    same, text,
+    Arrival, SaneBoth, answer_of, cases, is_whole_run, key, least_times, maybe_long, other_length, record_of, same,
+    text,
 };
 use pevghazo::raw::{Answer, SaneRecord};
 use pevghazo_reference::deck::xoofff;
 use pevghazo_reference::ledger::SaneLedger;
 use pevghazo_reference::limits::INDEX_MAX;
 use pevghazo_reference::random::Random;
-
-/// A session that is started with good lengths.
-fn start(random: &mut Random, key: &[u8], nonce: &[u8]) -> SaneBoth {
-    let (both, answer) = SaneBoth::start(random, key, nonce, &mut [0; 16]);
-    assert_eq!(answer.number, 0);
-    both
-}
 
 #[test]
 fn messages_both_ways() {
@@ -33,8 +27,8 @@ fn messages_both_ways() {
         } else {
             (key(random), nonce.clone())
         };
-        let [here, there] = [(); 2].map(|()| start(random, &shared, &nonce));
-        let mut ends = Ends::of([here, there], start(random, &other_key, &other_nonce));
+        let [here, there] = [(); 2].map(|()| SaneBoth::started(random, &shared, &nonce));
+        let mut ends = Ends::of([here, there], SaneBoth::started(random, &other_key, &other_nonce));
         for _ in 0..1 + random.below(6) {
             ends.message(random, &mut tally, |_, _| ());
         }
@@ -54,7 +48,7 @@ fn messages_both_ways() {
 #[test]
 fn every_pair_of_edges() {
     let mut random = Random::new(1);
-    let both = start(&mut random, &[9; 47], b"1");
+    let both = SaneBoth::started(&mut random, &[9; 47], b"1");
     play::every_pair_of_edges(&mut random, both);
 }
 
@@ -84,7 +78,7 @@ fn one_long_session_up_to_the_limit() {
     // The nonce's string takes 343 of the index, and those of each message 686.
     let mut random = Random::new(1);
     let nonce = random.bytes(16_384);
-    let both = start(&mut random, &[1; 16], &nonce);
+    let both = SaneBoth::started(&mut random, &[1; 16], &nonce);
     assert_eq!(play::up_to_the_limit(&mut random, both), (INDEX_MAX - 343) / 686);
 }
 
@@ -187,15 +181,8 @@ fn lists_against_the_full_history() {
 #[test]
 fn any_start() {
     let mut numbers = [0; 12];
-    cases("any_start", |random| {
-        let (usual, nonce) = (16 + random.below(32), length(random));
-        let key_length = other_length(random, usual, 4);
-        let (key, nonce) = (random.bytes(key_length), random.bytes(nonce));
-        let nonce = maybe_long(random, &nonce, 6);
-        let mut tag = vec![0xA5; other_length(random, 16, 4)];
-        numbers[SaneBoth::start(random, &key, &nonce, &mut tag).1.number as usize] += 1;
-    });
+    cases("any_start", |random| numbers[edges::any_start::<SaneRecord>(random) as usize] += 1);
     if is_whole_run() {
-        assert!([0, 4, 6, 7].iter().all(|number| numbers[*number] > 100), "{numbers:?}");
+        assert!([0, 4, 6, 7].iter().all(|number| numbers[*number] > least_times()), "{numbers:?}");
     }
 }

@@ -1,5 +1,5 @@
 //! The sessions and codes of the repository's vectors through the C library: each end of SANSE as a lone session, and as a
-//! group's session in a table; each end of SANE as a lone session.
+//! group's session in a table; each end of SANE as a lone session; and old letters, whose wraps are the first version's.
 
 mod common;
 #[path = "../../reference/tests/common/mod.rs"]
@@ -7,15 +7,15 @@ mod vectors;
 
 use std::collections::HashMap;
 
-use common::Library;
-use pevghazo::raw::{self, Answer, GroupRecord, Record, SaneRecord};
-use pevghazo_reference::session::{Mode, Session};
+use common::{Opening, answer_of};
+use pevghazo::raw::{self, Answer, GroupRecord, Record, SaeRecord, SaneRecord};
+use pevghazo_reference::session::{Scheme, Session};
 use vectors::{Record as Vector, records};
 
 /// One end of a session, wherever its record stands.
 trait End {
     /// The kind of record.
-    type Record: Library;
+    type Record: Opening;
 
     /// The record; whatever stands beside it is as it should be.
     fn record(&self) -> &Self::Record;
@@ -30,7 +30,7 @@ trait End {
 /// A lone session.
 struct Lone<R>(R);
 
-impl<R: Library> End for Lone<R> {
+impl<R: Opening> End for Lone<R> {
     type Record = R;
 
     fn record(&self) -> &R {
@@ -39,6 +39,33 @@ impl<R: Library> End for Lone<R> {
 
     fn wrap(&mut self, metadata: &[u8], message: &[u8], out: &mut [u8], tag: &mut [u8]) -> Answer {
         self.0.wrap(metadata, message, out, tag)
+    }
+
+    fn unwrap(&mut self, metadata: &[u8], cryptogram: &[u8], tag: &[u8], out: &mut [u8]) -> Answer {
+        self.0.unwrap(metadata, cryptogram, tag, out)
+    }
+}
+
+/// A session of old letters. The library wraps none, and alters nothing where it is asked to; the first version's wrap is made by the
+/// reference.
+struct Old(SaeRecord);
+
+impl End for Old {
+    type Record = SaeRecord;
+
+    fn record(&self) -> &SaeRecord {
+        &self.0
+    }
+
+    fn wrap(&mut self, metadata: &[u8], message: &[u8], out: &mut [u8], tag: &mut [u8]) -> Answer {
+        let mut session = self.0.reference();
+        let before = (session.clone(), out.to_vec(), tag.to_vec());
+        let refused = raw::sae_wrap(&mut self.0, metadata, message, out, tag);
+        assert_eq!(refused, Answer { number: 18, count: 0 });
+        assert!((self.0.reference(), out.to_vec(), tag.to_vec()) == before, "a wrap has altered something");
+        let answer = session.trial_wrap(metadata, message, out, tag);
+        self.0 = SaeRecord::of(&session);
+        answer_of(answer)
     }
 
     fn unwrap(&mut self, metadata: &[u8], cryptogram: &[u8], tag: &[u8], out: &mut [u8]) -> Answer {
@@ -109,6 +136,14 @@ fn sane(vector: &Vector) -> (Lone<SaneRecord>, Answer) {
     (Lone(record), answer)
 }
 
+/// Starts a session of old letters.
+fn old(vector: &Vector) -> (Old, Answer) {
+    let (mut record, mut tag) = (SaeRecord::closed(), [0; 16]);
+    let answer = raw::sae_start(&mut record, &vector.bytes("key"), &vector.bytes("nonce"), &mut tag);
+    assert_eq!(tag[..], vector.bytes("T"), "T, line {}", vector.line);
+    (Old(record), answer)
+}
+
 /// What stands in an output buffer behind the text, and must stay.
 const REST: [u8; 3] = [0xA5; 3];
 
@@ -138,7 +173,7 @@ fn check<E: End>(end: &E, vector: &Vector, answer: Answer, number: u32) {
 fn wrap<E: End>(end: &mut E, vector: &Vector) {
     let (metadata, message) = (vector.bytes("A"), vector.bytes("M"));
     let mut out = buffer(message.len());
-    let mut tag = vec![0; <E::Record as Library>::Mode::TAG];
+    let mut tag = vec![0; <E::Record as Opening>::Mode::TAG];
     let answer = end.wrap(&metadata, &message, &mut out, &mut tag);
     check(end, vector, answer, 0);
     assert_eq!(out, [&vector.bytes("C")[..], &REST].concat(), "C, line {}", vector.line);
@@ -153,10 +188,15 @@ fn unwrap<E: End>(end: &mut E, vector: &Vector) -> bool {
         "tag" => (11, vec![0; cryptogram.len()]),
         result => panic!("line {}: what is {result}?", vector.line),
     };
-    let mut out = buffer(message.len());
+    let (mut out, before) = (buffer(message.len()), end.record().reference());
     let answer = end.unwrap(&metadata, &cryptogram, &tag, &mut out);
     check(end, vector, answer, number);
     assert_eq!(out, [&message[..], &REST].concat(), "M, line {}", vector.line);
+    assert!(
+        number == 0 || end.record().reference() == before,
+        "a refusal has altered the record, line {}",
+        vector.line
+    );
     number == 0
 }
 
@@ -229,6 +269,11 @@ fn sessions() {
 #[test]
 fn sane_sessions() {
     play("sane.txt", sane).check("sane.txt");
+}
+
+#[test]
+fn old_letters() {
+    play("sae.txt", old).check("sae.txt");
 }
 
 /// The codes of sessions that were played.

@@ -1,10 +1,11 @@
 //! The envelope: the bytes in which a sealed message travels (document 01, "Envelope"; document 02 for the letter).
 //!
 //! `S,group,A length,M length,` in decimal, then the metadata, the cryptogram and the tag. The letter is that of the mode: S
-//! for SANSE, N for SANE; the tag's length goes by it. More bytes may follow, so several envelopes can stand one after the
-//! other. A call for an envelope is handed the header, and it must be the call's own (document 02, request 7).
+//! for SANSE, N for SANE, and F for old letters, which are read and never written (document 02, request 9); the tag's length goes by
+//! it. More bytes may follow, so several envelopes can stand one after the other. A call for an envelope is handed the header, and it
+//! must be the call's own (document 02, request 7).
 
-use crate::limits::{LENGTH_MAX, SANE_TAG, TAG, check_lengths, check_texts};
+use crate::limits::{LENGTH_MAX, SAE_TAG, SANE_TAG, TAG, check_lengths, check_texts};
 use crate::refusal::Number;
 
 /// The highest number of a group.
@@ -16,6 +17,8 @@ pub const HEADER_MAX: usize = 17;
 pub const SANSE_LETTER: u8 = b'S';
 /// The letter of SANE.
 pub const SANE_LETTER: u8 = b'N';
+/// The letter of old letters.
+pub const SAE_LETTER: u8 = b'F';
 
 /// What reading an envelope hands out. The default is what a refused reading hands out: a zero byte as letter, empty parts,
 /// group 0 and place 0.
@@ -54,6 +57,7 @@ pub fn tag_length(letter: u8) -> Option<usize> {
     match letter {
         SANSE_LETTER => Some(TAG),
         SANE_LETTER => Some(SANE_TAG),
+        SAE_LETTER => Some(SAE_TAG),
         _ => None,
     }
 }
@@ -113,8 +117,8 @@ pub fn header_bytes(letter: u8, group: u32, metadata: usize, message: usize) -> 
 }
 
 /// Writes an envelope to the start of `buffer`, whose other bytes keep their content, and gives the number of its bytes.
-/// Meets 1 for a letter that there is not, 3 for the group, 6, 7 by the letter, and 8 for a buffer shorter than the envelope,
-/// with the buffer left as it was.
+/// Meets 18 for the letter of old letters, 1 for a letter that there is not, 3 for the group, 6, 7 by the letter, and 8 for a buffer
+/// shorter than the envelope, with the buffer left as it was.
 pub fn write(
     letter: u8,
     group: u32,
@@ -129,8 +133,8 @@ pub fn write(
     put(&[&header, metadata, cryptogram, tag].concat(), buffer)
 }
 
-/// Writes the header alone of an envelope with these lengths of metadata and message, as [`write()`] writes an envelope. Meets 1,
-/// 3, 6 and 8.
+/// Writes the header alone of an envelope with these lengths of metadata and message, as [`write()`] writes an envelope. Meets 18,
+/// 1, 3, 6 and 8.
 pub fn write_header(
     letter: u8,
     group: u32,
@@ -143,8 +147,11 @@ pub fn write_header(
     put(&header_bytes(letter, group, metadata, message), buffer)
 }
 
-/// The checks 1 and 3 of writing. Gives the length of the letter's tags.
+/// The checks 18, 1 and 3 of writing. Gives the length of the letter's tags.
 fn check_written(letter: u8, group: u32) -> Result<usize, Number> {
+    if letter == SAE_LETTER {
+        return Err(Number::ReadOnly);
+    }
     let tag_length = tag_length(letter).ok_or(Number::Header)?;
     if group > GROUP_MAX { Err(Number::Group) } else { Ok(tag_length) }
 }

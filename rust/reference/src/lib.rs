@@ -5,10 +5,10 @@
 //!
 //! * the Xoodoo cookbook: the permutation (section 2), Xoofff (section 3), Xoofff-SANE (section 4) and Xoofff-SANSE
 //!   (section 5);
-//! * the Farfalle paper, section 3: the construction that makes a deck function from a permutation;
+//! * the Farfalle paper: the construction that makes a deck function from a permutation (section 3), and Farfalle-SAE (section 4.1);
 //! * the scope document, number 01: limits, counts, what a refusal leaves behind, the envelope and the office's table;
 //! * document 02: the codes for packets; counts, limits and the envelope's letter of SANE; a count of the day for each group;
-//!   the pool of unused rings; the header under the tag in calls for an envelope; issue seasons.
+//!   the pool of unused rings; the header under the tag in calls for an envelope; issue seasons; old letters.
 //!
 //! # The layers
 //!
@@ -22,6 +22,7 @@
 //! | [`session`] | the record that is carried along from call to call, and the checks, wrap and unwrap that all modes share |
 //! | [`sanse`] | the steps and counts of Xoofff-SANSE, and the start of its sessions |
 //! | [`sane`] | the same of Xoofff-SANE, whose sessions start with a nonce |
+//! | [`sae`] | the same of Farfalle-SAE, whose letters are only opened, with the wrap of the version that sealed them |
 //! | [`codes`] | the codes for packets that a session gives |
 //! | [`ledger`] | the same sessions kept as key and full history, with the deck function worked out afresh at each call |
 //! | [`envelope`] | the bytes in which a sealed message travels, with a letter for its mode |
@@ -64,6 +65,7 @@ pub mod pool;
 pub mod random;
 pub mod refusal;
 pub mod rolling;
+pub mod sae;
 pub mod sane;
 pub mod sanse;
 pub mod season;

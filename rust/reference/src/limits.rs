@@ -1,4 +1,5 @@
-//! The limits of keys, texts, tags and indexes (document 01, "Counts and limits"; document 02 for those of SANE).
+//! The limits of keys, texts, tags and indexes (document 01, "Counts and limits"; document 02 for those of SANE
+//! and of old letters).
 
 use crate::refusal::Number;
 
@@ -10,6 +11,8 @@ pub const KEY_MAX: usize = 47;
 pub const TAG: usize = 32;
 /// The bytes of a tag of SANE.
 pub const SANE_TAG: usize = 16;
+/// The bytes of a tag of old letters.
+pub const SAE_TAG: usize = 16;
 /// The most bytes of metadata, of a message, and of a nonce.
 pub const LENGTH_MAX: usize = 16_384;
 /// The highest index that a session may reach.

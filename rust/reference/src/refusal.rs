@@ -2,8 +2,9 @@
 
 use std::fmt;
 
-/// Why a call was refused. A call's checks are made in the order of these numbers, but for a code's, which are 5, 12 and 8, and
-/// those of an addition inside the season, which are 13, 16, 17, 14 and 15; the first that is met is given.
+/// Why a call was refused. A call's checks are made in the order of these numbers, but for a code's, which are 5, 12 and 8, those
+/// of an addition inside the season, which are 13, 16, 17, 14 and 15, and number 18, which is met before every other; the first that
+/// is met is given.
 #[derive(Clone, Copy, Debug, PartialEq, Eq, PartialOrd, Ord, Hash)]
 #[repr(u8)]
 pub enum Number {
@@ -19,7 +20,7 @@ pub enum Number {
     Closed = 5,
     /// 6: metadata, message or nonce is longer than 16,384 bytes.
     TooLong = 6,
-    /// 7: the tag, or the buffer for it, has not the length of the mode's tags: 32 bytes, in SANE 16.
+    /// 7: the tag, or the buffer for it, has not the length of the mode's tags: 32 bytes, in SANE and of old letters 16.
     TagLength = 7,
     /// 8: the output buffer is too short.
     Buffer = 8,
@@ -41,6 +42,8 @@ pub enum Number {
     NoDay = 16,
     /// 17: the line's day is outside the window of its size.
     OutOfSeason = 17,
+    /// 18: old letters are only opened: none is wrapped, and no envelope of one is written.
+    ReadOnly = 18,
 }
 
 impl Number {
@@ -58,7 +61,7 @@ impl Number {
             Number::Key => "The key must have 16 to 47 bytes.",
             Number::Closed => "The session is not open.",
             Number::TooLong => "Metadata, message or nonce has more than 16,384 bytes.",
-            Number::TagLength => "The tag must have 32 bytes, in SANE 16.",
+            Number::TagLength => "The tag must have 32 bytes, in SANE and of old letters 16.",
             Number::Buffer => "The output buffer is too short.",
             Number::Full => "The session is full: start a new one with a new key.",
             Number::Allowance => "The group's allowance for the day does not cover this call.",
@@ -71,6 +74,7 @@ impl Number {
                 "There is no such day in 1900 to 2199, or no such date in any year in the window of the size."
             }
             Number::OutOfSeason => "The line's day is outside the window of its size.",
+            Number::ReadOnly => "Old letters are only opened.",
         }
     }
 }

@@ -8,7 +8,7 @@ use crate::deck::{Deck, blocks};
 use crate::envelope::SANE_LETTER;
 use crate::limits::{SANE_TAG, check_key, check_lengths};
 use crate::refusal::Number;
-use crate::session::{Mode, SaneSession, add_keystream, compress_metadata};
+use crate::session::{Mode, Record, SaneSession, Scheme, add_keystream, compress_metadata, metadata_frame};
 use crate::xoodoo::BLOCK;
 
 /// The mode Xoofff-SANE.
@@ -44,22 +44,26 @@ pub fn count(metadata: usize, message: usize) -> u32 {
 
 /// The steps after the keystream's: the history gains metadata and cryptogram.
 fn compress(history: &mut Deck, toggle: bool, metadata: &[u8], cryptogram: &[u8]) {
-    compress_metadata(history, toggle, metadata, cryptogram.len());
+    compress_metadata(history, &metadata_frame(toggle), metadata, cryptogram.len());
     if !cryptogram.is_empty() {
         history.compress(cryptogram, &cryptogram_frame(toggle));
     }
 }
 
 /// The first step: the sum of a text and the keystream of the history so far; none is made for an empty one.
-fn crypt(history: &Deck, input: &[u8], output: &mut [u8]) {
+pub(crate) fn crypt(history: &Deck, input: &[u8], output: &mut [u8]) {
     if !input.is_empty() {
         add_keystream(history, KEYSTREAM, input, output);
     }
 }
 
 impl Mode for Sane {
-    const TAG: usize = SANE_TAG;
     const LETTER: u8 = SANE_LETTER;
+}
+
+impl Scheme for Sane {
+    const TAG: usize = SANE_TAG;
+    const TOGGLES: bool = true;
 
     fn count(metadata: usize, message: usize) -> u32 {
         count(metadata, message)
@@ -93,17 +97,22 @@ impl Mode for Sane {
     }
 }
 
+/// A start with a nonce, of SANE or of old letters.
+pub(crate) fn started<M: Scheme>(key: &[u8], nonce: &[u8], tag: &mut [u8]) -> Result<(Record<M>, u32), Number> {
+    check_key(key)?;
+    check_lengths(&[nonce.len()], tag.len(), M::TAG)?;
+    let mut history = Deck::start(key);
+    history.compress(nonce, &NONCE_FRAME);
+    history.output(0, tag);
+    Ok((Record::opened(history), start_count(nonce.len())))
+}
+
 impl SaneSession {
     /// Starts a session under a key with a nonce: its tag goes to `tag`. Gives the session and the count of permutations.
     /// Meets 4, 6 for the nonce, and 7, with `tag` left as it was; a refused start gives a closed record, so a caller that
     /// lent one holds [`SaneSession::CLOSED`](crate::session::Record::CLOSED) afterwards.
     pub fn start(key: &[u8], nonce: &[u8], tag: &mut [u8]) -> Result<(SaneSession, u32), Number> {
-        check_key(key)?;
-        check_lengths(&[nonce.len()], tag.len(), SANE_TAG)?;
-        let mut history = Deck::start(key);
-        history.compress(nonce, &NONCE_FRAME);
-        history.output(0, tag);
-        Ok((SaneSession::opened(history), start_count(nonce.len())))
+        started(key, nonce, tag)
     }
 }
 
@@ -119,6 +128,6 @@ mod tests {
             let (started, made) = counted(|| SaneSession::start(&[7; 16], &vec![3; nonce], &mut [0; SANE_TAG]));
             assert_eq!(started.unwrap().1, made, "a nonce of {nonce} bytes");
         }
-        check_counts(&SaneSession::start(&[7; 16], &[3; 20], &mut [0; SANE_TAG]).unwrap().0);
+        check_counts(&SaneSession::start(&[7; 16], &[3; 20], &mut [0; SANE_TAG]).unwrap().0, Some(SANE_LETTER));
     }
 }

@@ -7,7 +7,7 @@ use crate::deck::{Deck, blocks};
 use crate::envelope::SANSE_LETTER;
 use crate::limits::{TAG, check_key};
 use crate::refusal::Number;
-use crate::session::{Mode, Session, add_keystream, compress_metadata};
+use crate::session::{Mode, Scheme, Session, add_keystream, compress_metadata};
 pub use crate::session::{growth, metadata_frame};
 use crate::xoodoo::BLOCK;
 
@@ -44,8 +44,12 @@ fn with_tag(history: &Deck, toggle: bool, tag: &[u8]) -> Deck {
 }
 
 impl Mode for Sanse {
-    const TAG: usize = TAG;
     const LETTER: u8 = SANSE_LETTER;
+}
+
+impl Scheme for Sanse {
+    const TAG: usize = TAG;
+    const TOGGLES: bool = true;
 
     fn count(metadata: usize, message: usize) -> u32 {
         count(metadata, message)
@@ -59,7 +63,7 @@ impl Mode for Sanse {
         cryptogram: &mut [u8],
         tag: &mut [u8],
     ) -> Deck {
-        compress_metadata(&mut history, toggle, metadata, message.len());
+        compress_metadata(&mut history, &metadata_frame(toggle), metadata, message.len());
         if message.is_empty() {
             history.output(0, tag);
             return history;
@@ -79,7 +83,7 @@ impl Mode for Sanse {
         tag: &[u8],
         message: &mut [u8],
     ) -> Deck {
-        compress_metadata(&mut history, toggle, metadata, cryptogram.len());
+        compress_metadata(&mut history, &metadata_frame(toggle), metadata, cryptogram.len());
         if !cryptogram.is_empty() {
             add_keystream(&with_tag(&history, toggle, tag), 0, cryptogram, message);
             history.compress(message, &message_frame(toggle));
@@ -110,6 +114,6 @@ mod tests {
     fn counts_are_the_permutations_made() {
         let (session, made) = counted(|| Session::start(&[7; 16]));
         assert_eq!(made, Session::START_COUNT);
-        check_counts(&session.unwrap());
+        check_counts(&session.unwrap(), Some(SANSE_LETTER));
     }
 }

@@ -1,17 +1,21 @@
-//! The envelope at its edges, with either letter.
+//! The envelope at its edges, with every letter; that of old letters is read and never written.
 
 use pevghazo_reference::envelope::{HEADER_MAX, Parts, header_bytes, read, tag_length, write, write_header};
 use pevghazo_reference::limits::LENGTH_MAX;
 use pevghazo_reference::random::Random;
 use pevghazo_reference::refusal::Number;
 
-/// The letters, each with the bytes of its tag.
+/// The letters that are written, each with the bytes of its tag.
 const LETTERS: [(u8, usize); 2] = [(b'S', 32), (b'N', 16)];
+
+/// The letter that is read and never written, likewise.
+const OLD: (u8, usize) = (b'F', 16);
 
 #[test]
 fn letters_have_their_tags() {
     for letter in 0..=u8::MAX {
-        let expected = LETTERS.iter().find(|(known, _)| *known == letter).map(|(_, length)| *length);
+        let mut all = LETTERS.iter().chain([&OLD]);
+        let expected = all.find(|(known, _)| *known == letter).map(|(_, length)| *length);
         assert_eq!(tag_length(letter), expected, "{letter}");
     }
 }
@@ -67,7 +71,7 @@ fn headers_alone() {
             assert_eq!(buffer, [&expected[..], &[0xA5; 2]].concat());
         }
         let (long, buffer) = (LENGTH_MAX + 1, &mut [0; 7][..]);
-        assert_eq!(write_header(b'F', 32, long, 0, buffer), Err(Number::Header));
+        assert_eq!(write_header(b'f', 32, long, 0, buffer), Err(Number::Header));
         assert_eq!(write_header(letter, 32, long, 0, buffer), Err(Number::Group));
         assert_eq!(write_header(letter, 31, long, 0, buffer), Err(Number::TooLong));
         assert_eq!(write_header(letter, 31, 0, long, buffer), Err(Number::TooLong));
@@ -76,7 +80,7 @@ fn headers_alone() {
     }
 }
 
-/// The same bytes, but for the letter, end 16 bytes earlier with N.
+/// The same bytes, but for the letter, end 16 bytes earlier with N and with F.
 #[test]
 fn the_other_letters_tag_length() {
     let mut bytes = b"S,7,20,48,".to_vec();
@@ -84,10 +88,49 @@ fn the_other_letters_tag_length() {
     assert_eq!(read(&bytes).map(|parts| (parts.letter, parts.tag, parts.place)), Ok((b'S', &bytes[78..110], 110)));
     assert_eq!(read(&bytes[..109]), Err(Number::Truncated));
     assert_eq!(read(&bytes[..94]), Err(Number::Truncated));
-    bytes[0] = b'N';
-    assert_eq!(read(&bytes).map(|parts| (parts.letter, parts.tag, parts.place)), Ok((b'N', &bytes[78..94], 94)));
-    assert_eq!(read(&bytes[..94]).map(|parts| parts.place), Ok(94));
-    assert_eq!(read(&bytes[..93]), Err(Number::Truncated));
+    for letter in [b'N', b'F'] {
+        bytes[0] = letter;
+        assert_eq!(read(&bytes).map(|parts| (parts.letter, parts.tag, parts.place)), Ok((letter, &bytes[78..94], 94)));
+        assert_eq!(read(&bytes[..94]).map(|parts| parts.place), Ok(94));
+        assert_eq!(read(&bytes[..93]), Err(Number::Truncated));
+    }
+}
+
+/// Old letters of all lengths at which something changes are read as those of N are, but for the letter.
+#[test]
+fn old_letters_are_read() {
+    let mut random = Random::new(13);
+    let (letter, tag) = OLD;
+    for (group, a, c) in [(0, 0, 0), (7, 20, 48), (31, LENGTH_MAX, LENGTH_MAX), (10, 9, 10_000)] {
+        let (a, c, t) = (random.bytes(a), random.bytes(c), random.bytes(tag));
+        let header = header_bytes(letter, group, a.len(), c.len());
+        let bytes = [&header, &a, &c, &t, &b"more"[..]].concat();
+        let place = bytes.len() - 4;
+        let parts = Parts { letter, group, header: &header, metadata: &a, cryptogram: &c, tag: &t, place };
+        assert_eq!(read(&bytes), Ok(parts));
+        assert_eq!(read(&bytes[..place]), Ok(parts));
+        for end in 0..header.len() {
+            assert_eq!(read(&bytes[..end]), Err(Number::Header));
+        }
+        assert_eq!(read(&bytes[..place - 1]), Err(Number::Truncated));
+        let as_n = [b"N", &bytes[1..]].concat();
+        let n = read(&as_n).unwrap();
+        assert_eq!((n.group, n.metadata, n.cryptogram, n.tag, n.place), (group, &a[..], &c[..], &t[..], place));
+    }
+}
+
+/// Writing one gets 18, whatever group, lengths, tag and buffer.
+#[test]
+fn old_letters_are_not_written() {
+    let long = vec![0; LENGTH_MAX + 1];
+    for group in [0, 31, 32, u32::MAX] {
+        for (a, tag, room) in [(0, 16, 100), (LENGTH_MAX + 1, 16, 0), (6, 32, 17), (6, 0, LENGTH_MAX)] {
+            let mut buffer = vec![7; room];
+            assert_eq!(write(b'F', group, &long[..a], &[], &long[..tag], &mut buffer), Err(Number::ReadOnly));
+            assert_eq!(write_header(b'F', group, a, usize::MAX, &mut buffer), Err(Number::ReadOnly));
+            assert!(buffer.iter().all(|byte| *byte == 7));
+        }
+    }
 }
 
 /// A header with some bytes after it.
@@ -99,9 +142,19 @@ fn with_room(header: &str) -> Vec<u8> {
 
 #[test]
 fn headers_of_every_kind() {
-    for good in
-        ["S,7,20,48,", "N,7,20,48,", "S,0,0,0,", "N,0,0,0,", "S,31,0,68,", "N,31,0,84,", "S,10,68,0,", "S,9,9,9,"]
-    {
+    for good in [
+        "S,7,20,48,",
+        "N,7,20,48,",
+        "F,7,20,48,",
+        "S,0,0,0,",
+        "N,0,0,0,",
+        "F,0,0,0,",
+        "S,31,0,68,",
+        "N,31,0,84,",
+        "F,31,0,84,",
+        "S,10,68,0,",
+        "S,9,9,9,",
+    ] {
         let bytes = with_room(good);
         assert!(read(&bytes).is_ok(), "{good}");
         let header = good.len();
@@ -114,7 +167,12 @@ fn headers_of_every_kind() {
         "",
         "s,7,20,48,",
         "n,7,20,48,",
-        "F,7,20,48,",
+        "f,7,20,48,",
+        "E,7,20,48,",
+        "FF,7,20,48,",
+        "F;7,20,48,",
+        "F,07,20,48,",
+        "F,32,20,48,",
         "\0,7,20,48,",
         ",7,20,48,",
         "S;7,20,48,",
@@ -165,7 +223,7 @@ fn headers_of_every_kind() {
 fn writing_is_refused_in_order() {
     let long = vec![0; LENGTH_MAX + 1];
     let mut buffer = vec![7; 20];
-    for letter in [0, b's', b'n', b'F', b',', 0xFF] {
+    for letter in [0, b's', b'n', b'f', b'E', b'G', b',', 0xFF] {
         assert_eq!(write(letter, 32, &long, &[], &[0; 31], &mut buffer), Err(Number::Header), "{letter}");
         assert_eq!(write(letter, 7, &[], &[], &[0; 32], &mut [0; 100]), Err(Number::Header), "{letter}");
         assert_eq!(write(letter, 7, &[], &[], &[0; 16], &mut [0; 100]), Err(Number::Header), "{letter}");

@@ -8,11 +8,12 @@ use common::{Record as Vector, records};
 use pevghazo_reference::bits;
 use pevghazo_reference::codes::CODE;
 use pevghazo_reference::deck::xoofff;
-use pevghazo_reference::ledger::{Algorithm, Ledger, LedgerOf, SaneLedger};
+use pevghazo_reference::ledger::{Algorithm, Ledger, LedgerOf, SaeLedger, SaneLedger};
 use pevghazo_reference::refusal::{Number, Refusal};
+use pevghazo_reference::sae::Sae;
 use pevghazo_reference::sane::Sane;
 use pevghazo_reference::sanse::Sanse;
-use pevghazo_reference::session::{Record, SaneSession, Session};
+use pevghazo_reference::session::{Record, SaeSession, SaneSession, Session};
 
 /// One end of a session, kept twice: as a record and as a ledger.
 #[derive(Clone)]
@@ -30,18 +31,68 @@ fn start(vector: &Vector) -> End<Sanse> {
     End { session, ledger }
 }
 
+/// Checks the counts and the tags of a start with a nonce.
+fn check_start(vector: &Vector, counts: [u32; 2], tags: [[u8; 16]; 2]) {
+    assert_eq!(counts, [vector.number("count") as u32; 2], "count, line {}", vector.line);
+    assert!(tags.iter().all(|tag| *tag == vector.bytes("T")[..]), "T, line {}", vector.line);
+}
+
 /// Starts a session of SANE.
 fn sane_start(vector: &Vector) -> End<Sane> {
-    let (line, key, nonce) = (vector.line, vector.bytes("key"), vector.bytes("nonce"));
-    let mut tag = [[0; 16]; 2];
+    let (key, nonce, mut tag) = (vector.bytes("key"), vector.bytes("nonce"), [[0; 16]; 2]);
     let (session, count) = SaneSession::start(&key, &nonce, &mut tag[0]).expect("a good start");
     let (ledger, counted) = SaneLedger::start(&key, &nonce, &mut tag[1], xoofff).expect("a good start");
-    assert_eq!([count, counted], [vector.number("count") as u32; 2], "count, line {line}");
-    assert!(tag.iter().all(|tag| *tag == vector.bytes("T")[..]), "T, line {line}");
+    check_start(vector, [count, counted], tag);
     End { session, ledger }
 }
 
-impl<M: Algorithm> End<M> {
+/// Starts a session of old letters.
+fn sae_start(vector: &Vector) -> End<Sae> {
+    let (key, nonce, mut tag) = (vector.bytes("key"), vector.bytes("nonce"), [[0; 16]; 2]);
+    let (session, count) = SaeSession::start(&key, &nonce, &mut tag[0]).expect("a good start");
+    let (ledger, counted) = SaeLedger::start(&key, &nonce, &mut tag[1], xoofff).expect("a good start");
+    check_start(vector, [count, counted], tag);
+    End { session, ledger }
+}
+
+/// A scheme whose vectors have wraps: those of its mode, or of the first version.
+trait Wraps: Algorithm {
+    /// Wraps by the record and by the ledger, into two buffers each.
+    fn both_wrap(
+        end: &mut End<Self>,
+        a: &[u8],
+        m: &[u8],
+        out: &mut [Vec<u8>; 2],
+        tag: &mut [Vec<u8>; 2],
+    ) -> [Answer; 2];
+}
+
+/// What a call answers.
+type Answer = Result<u32, Refusal>;
+
+/// The wraps of a scheme are these calls.
+macro_rules! wraps {
+    ($scheme:ty, $wrap:ident) => {
+        impl Wraps for $scheme {
+            fn both_wrap(
+                end: &mut End<Self>,
+                a: &[u8],
+                m: &[u8],
+                out: &mut [Vec<u8>; 2],
+                tag: &mut [Vec<u8>; 2],
+            ) -> [Answer; 2] {
+                let session = end.session.$wrap(a, m, &mut out[0], &mut tag[0]);
+                [session, end.ledger.$wrap(a, m, &mut out[1], &mut tag[1])]
+            }
+        }
+    };
+}
+
+wraps!(Sanse, wrap);
+wraps!(Sane, wrap);
+wraps!(Sae, trial_wrap);
+
+impl<M: Wraps> End<M> {
     /// Checks the record against the fields after a call.
     fn check(&self, vector: &Vector) {
         assert_eq!(usize::from(self.session.toggle), vector.number("e"), "e, line {}", vector.line);
@@ -64,9 +115,8 @@ impl<M: Algorithm> End<M> {
         let (metadata, message) = (vector.bytes("A"), vector.bytes("M"));
         let mut out = [buffer(message.len()), buffer(message.len())];
         let mut tag = [vec![0; M::TAG], vec![0; M::TAG]];
-        let answer = self.session.wrap(&metadata, &message, &mut out[0], &mut tag[0]);
-        assert_eq!(answer, Ok(vector.number("count") as u32), "line {line}");
-        assert_eq!(self.ledger.wrap(&metadata, &message, &mut out[1], &mut tag[1]), answer, "line {line}");
+        let answers = M::both_wrap(self, &metadata, &message, &mut out, &mut tag);
+        assert_eq!(answers, [Ok(vector.number("count") as u32); 2], "line {line}");
         for (out, tag) in out.iter().zip(tag) {
             assert_eq!(*out, [&vector.bytes("C")[..], &REST].concat(), "C, line {line}");
             assert_eq!(tag, vector.bytes("T"), "T, line {line}");
@@ -112,7 +162,7 @@ struct Played<M> {
 }
 
 /// Plays the sessions of a file at both ends, with every field of every record checked.
-fn play<M: Algorithm>(file: &str, start: impl Fn(&Vector) -> End<M>) -> Played<M> {
+fn play<M: Wraps>(file: &str, start: impl Fn(&Vector) -> End<M>) -> Played<M> {
     let mut played = Played { ends: HashMap::new(), wraps: 0, accepted: 0, refused: 0 };
     let mut end_b = None;
     for vector in &records(file) {
@@ -153,6 +203,13 @@ fn sessions() {
 fn sane_sessions() {
     let played = play("sane.txt", sane_start);
     assert_eq!((played.ends.len(), played.wraps, played.accepted, played.refused), (10, 43, 43, 21));
+}
+
+/// The wraps of the file are the first version's.
+#[test]
+fn old_letters() {
+    let played = play("sae.txt", sae_start);
+    assert_eq!((played.ends.len(), played.wraps, played.accepted, played.refused), (5, 23, 23, 10));
 }
 
 #[test]

@@ -2,6 +2,8 @@
 //!
 //! The keys are fixed, so that every run prints the same; they are for the demo only.
 
+mod old;
+
 use std::ffi::OsString;
 use std::fs::{self, DirBuilder};
 use std::io::Write;
@@ -44,6 +46,7 @@ pub fn run(out: &mut dyn Write, run: Run) -> Result<(), Failure> {
     one_key(&folder, out)?;
     keep_busy(&folder, out)?;
     with_counter(&folder, out)?;
+    old::open_box(&folder, out)?;
     pool(&folder, out)?;
     seasons(&folder, out)?;
     print(out, "\nWhat the office holds:\n")?;
@@ -239,13 +242,14 @@ impl Folder {
         self.play_alone(&[words, &["--state", state]].concat())
     }
 
-    /// Runs a command; the values of the options that name files are files of this folder. Gives what it prints.
+    /// Runs a command; the values of the options that name files, and letters, are files of this folder. Gives what it prints.
     fn play_alone(&self, words: &[&str]) -> Result<String, Failure> {
-        const FILES: [&str; 6] = ["--state", "--key", "--message", "--in", "--out", "--windows"];
+        const FILES: [&str; 7] = ["--state", "--key", "--message", "--in", "--out", "--out-dir", "--windows"];
         let mut tokens: Vec<OsString> = Vec::new();
         let mut before = "";
         for word in words.iter().copied() {
-            tokens.push(if FILES.contains(&before) { self.0.join(word).into() } else { word.into() });
+            let is_file = FILES.contains(&before) || word.ends_with(".env");
+            tokens.push(if is_file { self.0.join(word).into() } else { word.into() });
             before = word;
         }
         let mut printed = Vec::new();
@@ -253,7 +257,12 @@ impl Folder {
             Request::Run(command, arguments) => (self.1)(command, &arguments, &mut printed)?,
             Request::Print(text) => printed.extend(text.bytes()),
         }
-        Ok(String::from_utf8_lossy(&printed).into_owned())
+        Ok(self.within(&String::from_utf8_lossy(&printed)))
+    }
+
+    /// A text without the folder's own name, which every run has another.
+    fn within(&self, text: &str) -> String {
+        text.replace(&format!("{}/", self.0.display()), "")
     }
 
     /// The office begins a day.
@@ -318,7 +327,7 @@ impl Folder {
     fn refused(&self, out: &mut dyn Write, words: &[&str], state: &str) -> Result<(), Failure> {
         match self.play(words, state) {
             Err(failure) if [6, 7, 9].contains(&failure.status()) || failure.status() > 10 => {
-                print(out, &format!("      {failure}\n"))
+                print(out, &format!("      {}\n", self.within(&failure.to_string())))
             }
             Err(failure) => Err(failure),
             Ok(_) => Err(Failure::Demo("something was accepted that had to be refused")),

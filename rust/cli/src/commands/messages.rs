@@ -210,15 +210,15 @@ fn hand_out_message<E: End>(
 /// The command that hands something out again, as it is typed; only the output is left to choose.
 pub fn again<E: End>(command: &str, group: u32, arguments: &Arguments) -> String {
     let option = if E::NAME == AREAS[0] { format!(" --group {group}") } else { String::new() };
-    format!("{}{option} --out FILE", typed::<E>(command, arguments))
+    format!("{}{option} --out FILE", typed(E::NAME, command, arguments))
 }
 
 /// Another command on the same state file, as it is typed.
-pub fn typed<E: End>(command: &str, arguments: &Arguments) -> String {
+pub fn typed(area: &str, command: &str, arguments: &Arguments) -> String {
     let state = quoted(arguments.value("state").unwrap_or_default());
     // A name that starts with dashes would be taken for an option.
     let state = if state.starts_with('-') { format!("--state={state}") } else { format!("--state {state}") };
-    format!("pevghazo {} {command} {state}", E::NAME)
+    format!("pevghazo {area} {command} {state}")
 }
 
 /// A name as a shell takes it, without control characters.

@@ -7,6 +7,7 @@ mod keygen;
 mod messages;
 mod office;
 mod pool;
+mod sae;
 mod season;
 mod show;
 mod start;
@@ -51,6 +52,10 @@ pub fn run(command: &Command, arguments: &Arguments, out: &mut dyn Write) -> Res
         Id::SaneReread => messages::reread::<Sane>(arguments, out),
         Id::SaneForget => forget::forget::<Sane>(arguments),
         Id::SaneShow => show::sane(arguments, out),
+        Id::SaeStart => start::sae(arguments, out),
+        Id::SaeOpen => sae::open(arguments, out),
+        Id::SaeSeal => sae::seal(arguments),
+        Id::SaeShow => show::sae(arguments, out),
         Id::PoolCreate => pool::create(arguments),
         Id::PoolAdd => pool::add(arguments, out),
         Id::PoolShow => pool::show(arguments, out),

@@ -8,8 +8,8 @@ use pevghazo::{GROUPS, Group, SaneSession, Session};
 use crate::arguments::Arguments;
 use crate::failure::Failure;
 use crate::output::print;
-use crate::starts::Starts;
-use crate::state::{Held, Kept, Lone, Mode, Office};
+use crate::starts::{Start, Starts};
+use crate::state::{Held, Kept, Lone, Mode, Office, Sae};
 use crate::state_file::Used;
 use crate::tag::StartTag;
 
@@ -81,16 +81,40 @@ pub fn group(arguments: &Arguments, out: &mut dyn Write) -> Result<(), Failure> 
 
 /// Shows a session in SANE, and how it was started.
 pub fn sane(arguments: &Arguments, out: &mut dyn Write) -> Result<(), Failure> {
-    let tag = |starts: &Starts| StartTag::from(starts.tag());
-    let line = |starts: &Starts| {
-        let nonce = starts.counter().map_or("nonce of a file".to_string(), |counter| format!("counter {counter}"));
-        format!("mode SANE, {nonce}, tag {}\n", tag(starts))
-    };
-    let members = |starts: &Starts| {
-        let counter = starts.counter().map_or("null".to_string(), |counter| counter.to_string());
-        format!(r#""keys":{},"mode":"sane","counter":{counter},"tag":"{}""#, starts.keys(), tag(starts))
-    };
+    let line = |starts: &Starts| format!("mode SANE, {}\n", start_line(starts.last()));
+    let members =
+        |starts: &Starts| format!(r#""keys":{},"mode":"sane",{}"#, starts.keys(), start_members(starts.last()));
     lone::<SaneSession>(arguments, out, line, members)
+}
+
+/// Shows a session of the first version, how it was started, and how many of its letters were opened.
+pub fn sae(arguments: &Arguments, out: &mut dyn Write) -> Result<(), Failure> {
+    let used = Used::<Sae>::open(arguments)?;
+    let Sae { group, session, start, opened } = &used.state;
+    let (is_open, index, letters) = (session.is_open(), session.index(), opened.count());
+    let text = if arguments.has("json") {
+        let session = format!(r#""group":{group},"open":{is_open},"index":{index},"letters":{letters}"#);
+        format!("{{\"commit\":{},\"mode\":\"sae\",{},{session}}}\n", used.generation(), start_members(*start))
+    } else {
+        let open = if is_open { "open" } else { "closed" };
+        format!(
+            "group {group:2}: {open}, index {index:7}, letters opened {letters}\nmode SAE, {}\n",
+            start_line(*start)
+        )
+    };
+    print(out, &text)
+}
+
+/// For people: how a session was started.
+fn start_line(start: Start) -> String {
+    let nonce = start.counter.map_or("nonce of a file".to_string(), |counter| format!("counter {counter}"));
+    format!("{nonce}, tag {}", StartTag::from(start.tag))
+}
+
+/// For scripts: the same, as members of a JSON object.
+fn start_members(start: Start) -> String {
+    let counter = start.counter.map_or("null".to_string(), |counter| counter.to_string());
+    format!(r#""counter":{counter},"tag":"{}""#, StartTag::from(start.tag))
 }
 
 /// Shows a lone session, and what is to be said of its start: a line for people, and members of the JSON object for scripts.

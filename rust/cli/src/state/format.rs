@@ -27,11 +27,14 @@ pub const GROUP: Kind = Kind { name: "a group's", word: b"group--", version: 2 }
 /// The state file of a session in SANE.
 pub const SANE: Kind = Kind { name: "a SANE session's", word: b"sane---", version: 1 };
 
+/// The state file of a session of the first version.
+pub const SAE: Kind = Kind { name: "that of old letters", word: b"sae----", version: 1 };
+
 /// The state file of a pool of unused rings.
 pub const POOL: Kind = Kind { name: "a pool's", word: b"pool---", version: 1 };
 
 /// All kinds.
-const KINDS: [&Kind; 4] = [&OFFICE, &GROUP, &SANE, &POOL];
+const KINDS: [&Kind; 5] = [&OFFICE, &GROUP, &SANE, &SAE, &POOL];
 
 /// Why bytes are not those of a state.
 #[derive(Clone, Copy, Debug, PartialEq, Eq)]

@@ -4,7 +4,8 @@
 //! was sealed and the last message that was opened. A group's file, and that of a session in SANE, holds the group's number, the
 //! session and what is kept. They are in the file because a call and what belongs to it must be committed together: a kill between
 //! the commit and the handing out must not lose it. All these hold the fingerprint of every key that was ever used in the file. The file
-//! of a pool of unused rings holds its runs; `pool` says how.
+//! of a session of the first version holds the letters that were opened, and that of a pool of unused rings its runs; `sae` and `pool`
+//! say how.
 //!
 //! | bytes | content |
 //! |---|---|
@@ -28,6 +29,7 @@
 mod format;
 mod lone;
 mod pool;
+mod sae;
 
 use pevghazo::{GROUPS, HEADER_MAX, Number, Refusal, TAG_LENGTH, TEXT_MAX, Table};
 use pevghazo_store::Secret;
@@ -35,6 +37,7 @@ use pevghazo_store::Secret;
 use crate::keys::Keys;
 pub use format::{Bad, Part, Reader, put_count};
 pub use lone::{Group, Lone, Mode, Sane};
+pub use sae::{Sae, open_letter};
 
 /// The most bytes of an envelope.
 pub const ENVELOPE_MAX: usize = HEADER_MAX + 2 * TEXT_MAX + TAG_LENGTH;
@@ -158,11 +161,12 @@ impl State for Office {
 
 #[cfg(test)]
 mod tests {
-    use pevghazo::{Pool, RING_MAX, Run, SaneSession, Session, Size};
+    use pevghazo::{INDEX_MAX, Pool, RING_MAX, Run, SaeSession, SaneSession, Session, Size, envelope};
 
     use super::*;
     use crate::keys::FINGERPRINT;
-    use crate::starts::{Nonce, Starts};
+    use crate::letters::Opened;
+    use crate::starts::{Nonce, Start, Starts};
 
     fn kept(envelope: usize, message: usize) -> Kept {
         Kept {
@@ -201,6 +205,14 @@ mod tests {
         Sane { group: 5, session: session.unwrap(), kept: kept(40, 9), starts }
     }
 
+    fn sae(letters: usize) -> Sae {
+        let (session, tag, _) = SaeSession::start(&[7; 16], &6u64.to_le_bytes()).unwrap();
+        let mut opened = Opened::none(&[7; 16]).unwrap();
+        let fingerprint = opened.fingerprint(&envelope::read(b"F,5,0,0,the letter's tag").unwrap()).unwrap();
+        (0..letters).for_each(|_| opened.add(fingerprint));
+        Sae { group: 5, session, start: Start { tag, counter: Some(6) }, opened }
+    }
+
     fn pool() -> Pool {
         let runs = [(Size::H, 5, 5), (Size::C, 12_001, 12_100), (Size::C, 1, 9), (Size::A, 7, RING_MAX)];
         Pool::from_runs(&runs.map(|(size, first, last)| Run { size, first, last })).unwrap()
@@ -221,7 +233,10 @@ mod tests {
         let bytes = sane().encode();
         let back = Sane::decode(&bytes).unwrap();
         assert_eq!((back.encode(), back.group, back.kept), (bytes, 5, kept(40, 9)));
-        assert_eq!((back.starts.counter(), back.starts), (Some(6), sane().starts));
+        assert_eq!((back.starts.last().counter, back.starts), (Some(6), sane().starts));
+        let bytes = sae(3).encode();
+        let back = Sae::decode(&bytes).unwrap();
+        assert_eq!((back.encode(), back.group, back.start, back.opened), (bytes, 5, sae(0).start, sae(3).opened));
         for pool in [pool(), Pool::new()] {
             let bytes = pool.encode();
             let back = Pool::decode(&bytes).unwrap();
@@ -290,6 +305,11 @@ mod tests {
             (0..256).map(|place| Run { size: Size::C, first: 1 + 2 * place, last: 1 + 2 * place }).collect();
         let pool = Pool::from_runs(&runs).unwrap();
         assert_eq!(Pool::decode(&pool.encode()).unwrap(), pool);
+        // More letters than a session takes.
+        let state = sae(Opened::MOST);
+        let bytes = state.encode();
+        assert!(bytes.len() <= pevghazo_store::MAX_BYTES && Opened::MOST > INDEX_MAX as usize / 2 - 1);
+        assert_eq!(Sae::decode(&bytes).unwrap().opened, state.opened);
         for keys in [1, 2, Starts::MOST] {
             let state = Sane { starts: Starts::full(keys), kept: kept(ENVELOPE_MAX, TEXT_MAX), ..sane() };
             let bytes = state.encode();
@@ -300,13 +320,14 @@ mod tests {
 
     #[test]
     fn one_end_is_not_taken_for_the_other() {
-        let states = [office().encode(), group().encode(), sane().encode(), pool().encode()];
-        let names = ["the office's", "a group's", "a SANE session's", "a pool's"];
+        let states = [office().encode(), group().encode(), sane().encode(), sae(3).encode(), pool().encode()];
+        let names = ["the office's", "a group's", "a SANE session's", "that of old letters", "a pool's"];
         for (bytes, is) in states.iter().zip(names) {
             let decoded = [
                 Office::decode(bytes).map(drop).map_err(|bad| bad.to_string()),
                 Group::decode(bytes).map(drop).map_err(|bad| bad.to_string()),
                 Sane::decode(bytes).map(drop).map_err(|bad| bad.to_string()),
+                Sae::decode(bytes).map(drop).map_err(|bad| bad.to_string()),
                 Pool::decode(bytes).map(drop).map_err(|bad| bad.to_string()),
             ];
             for (decoded, name) in decoded.into_iter().zip(names) {
@@ -315,6 +336,7 @@ mod tests {
         }
         assert_eq!(Group::decode(b"").unwrap_err(), Bad::Format);
         assert_eq!(Sane::decode(b"sane---2").unwrap_err(), Bad::Version(2));
+        assert_eq!(Sae::decode(b"sae----2").unwrap_err(), Bad::Version(2));
         assert_eq!(Pool::decode(b"pool---2").unwrap_err(), Bad::Version(2));
         assert_eq!(Office::decode(b"office-4").unwrap_err(), Bad::Version(4));
         for start in [&b"office-0"[..], b"office--", b"office3", b"offices3", b"office\xff3"] {
@@ -343,6 +365,7 @@ mod tests {
     fn any_bytes_are_decoded_or_refused() {
         any_bytes::<Group>(&group().encode());
         any_bytes::<Sane>(&sane().encode());
+        any_bytes::<Sae>(&sae(3).encode());
         any_bytes::<Pool>(&pool().encode());
         let bytes = office().encode();
         for length in (0..bytes.len()).step_by(97) {

@@ -67,6 +67,7 @@ pub fn opened_before(folder: &Folder, state: &str, offset: usize, name: &str) ->
             let mut session = SaneSession::from_bytes(&stored).unwrap();
             (session.unwrap(&arrived.arrival().unwrap()).unwrap().message, session.to_bytes())
         }
+        Letter::F => panic!("an old letter"),
     };
     folder.forge(state, offset, &left);
     message

@@ -2,8 +2,10 @@
 #![allow(dead_code)] // Each test program uses a part of it.
 
 pub mod envelopes;
+pub mod letters;
 pub mod sane;
 pub mod seasons;
+pub mod vectors;
 
 use std::fs;
 use std::io::Write;
@@ -58,18 +60,31 @@ impl Folder {
         folder
     }
 
-    /// A copy of this folder.
+    /// A copy of this folder, with the folders in it.
     pub fn copy(&self) -> Folder {
         let copy = Folder::new();
         for name in self.names() {
-            fs::copy(self.0.join(&name), copy.0.join(&name)).unwrap();
+            let (from, to) = (self.0.join(&name), copy.0.join(&name));
+            if from.is_dir() {
+                fs::create_dir(&to).unwrap();
+                for file in self.names_in(&name) {
+                    fs::copy(from.join(&file), to.join(&file)).unwrap();
+                }
+            } else {
+                fs::copy(from, to).unwrap();
+            }
         }
         copy
     }
 
     /// The names in the folder, sorted.
     pub fn names(&self) -> Vec<String> {
-        let entries = fs::read_dir(&self.0).unwrap();
+        self.names_in("")
+    }
+
+    /// The names in a folder in it, sorted.
+    pub fn names_in(&self, folder: &str) -> Vec<String> {
+        let entries = fs::read_dir(self.0.join(folder)).unwrap();
         let mut names: Vec<String> = entries.map(|entry| entry.unwrap().file_name().into_string().unwrap()).collect();
         names.sort();
         names

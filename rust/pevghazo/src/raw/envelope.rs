@@ -69,7 +69,7 @@ pub fn read_envelope(bytes: &[u8]) -> Parts {
     unsafe { pevghazo_read_envelope(bytes.as_ptr(), bytes.len()) }
 }
 
-/// Writes an envelope. Checks 1 (for the letter), 3, 6, 7 and 8.
+/// Writes an envelope. Checks 18 (for the letter F), 1 (for a letter that there is not), 3, 6, 7 and 8.
 pub fn write_envelope(
     letter: u8,
     group: u32,
@@ -95,7 +95,8 @@ pub fn write_envelope(
     }
 }
 
-/// Writes the header of an envelope with these lengths of metadata and message. Checks 1 (for the letter), 3, 6 and 8.
+/// Writes the header of an envelope with these lengths of metadata and message. Checks 18 (for the letter F), 1 (for a letter that
+/// there is not), 3, 6 and 8.
 pub fn write_header(letter: u8, group: u32, metadata_len: usize, message_len: usize, out: &mut [u8]) -> Written {
     // SAFETY: see the module's head.
     unsafe { pevghazo_write_header(letter, group, metadata_len, message_len, out.as_mut_ptr(), out.len()) }

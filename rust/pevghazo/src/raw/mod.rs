@@ -1,8 +1,8 @@
 //! The calls of `include/pevghazo.h`, one to one, on slices. All of the crate's `unsafe` is in this folder, whose files are
 //! those of the header.
 //!
-//! Programs use [`Session`](crate::Session), [`SaneSession`](crate::SaneSession), [`Table`](crate::Table),
-//! [`Pool`](crate::Pool) and [`Windows`](crate::Windows). What is here answers with the library's own numbers and takes tags and
+//! Programs use [`Session`](crate::Session), [`SaneSession`](crate::SaneSession), [`SaeSession`](crate::SaeSession),
+//! [`Table`](crate::Table), [`Pool`](crate::Pool) and [`Windows`](crate::Windows). What is here answers with the library's own numbers and takes tags and
 //! tables of any length, and pools of any content, which the tests need.
 //!
 //! Each call hands over the pointers and lengths of slices and references, so they are not null and hold what the types say;
@@ -24,6 +24,7 @@ use std::sync::atomic::{Ordering, compiler_fence};
 mod codes;
 mod envelope;
 mod pool;
+mod sae;
 mod sane;
 mod season;
 mod session;
@@ -33,6 +34,7 @@ mod table;
 pub use codes::code;
 pub use envelope::{Parts, Written, read_envelope, write_envelope, write_header};
 pub use pool::{PoolRecord, RunRecord, pool_add, pool_holds, pool_rings};
+pub use sae::{SaeRecord, sae_start, sae_unwrap, sae_wrap};
 pub use sane::{SaneRecord, sane_start, sane_unwrap, sane_unwrap_envelope, sane_wrap, sane_wrap_envelope};
 pub use season::{First, WindowsRecord, first_day, pool_add_in_season};
 pub use session::{Answer, Record, start, unwrap, unwrap_envelope, wrap, wrap_envelope};

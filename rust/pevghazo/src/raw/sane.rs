@@ -10,7 +10,7 @@ use super::stack::clear_stack;
 /// zero when it is dropped; one that is moved leaves its old memory as it was, so [`SaneSession`](crate::SaneSession) keeps its
 /// own in a box.
 ///
-/// It is a kind of its own, so that no call takes a record of the other mode:
+/// It is a kind of its own, so that no call takes a record of another mode:
 ///
 /// ```compile_fail,E0308
 /// use pevghazo::raw::{self, Record};

@@ -228,31 +228,28 @@ pub(super) fn overwrite<R>(record: &mut R, closed: R) {
 #[cfg(test)]
 mod tests {
     use super::*;
-    use crate::raw::SaneRecord;
+    use crate::raw::{SaeRecord, SaneRecord};
     use std::mem::MaybeUninit;
 
-    #[test]
-    fn a_dropped_record_is_zero() {
-        let mut place = MaybeUninit::new(Record { acc: [1; 12], mask: [2; 12], index: 3, toggle: true, opened: true });
-        // SAFETY: it is dropped once. The memory is the test's own, and dropping leaves a record there.
-        let record = unsafe {
-            place.assume_init_drop();
-            place.assume_init_ref()
+    /// A record of this kind that is dropped leaves zeros.
+    macro_rules! dropped {
+        ($record:ident) => {
+            let record = $record { acc: [1; 12], mask: [2; 12], index: 3, toggle: true, opened: true };
+            let mut place = MaybeUninit::new(record);
+            // SAFETY: it is dropped once. The memory is the test's own, and dropping leaves a record there.
+            let record = unsafe {
+                place.assume_init_drop();
+                place.assume_init_ref()
+            };
+            assert_eq!((record.acc, record.mask), ([0; 12], [0; 12]));
+            assert_eq!((record.index, record.toggle, record.opened), (0, false, false));
         };
-        assert_eq!((record.acc, record.mask), ([0; 12], [0; 12]));
-        assert_eq!((record.index, record.toggle, record.opened), (0, false, false));
     }
 
     #[test]
-    fn a_dropped_record_in_sane_is_zero() {
-        let sane = SaneRecord { acc: [1; 12], mask: [2; 12], index: 3, toggle: true, opened: true };
-        let mut place = MaybeUninit::new(sane);
-        // SAFETY: as above.
-        let record = unsafe {
-            place.assume_init_drop();
-            place.assume_init_ref()
-        };
-        assert_eq!((record.acc, record.mask), ([0; 12], [0; 12]));
-        assert_eq!((record.index, record.toggle, record.opened), (0, false, false));
+    fn dropped_records_are_zero() {
+        dropped!(Record);
+        dropped!(SaneRecord);
+        dropped!(SaeRecord);
     }
 }

@@ -49,9 +49,10 @@ fn clear_registers() {}
 #[cfg(test)]
 mod tests {
     use super::*;
-    use crate::raw::{GroupRecord, Record, SaneRecord, codes, envelope, sane, session, table};
+    use crate::raw::{GroupRecord, Record, SaeRecord, SaneRecord, codes, envelope, sae, sane, session, table};
     use crate::{
-        CODE_LENGTH, GROUPS, HEADER_MAX, KEY_MAX, NONCE_MAX, PACKET_MAX, SANE_TAG_LENGTH, TAG_LENGTH, TEXT_MAX,
+        CODE_LENGTH, GROUPS, HEADER_MAX, KEY_MAX, NONCE_MAX, PACKET_MAX, SAE_TAG_LENGTH, SANE_TAG_LENGTH, TAG_LENGTH,
+        TEXT_MAX,
     };
     use std::fs::File;
     use std::os::unix::fs::FileExt;
@@ -89,7 +90,7 @@ mod tests {
 
     const N: usize = TEXT_MAX;
     const GROUP: u32 = 31;
-    const CALLS: usize = 18;
+    const CALLS: usize = 21;
 
     /// What the calls work on, at its longest.
     struct Arguments {
@@ -100,6 +101,7 @@ mod tests {
         lone: Record,
         table: Vec<GroupRecord>,
         sane: SaneRecord,
+        sae: SaeRecord,
     }
 
     impl Arguments {
@@ -112,14 +114,15 @@ mod tests {
                 lone: Record::closed(),
                 table: (0..GROUPS).map(|_| GroupRecord::closed()).collect(),
                 sane: SaneRecord::closed(),
+                sae: SaeRecord::closed(),
             }
         }
 
         /// One of the library's functions itself, without the clearing, and its number. Each third call unwraps what was not
-        /// wrapped so; the start of a day is never refused, and gives the allowance.
+        /// wrapped so; the start of a day is never refused, and gives the allowance; old letters are not wrapped.
         fn call(&mut self, call: usize) -> u32 {
             let (k, t, s, a) = (self.key.as_ptr(), self.text.as_ptr(), &mut self.lone, self.table.as_mut_ptr());
-            let (out, tag, n) = (self.out.as_mut_ptr(), self.tag.as_mut_ptr(), &mut self.sane);
+            let (out, tag, n, o) = (self.out.as_mut_ptr(), self.tag.as_mut_ptr(), &mut self.sane, &mut self.sae);
             const T: usize = TAG_LENGTH;
             const ALL: u32 = u32::MAX;
             // SAFETY: pointers and lengths are those of the fields.
@@ -136,6 +139,9 @@ mod tests {
                     8 => sane::pevghazo_sane_unwrap(n, t, N, t, N, tag, SANE_TAG_LENGTH, out, N).number,
                     9 => codes::pevghazo_code(s, PACKET_MAX, out, CODE_LENGTH).number,
                     12 => table::pevghazo_start_day(a, GROUPS, 0),
+                    18 => sae::pevghazo_sae_start(o, k, KEY_MAX, t, NONCE_MAX, tag, SAE_TAG_LENGTH).number,
+                    19 => sae::pevghazo_sae_wrap(o, t, N, t, N, out, N, tag, SAE_TAG_LENGTH).number,
+                    20 => sae::pevghazo_sae_unwrap(o, t, N, t, N, tag, SAE_TAG_LENGTH, out, N).number,
                     _ => self.call_for_envelope(call),
                 }
             }
@@ -181,7 +187,12 @@ mod tests {
         let mut deepest = 0;
         // The first turn may look up functions of the C library.
         for call in (0..CALLS).chain(0..CALLS) {
-            let depth = depth(&mut || assert_eq!(arguments.call(call), if call % 3 == 2 { 11 } else { 0 }));
+            let expected = match call {
+                19 => 18,
+                _ if call % 3 == 2 => 11,
+                _ => 0,
+            };
+            let depth = depth(&mut || assert_eq!(arguments.call(call), expected));
             println!("call {call}: {depth} bytes of stack");
             deepest = deepest.max(depth);
         }

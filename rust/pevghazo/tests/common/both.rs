@@ -1,20 +1,21 @@
-//! Sessions that are held twice, by the library and by the reference, in either mode.
+//! Sessions that are held twice, by the library and by the reference, in every mode.
 
 use std::marker::PhantomData;
 
-use pevghazo::raw::{self, Answer, Record, SaneRecord};
+use pevghazo::raw::{self, Answer, Record, SaeRecord, SaneRecord};
 use pevghazo_reference::random::Random;
-use pevghazo_reference::refusal::Refusal;
+use pevghazo_reference::refusal::{Number, Refusal};
+use pevghazo_reference::sae::Sae;
 use pevghazo_reference::sane::Sane;
 use pevghazo_reference::sanse::Sanse;
-use pevghazo_reference::session::{Header, Mode, Record as Reference, SaneSession, Session};
+use pevghazo_reference::session::{Header, Mode, Record as Reference, SaeSession, SaneSession, Scheme, Session};
 
 use super::{other_length, packet};
 
-/// A record of the C library, with the calls of its mode.
-pub trait Library: Sized {
+/// A record of the C library, with the calls that records of every kind have.
+pub trait Opening: Sized {
     /// The mode in the reference.
-    type Mode: Mode;
+    type Mode: Scheme;
 
     /// The record with the content of one of the reference.
     fn of(reference: &Reference<Self::Mode>) -> Self;
@@ -22,6 +23,24 @@ pub trait Library: Sized {
     /// The reference's record with the content of this one. Only tests look at it.
     fn reference(&self) -> Reference<Self::Mode>;
 
+    /// Wraps without an envelope.
+    fn wrap(&mut self, metadata: &[u8], message: &[u8], out: &mut [u8], tag: &mut [u8]) -> Answer;
+
+    /// The same with the reference.
+    fn reference_wrap(
+        reference: &mut Reference<Self::Mode>,
+        metadata: &[u8],
+        message: &[u8],
+        out: &mut [u8],
+        tag: &mut [u8],
+    ) -> Result<u32, Refusal>;
+
+    /// Unwraps without an envelope.
+    fn unwrap(&mut self, metadata: &[u8], cryptogram: &[u8], tag: &[u8], out: &mut [u8]) -> Answer;
+}
+
+/// A record of a mode that seals, with the calls for an envelope.
+pub trait Library: Opening<Mode: Mode> {
     /// Wraps, for the envelope with this header or without one.
     fn wrap_for(
         &mut self,
@@ -41,22 +60,12 @@ pub trait Library: Sized {
         tag: &[u8],
         out: &mut [u8],
     ) -> Answer;
-
-    /// Wraps without an envelope.
-    fn wrap(&mut self, metadata: &[u8], message: &[u8], out: &mut [u8], tag: &mut [u8]) -> Answer {
-        self.wrap_for(None, metadata, message, out, tag)
-    }
-
-    /// Unwraps without an envelope.
-    fn unwrap(&mut self, metadata: &[u8], cryptogram: &[u8], tag: &[u8], out: &mut [u8]) -> Answer {
-        self.unwrap_for(None, metadata, cryptogram, tag, out)
-    }
 }
 
-/// The two kinds of records have the same fields.
-macro_rules! library {
-    ($record:ident, $mode:ty, [$wrap:path, $unwrap:path], [$wrap_envelope:path, $unwrap_envelope:path]) => {
-        impl Library for $record {
+/// The kinds of records have the same fields.
+macro_rules! opening {
+    ($record:ident, $mode:ty, $wrap:path, $unwrap:path) => {
+        impl Opening for $record {
             type Mode = $mode;
 
             fn of(reference: &Reference<$mode>) -> $record {
@@ -80,38 +89,67 @@ macro_rules! library {
                 }
             }
 
+            fn wrap(&mut self, a: &[u8], m: &[u8], out: &mut [u8], tag: &mut [u8]) -> Answer {
+                $wrap(self, a, m, out, tag)
+            }
+
+            fn reference_wrap(
+                reference: &mut Reference<$mode>,
+                a: &[u8],
+                m: &[u8],
+                out: &mut [u8],
+                tag: &mut [u8],
+            ) -> Result<u32, Refusal> {
+                reference.wrap(a, m, out, tag)
+            }
+
+            fn unwrap(&mut self, a: &[u8], c: &[u8], tag: &[u8], out: &mut [u8]) -> Answer {
+                $unwrap(self, a, c, tag, out)
+            }
+        }
+    };
+}
+
+opening!(Record, Sanse, raw::wrap, raw::unwrap);
+opening!(SaneRecord, Sane, raw::sane_wrap, raw::sane_unwrap);
+opening!(SaeRecord, Sae, raw::sae_wrap, raw::sae_unwrap);
+
+/// The calls for an envelope, and those without one.
+macro_rules! library {
+    ($record:ident, $wrap_envelope:path, $unwrap_envelope:path) => {
+        impl Library for $record {
             fn wrap_for(&mut self, header: Header<'_>, a: &[u8], m: &[u8], out: &mut [u8], tag: &mut [u8]) -> Answer {
                 match header {
                     Some(header) => $wrap_envelope(self, header, a, m, out, tag),
-                    None => $wrap(self, a, m, out, tag),
+                    None => self.wrap(a, m, out, tag),
                 }
             }
 
             fn unwrap_for(&mut self, header: Header<'_>, a: &[u8], c: &[u8], tag: &[u8], out: &mut [u8]) -> Answer {
                 match header {
                     Some(header) => $unwrap_envelope(self, header, a, c, tag, out),
-                    None => $unwrap(self, a, c, tag, out),
+                    None => self.unwrap(a, c, tag, out),
                 }
             }
         }
     };
 }
 
-library!(Record, Sanse, [raw::wrap, raw::unwrap], [raw::wrap_envelope, raw::unwrap_envelope]);
-library!(SaneRecord, Sane, [raw::sane_wrap, raw::sane_unwrap], [raw::sane_wrap_envelope, raw::sane_unwrap_envelope]);
+library!(Record, raw::wrap_envelope, raw::unwrap_envelope);
+library!(SaneRecord, raw::sane_wrap_envelope, raw::sane_unwrap_envelope);
 
 /// A second record with the same content. Only tests do this.
-pub fn copy<R: Library>(record: &R) -> R {
+pub fn copy<R: Opening>(record: &R) -> R {
     R::of(&record.reference())
 }
 
 /// Whether two records have the same content. Only tests compare them.
-pub fn same<R: Library>(a: &R, b: &R) -> bool {
+pub fn same<R: Opening>(a: &R, b: &R) -> bool {
     a.reference() == b.reference()
 }
 
 /// The library's record for one of the reference.
-pub fn record_of<R: Library>(session: &Reference<R::Mode>) -> R {
+pub fn record_of<R: Opening>(session: &Reference<R::Mode>) -> R {
     R::of(session)
 }
 
@@ -143,7 +181,7 @@ pub fn any_session<M>(random: &mut Random) -> Reference<M> {
 
 /// A session held twice: by the library, and by the reference. Each call is made on both with buffers of the same content,
 /// and answers, whole buffers and records must be the same.
-pub struct BothOf<R: Library> {
+pub struct BothOf<R: Opening> {
     pub library: R,
     pub reference: Reference<R::Mode>,
 }
@@ -154,7 +192,10 @@ pub type Both = BothOf<Record>;
 /// A session of SANE, held twice.
 pub type SaneBoth = BothOf<SaneRecord>;
 
-impl<R: Library> BothOf<R> {
+/// A session of old letters, held twice.
+pub type SaeBoth = BothOf<SaeRecord>;
+
+impl<R: Opening> BothOf<R> {
     /// The same record on both sides.
     pub fn of(reference: Reference<R::Mode>) -> BothOf<R> {
         BothOf { library: R::of(&reference), reference }
@@ -168,11 +209,39 @@ impl<R: Library> BothOf<R> {
         assert_eq!(library, *reference, "index, toggle, open");
     }
 
-    /// Wraps into these buffers, without an envelope.
-    pub fn wrap(&mut self, metadata: &[u8], message: &[u8], out: &mut [u8], tag: &mut [u8]) -> Answer {
-        self.wrap_for(None, metadata, message, out, tag)
+    /// The library has given the reference's answer to a call that writes to these buffers, and both sides have one record.
+    fn checked(
+        &self,
+        call: &str,
+        given: Answer,
+        answer: Result<u32, Refusal>,
+        [out, tag]: [(&[u8], &[u8]); 2],
+    ) -> Answer {
+        assert_eq!(given, answer_of(answer), "{call}");
+        assert!(out.0 == out.1, "{call}: the output buffers differ");
+        assert!(tag.0 == tag.1, "{call}: the tag buffers differ");
+        self.check();
+        given
     }
 
+    /// Wraps into these buffers, without an envelope.
+    pub fn wrap(&mut self, metadata: &[u8], message: &[u8], out: &mut [u8], tag: &mut [u8]) -> Answer {
+        let (mut out_too, mut tag_too) = (out.to_vec(), tag.to_vec());
+        let given = self.library.wrap(metadata, message, out, tag);
+        let answer = R::reference_wrap(&mut self.reference, metadata, message, &mut out_too, &mut tag_too);
+        self.checked("wrap", given, answer, [(out, &out_too), (tag, &tag_too)])
+    }
+
+    /// Unwraps into this buffer, without an envelope.
+    pub fn unwrap(&mut self, metadata: &[u8], cryptogram: &[u8], tag: &[u8], out: &mut [u8]) -> Answer {
+        let mut out_too = out.to_vec();
+        let given = self.library.unwrap(metadata, cryptogram, tag, out);
+        let answer = self.reference.unwrap(metadata, cryptogram, tag, &mut out_too);
+        self.checked("unwrap", given, answer, [(out, &out_too), (&[], &[])])
+    }
+}
+
+impl<R: Library> BothOf<R> {
     /// Wraps into these buffers, for the envelope with this header or without one.
     pub fn wrap_for(
         &mut self,
@@ -185,16 +254,7 @@ impl<R: Library> BothOf<R> {
         let (mut out_too, mut tag_too) = (out.to_vec(), tag.to_vec());
         let given = self.library.wrap_for(header, metadata, message, out, tag);
         let answer = self.reference.wrap_for(header, metadata, message, &mut out_too, &mut tag_too);
-        assert_eq!(given, answer_of(answer), "wrap");
-        assert!(out == out_too, "wrap: the output buffers differ");
-        assert!(tag == tag_too, "wrap: the tag buffers differ");
-        self.check();
-        given
-    }
-
-    /// Unwraps into this buffer, without an envelope.
-    pub fn unwrap(&mut self, metadata: &[u8], cryptogram: &[u8], tag: &[u8], out: &mut [u8]) -> Answer {
-        self.unwrap_for(None, metadata, cryptogram, tag, out)
+        self.checked("wrap", given, answer, [(out, &out_too), (tag, &tag_too)])
     }
 
     /// Unwraps into this buffer, for the envelope with this header or without one.
@@ -209,10 +269,7 @@ impl<R: Library> BothOf<R> {
         let mut out_too = out.to_vec();
         let given = self.library.unwrap_for(header, metadata, cryptogram, tag, out);
         let answer = self.reference.unwrap_for(header, metadata, cryptogram, tag, &mut out_too);
-        assert_eq!(given, answer_of(answer), "unwrap");
-        assert!(out == out_too, "unwrap: the output buffers differ");
-        self.check();
-        given
+        self.checked("unwrap", given, answer, [(out, &out_too), (&[], &[])])
     }
 }
 
@@ -249,20 +306,52 @@ impl Both {
     }
 }
 
-impl SaneBoth {
+/// A kind of record whose sessions start with a nonce.
+pub trait WithNonce: Opening {
+    /// The library's start.
+    fn raw_start(record: &mut Self, key: &[u8], nonce: &[u8], tag: &mut [u8]) -> Answer;
+
+    /// The reference's start.
+    fn reference_start(key: &[u8], nonce: &[u8], tag: &mut [u8]) -> Result<(Reference<Self::Mode>, u32), Number>;
+}
+
+/// The starts of a kind.
+macro_rules! with_nonce {
+    ($record:ident, $start:path, $reference:ident) => {
+        impl WithNonce for $record {
+            fn raw_start(record: &mut $record, key: &[u8], nonce: &[u8], tag: &mut [u8]) -> Answer {
+                $start(record, key, nonce, tag)
+            }
+
+            fn reference_start(key: &[u8], nonce: &[u8], tag: &mut [u8]) -> Result<($reference, u32), Number> {
+                $reference::start(key, nonce, tag)
+            }
+        }
+    };
+}
+
+with_nonce!(SaneRecord, raw::sane_start, SaneSession);
+with_nonce!(SaeRecord, raw::sae_start, SaeSession);
+
+impl<R: WithNonce> BothOf<R> {
     /// Starts, over a record with any numbers, with the tag into this buffer.
-    pub fn start(random: &mut Random, key: &[u8], nonce: &[u8], tag: &mut [u8]) -> (SaneBoth, Answer) {
+    pub fn start(random: &mut Random, key: &[u8], nonce: &[u8], tag: &mut [u8]) -> (BothOf<R>, Answer) {
         let mut tag_too = tag.to_vec();
         let mut library = record_of(&any_session(random));
-        let given = raw::sane_start(&mut library, key, nonce, tag);
-        let (reference, answer) = match SaneSession::start(key, nonce, &mut tag_too) {
+        let given = R::raw_start(&mut library, key, nonce, tag);
+        let (reference, answer) = match R::reference_start(key, nonce, &mut tag_too) {
             Ok((session, count)) => (session, Ok(count)),
-            Err(number) => (SaneSession::CLOSED, Err(number.into())),
+            Err(number) => (Reference::CLOSED, Err(number.into())),
         };
-        assert_eq!(given, answer_of(answer));
-        assert!(tag == tag_too, "start: the tag buffers differ");
-        let both = SaneBoth { library, reference };
-        both.check();
+        let both = BothOf { library, reference };
+        let given = both.checked("start", given, answer, [(&[], &[]), (tag, &tag_too)]);
         (both, given)
+    }
+
+    /// Starts with good lengths.
+    pub fn started(random: &mut Random, key: &[u8], nonce: &[u8]) -> BothOf<R> {
+        let (both, answer) = BothOf::<R>::start(random, key, nonce, &mut vec![0; R::Mode::TAG]);
+        assert_eq!(answer.number, 0);
+        both
     }
 }

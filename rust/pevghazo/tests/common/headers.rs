@@ -5,7 +5,7 @@ use pevghazo_reference::random::Random;
 /// What a call may be handed in the place of its own header. The first ones do not fit the call; the last three do, but the
 /// message was wrapped otherwise.
 pub const WAYS: [&str; 15] = [
-    "the other mode's letter",
+    "another mode's letter",
     "a letter that there is not",
     "another length of the metadata",
     "another length of the message",
@@ -81,8 +81,8 @@ pub fn misfit(random: &mut Random, letter: u8, group: u32, metadata: usize, mess
     loop {
         let way = random.below(MISFITS);
         let bytes = match way {
-            0 => header(if letter == b'S' { b'N' } else { b'S' }, group, metadata, message),
-            1 => header(random.pick(b"snFM,0\0 "), group, metadata, message),
+            0 => header(if letter == b'S' { random.pick(b"NF") } else { random.pick(b"SF") }, group, metadata, message),
+            1 => header(random.pick(b"snfM,0\0 "), group, metadata, message),
             2 => header(letter, group, another_length(random, metadata), message),
             3 => header(letter, group, metadata, another_length(random, message)),
             4 => [&whole[..], &random.bytes(1 + random.clone().below(20))].concat(),

@@ -5,14 +5,18 @@
 #![allow(dead_code, unused_imports)]
 
 mod both;
+pub mod edges;
 pub mod headers;
+pub mod letters;
 pub mod lists;
 pub mod play;
 pub mod pools;
 pub mod seasons;
 pub mod tables;
 
-pub use both::{Both, BothOf, Library, SaneBoth, answer_of, any_session, copy, record_of, same};
+pub use both::{
+    Both, BothOf, Library, Opening, SaeBoth, SaneBoth, WithNonce, answer_of, any_session, copy, record_of, same,
+};
 use headers::{ADDED, ANOTHER_GROUP, DROPPED, Ways, group_of, header, misfit};
 use pevghazo_reference::random::Random;
 use pevghazo_reference::session::metadata_string;
@@ -201,7 +205,7 @@ impl Arrival {
     }
 
     /// The arrival with damage in its metadata, its cryptogram or its tag.
-    fn damaged_part(&self, random: &mut Random) -> Arrival {
+    pub fn damaged_part(&self, random: &mut Random) -> Arrival {
         let mut bad = self.clone();
         match random.below(12) {
             0 | 1 => bad.tag = damaged(random, &self.tag),

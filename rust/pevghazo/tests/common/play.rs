@@ -1,9 +1,9 @@
-//! Calls on sessions that are held twice, in either mode: messages between two ends, any record, and indexes near the limit.
+//! Calls on sessions that are held twice, in either mode that seals: messages between two ends, any record, and indexes near the limit.
 
 use pevghazo::raw::Answer;
 use pevghazo_reference::limits::INDEX_MAX;
 use pevghazo_reference::random::Random;
-use pevghazo_reference::session::{Header, Mode, Record as Reference, growth, metadata_string};
+use pevghazo_reference::session::{Header, Mode, Record as Reference, Scheme, growth, metadata_string};
 
 use super::headers::{Ways, header, maybe_misfit};
 use super::{Arrival, BothOf, EDGES, Library, answer_of, any_session, copy, maybe_long, other_length, same, text};

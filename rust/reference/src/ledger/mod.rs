@@ -2,9 +2,10 @@
 //!
 //! A *ledger* is document 01's word for this: it is fed what each call at its end is handed beside the record, and works the
 //! deck function out from the first string on at each call. Nothing is carried along but the key, the history and the toggle,
-//! and the steps of each mode are written as in the cookbook's algorithm, so it says what a record's answers should have been.
+//! and the steps of each mode are written as in its paper's algorithm, so it says what a record's answers should have been.
 //! Where a call is handed a header (document 02, request 7), it is fed that too, and judges it by writing the headers that fit.
 
+mod sae;
 mod sane;
 mod sanse;
 
@@ -14,9 +15,10 @@ use crate::deck::{Deck, Text};
 use crate::envelope::{GROUP_MAX, header_bytes};
 use crate::limits::{INDEX_MAX, LENGTH_MAX, check_lengths};
 use crate::refusal::{Number, Refusal};
+use crate::sae::Sae;
 use crate::sane::Sane;
 use crate::sanse::Sanse;
-use crate::session::{Header, Mode, Record, metadata_frame, metadata_string};
+use crate::session::{Header, Mode, Record, Scheme, metadata_frame, metadata_string};
 
 /// A deck function of key, history, offset and length, all in bytes: [`crate::deck::xoofff`] or [`crate::bits::xoofff`].
 pub type DeckFunction = fn(&[u8], &[Text], usize, usize) -> Vec<u8>;
@@ -26,6 +28,9 @@ pub type Ledger = LedgerOf<Sanse>;
 
 /// The ledger of a session of SANE, whose history opens with the nonce.
 pub type SaneLedger = LedgerOf<Sane>;
+
+/// The ledger of a session of old letters, whose history opens with the nonce.
+pub type SaeLedger = LedgerOf<Sae>;
 
 /// Key, history and toggle of one end, in a mode.
 #[derive(Clone, Debug)]
@@ -51,8 +56,8 @@ pub struct Steps {
     pub history: Vec<Text>,
 }
 
-/// A mode's algorithm as the cookbook prints it, over the full history.
-pub trait Algorithm: Mode {
+/// A scheme's algorithm as its paper prints it, over the full history.
+pub trait Algorithm: Scheme {
     /// The steps of wrap; the metadata are the string that a call takes for them.
     fn wrap_steps(ledger: &LedgerOf<Self>, metadata: &[u8], message: &[u8]) -> Steps;
 
@@ -105,33 +110,84 @@ impl<M> LedgerOf<M> {
 }
 
 impl<M: Algorithm> LedgerOf<M> {
-    /// Whether a header is one of the layout's for this mode, some group, and metadata and message of these lengths.
-    fn fits(header: &[u8], metadata: usize, message: usize) -> bool {
-        let is_header = |group| header == header_bytes(M::LETTER, group, metadata, message);
-        metadata <= LENGTH_MAX && message <= LENGTH_MAX && (0..=GROUP_MAX).any(is_header)
-    }
-
-    /// Check 1, and the checks 6 to 9; a ledger's session is always open.
-    fn check(
-        &self,
-        header: Header<'_>,
-        metadata: &[u8],
-        message: &[u8],
-        tag: &[u8],
-        output: &[u8],
-    ) -> Result<(), Number> {
-        if header.is_some_and(|header| !LedgerOf::<M>::fits(header, metadata.len(), message.len())) {
-            return Err(Number::Header);
-        }
+    /// The checks 6 to 9, with these bytes before the metadata in the metadata string; a ledger's session is always open.
+    fn check(&self, head: &[u8], metadata: &[u8], message: &[u8], tag: &[u8], output: &[u8]) -> Result<(), Number> {
         check_lengths(&[metadata.len(), message.len()], tag.len(), M::TAG)?;
         if output.len() < message.len() {
             return Err(Number::Buffer);
         }
-        let mut history = self.after_metadata(&metadata_string(header, metadata), message.len());
+        let mut history = self.after_metadata(&metadata_string(Some(head), metadata), message.len());
         if !message.is_empty() {
             history.push(Text::new(message, &[]));
         }
         if index(&history) > INDEX_MAX as usize { Err(Number::Full) } else { Ok(()) }
+    }
+
+    /// Takes in the history of an accepted message.
+    fn accept(&mut self, history: Vec<Text>) {
+        self.history = history;
+        self.toggle ^= M::TOGGLES;
+    }
+
+    /// Wraps with these bytes before the metadata, or none.
+    fn wrap_after(
+        &mut self,
+        head: &[u8],
+        metadata: &[u8],
+        message: &[u8],
+        cryptogram: &mut [u8],
+        tag: &mut [u8],
+    ) -> Result<u32, Refusal> {
+        self.check(head, metadata, message, tag, cryptogram)?;
+        let string = metadata_string(Some(head), metadata);
+        let steps = M::wrap_steps(self, &string, message);
+        cryptogram[..message.len()].copy_from_slice(&steps.output);
+        tag.copy_from_slice(&steps.tag);
+        self.accept(steps.history);
+        Ok(M::count(string.len(), message.len()))
+    }
+
+    /// Unwraps likewise.
+    fn unwrap_after(
+        &mut self,
+        head: &[u8],
+        metadata: &[u8],
+        cryptogram: &[u8],
+        tag: &[u8],
+        message: &mut [u8],
+    ) -> Result<u32, Refusal> {
+        self.check(head, metadata, cryptogram, tag, message)?;
+        let string = metadata_string(Some(head), metadata);
+        let steps = M::unwrap_steps(self, &string, cryptogram, tag);
+        let count = M::count(string.len(), cryptogram.len());
+        if steps.tag != tag {
+            message[..cryptogram.len()].fill(0);
+            return Err(Refusal { number: Number::Tag, count });
+        }
+        message[..cryptogram.len()].copy_from_slice(&steps.output);
+        self.accept(steps.history);
+        Ok(count)
+    }
+
+    /// Unwraps; the arguments and answers are those of [`Record::unwrap`].
+    pub fn unwrap(
+        &mut self,
+        metadata: &[u8],
+        cryptogram: &[u8],
+        tag: &[u8],
+        message: &mut [u8],
+    ) -> Result<u32, Refusal> {
+        self.unwrap_after(&[], metadata, cryptogram, tag, message)
+    }
+}
+
+impl<M: Algorithm + Mode> LedgerOf<M> {
+    /// Check 1: whether a header, if there is one, is one of the layout's for this mode, some group, and metadata and message of these
+    /// lengths.
+    fn check_header(header: Header<'_>, metadata: usize, message: usize) -> Result<(), Number> {
+        let in_limits = metadata <= LENGTH_MAX && message <= LENGTH_MAX;
+        let fits = |header| (0..=GROUP_MAX).any(|group| header == header_bytes(M::LETTER, group, metadata, message));
+        if header.is_none_or(|header| in_limits && fits(header)) { Ok(()) } else { Err(Number::Header) }
     }
 
     /// Wraps; the arguments and answers are those of [`Record::wrap`].
@@ -154,25 +210,8 @@ impl<M: Algorithm> LedgerOf<M> {
         cryptogram: &mut [u8],
         tag: &mut [u8],
     ) -> Result<u32, Refusal> {
-        self.check(header, metadata, message, tag, cryptogram)?;
-        let string = metadata_string(header, metadata);
-        let steps = M::wrap_steps(self, &string, message);
-        cryptogram[..message.len()].copy_from_slice(&steps.output);
-        tag.copy_from_slice(&steps.tag);
-        self.history = steps.history;
-        self.toggle = !self.toggle;
-        Ok(M::count(string.len(), message.len()))
-    }
-
-    /// Unwraps; the arguments and answers are those of [`Record::unwrap`].
-    pub fn unwrap(
-        &mut self,
-        metadata: &[u8],
-        cryptogram: &[u8],
-        tag: &[u8],
-        message: &mut [u8],
-    ) -> Result<u32, Refusal> {
-        self.unwrap_for(None, metadata, cryptogram, tag, message)
+        LedgerOf::<M>::check_header(header, metadata.len(), message.len())?;
+        self.wrap_after(header.unwrap_or_default(), metadata, message, cryptogram, tag)
     }
 
     /// Unwraps for an envelope, or without one; the arguments and answers are those of [`Record::unwrap_for`].
@@ -184,17 +223,7 @@ impl<M: Algorithm> LedgerOf<M> {
         tag: &[u8],
         message: &mut [u8],
     ) -> Result<u32, Refusal> {
-        self.check(header, metadata, cryptogram, tag, message)?;
-        let string = metadata_string(header, metadata);
-        let steps = M::unwrap_steps(self, &string, cryptogram, tag);
-        let count = M::count(string.len(), cryptogram.len());
-        if steps.tag != tag {
-            message[..cryptogram.len()].fill(0);
-            return Err(Refusal { number: Number::Tag, count });
-        }
-        message[..cryptogram.len()].copy_from_slice(&steps.output);
-        self.history = steps.history;
-        self.toggle = !self.toggle;
-        Ok(count)
+        LedgerOf::<M>::check_header(header, metadata.len(), cryptogram.len())?;
+        self.unwrap_after(header.unwrap_or_default(), metadata, cryptogram, tag, message)
     }
 }

@@ -1,13 +1,13 @@
 //! The steps of SANE over the full history: algorithm 2 of the cookbook.
 
-use super::{Algorithm, DeckFunction, SaneLedger, Steps, sum};
+use super::{Algorithm, DeckFunction, LedgerOf, SaneLedger, Steps, sum};
 use crate::deck::Text;
 use crate::limits::{SANE_TAG, check_key, check_lengths};
 use crate::refusal::Number;
 use crate::sane::{KEYSTREAM, NONCE_FRAME, Sane, cryptogram_frame, start_count};
 
-/// A text plus the output for the history so far, behind the bytes that are kept for tags.
-fn crypt(ledger: &SaneLedger, text: &[u8]) -> Vec<u8> {
+/// A text plus the output for the history so far, behind the bytes that are kept for tags; in SANE and in old letters.
+pub(super) fn crypt<M>(ledger: &LedgerOf<M>, text: &[u8]) -> Vec<u8> {
     sum(text, &ledger.output(&ledger.history, KEYSTREAM, text.len()))
 }
 
@@ -34,14 +34,24 @@ impl Algorithm for Sane {
     }
 }
 
+/// A start with a nonce, of SANE or of old letters.
+pub(super) fn started<M: Algorithm>(
+    key: &[u8],
+    nonce: &[u8],
+    tag: &mut [u8],
+    deck: DeckFunction,
+) -> Result<(LedgerOf<M>, u32), Number> {
+    check_key(key)?;
+    check_lengths(&[nonce.len()], tag.len(), M::TAG)?;
+    let ledger = LedgerOf::<M>::opened(key, vec![Text::new(nonce, &NONCE_FRAME)], deck);
+    tag.copy_from_slice(&ledger.output(&ledger.history, 0, M::TAG));
+    Ok((ledger, start_count(nonce.len())))
+}
+
 impl SaneLedger {
     /// The ledger of a session that was just started: the nonce is the first string of its history. The start's tag goes to
     /// `tag`. Gives the ledger and the count of permutations. Meets 4, 6 for the nonce, and 7.
     pub fn start(key: &[u8], nonce: &[u8], tag: &mut [u8], deck: DeckFunction) -> Result<(SaneLedger, u32), Number> {
-        check_key(key)?;
-        check_lengths(&[nonce.len()], tag.len(), SANE_TAG)?;
-        let ledger = SaneLedger::opened(key, vec![Text::new(nonce, &NONCE_FRAME)], deck);
-        tag.copy_from_slice(&ledger.output(&ledger.history, 0, SANE_TAG));
-        Ok((ledger, start_count(nonce.len())))
+        started(key, nonce, tag, deck)
     }
 }

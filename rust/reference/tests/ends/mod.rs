@@ -4,13 +4,14 @@
 use pevghazo_reference::codes::CODE;
 use pevghazo_reference::deck::Text;
 use pevghazo_reference::envelope::header_bytes;
-use pevghazo_reference::ledger::{Algorithm, DeckFunction, Ledger, LedgerOf, SaneLedger};
+use pevghazo_reference::ledger::{Algorithm, DeckFunction, Ledger, LedgerOf, SaeLedger, SaneLedger};
 use pevghazo_reference::limits::{INDEX_MAX, LENGTH_MAX};
 use pevghazo_reference::random::Random;
 use pevghazo_reference::refusal::{Number, Refusal};
+use pevghazo_reference::sae::Sae;
 use pevghazo_reference::sane::Sane;
 use pevghazo_reference::sanse::Sanse;
-use pevghazo_reference::session::{Header, Record, SaneSession, Session, metadata_string};
+use pevghazo_reference::session::{Header, Mode, Record, SaeSession, SaneSession, Session, metadata_string};
 
 /// The lengths at which something changes.
 pub const EDGES: [usize; 12] = [0, 1, 2, 31, 32, 33, 47, 48, 49, 95, 96, 97];
@@ -39,28 +40,120 @@ impl End<Sanse> {
     }
 }
 
+/// What a start with a nonce gives, with its count.
+type Started<T> = Result<(T, u32), Number>;
+
+/// Both starts have answered the same, with the tag in its buffer or the buffer as it was.
+fn both_started<M: Algorithm>(
+    session: Started<Record<M>>,
+    ledger: Started<LedgerOf<M>>,
+    [before, tag, again]: [&[u8]; 3],
+) -> Started<End<M>> {
+    assert_eq!(tag, again);
+    match (session, ledger) {
+        (Ok((session, count)), Ok((ledger, counted))) => {
+            assert_eq!((counted, ledger.record()), (count, session.clone()));
+            Ok((End { session, ledger }, count))
+        }
+        (Err(number), Err(other)) => {
+            assert_eq!((other, tag), (number, before));
+            Err(number)
+        }
+        _ => panic!("one of the two starts is refused"),
+    }
+}
+
 impl End<Sane> {
     /// Starts both under this key with this nonce, and gives the count.
-    pub fn start(key: &[u8], nonce: &[u8], tag: &mut [u8], deck: DeckFunction) -> Result<(End<Sane>, u32), Number> {
+    pub fn start(key: &[u8], nonce: &[u8], tag: &mut [u8], deck: DeckFunction) -> Started<End<Sane>> {
         let (before, mut again) = (tag.to_vec(), tag.to_vec());
-        let started = SaneSession::start(key, nonce, tag);
+        let session = SaneSession::start(key, nonce, tag);
         let ledger = SaneLedger::start(key, nonce, &mut again, deck);
-        assert_eq!(tag, again);
-        match (started, ledger) {
-            (Ok((session, count)), Ok((ledger, counted))) => {
-                assert_eq!((counted, ledger.record()), (count, session.clone()));
-                Ok((End { session, ledger }, count))
-            }
-            (Err(number), Err(other)) => {
-                assert_eq!((other, &*tag), (number, &*before));
-                Err(number)
-            }
-            _ => panic!("one of the two starts is refused"),
-        }
+        both_started(session, ledger, [&before, tag, &again])
+    }
+}
+
+impl End<Sae> {
+    /// Starts both under this key with this nonce, and gives the count.
+    pub fn start(key: &[u8], nonce: &[u8], tag: &mut [u8], deck: DeckFunction) -> Started<End<Sae>> {
+        let (before, mut again) = (tag.to_vec(), tag.to_vec());
+        let session = SaeSession::start(key, nonce, tag);
+        let ledger = SaeLedger::start(key, nonce, &mut again, deck);
+        both_started(session, ledger, [&before, tag, &again])
+    }
+
+    /// Wraps as the first version did.
+    pub fn trial_wrap(&mut self, a: &[u8], m: &[u8], out: &mut [u8], tag: &mut [u8]) -> Result<u32, Refusal> {
+        let session = |session: &mut SaeSession, out: &mut [u8], tag: &mut [u8]| session.trial_wrap(a, m, out, tag);
+        self.wrapped(m.len(), out, tag, session, |ledger, out, tag| ledger.trial_wrap(a, m, out, tag))
+    }
+
+    /// Wraps as the product does, which is refused.
+    pub fn refused_wrap(&mut self, a: &[u8], m: &[u8], out: &mut [u8], tag: &mut [u8]) -> Result<u32, Refusal> {
+        let session = |session: &mut SaeSession, out: &mut [u8], tag: &mut [u8]| session.wrap(a, m, out, tag);
+        self.wrapped(m.len(), out, tag, session, |ledger, out, tag| ledger.wrap(a, m, out, tag))
     }
 }
 
 impl<M: Algorithm> End<M> {
+    /// Makes a wrap of a message of this length on both, and compares what they give.
+    fn wrapped(
+        &mut self,
+        message: usize,
+        out: &mut [u8],
+        tag: &mut [u8],
+        by_session: impl FnOnce(&mut Record<M>, &mut [u8], &mut [u8]) -> Result<u32, Refusal>,
+        by_ledger: impl FnOnce(&mut LedgerOf<M>, &mut [u8], &mut [u8]) -> Result<u32, Refusal>,
+    ) -> Result<u32, Refusal> {
+        let (mut out_again, mut tag_again) = (out.to_vec(), tag.to_vec());
+        let before = self.session.clone();
+        let (out_before, tag_before) = (out.to_vec(), tag.to_vec());
+        let answer = by_session(&mut self.session, out, tag);
+        assert_eq!(by_ledger(&mut self.ledger, &mut out_again, &mut tag_again), answer);
+        assert_eq!((&*out, &*tag), (&*out_again, &*tag_again));
+        assert_eq!(self.ledger.record(), self.session);
+        if answer.is_err() {
+            assert_eq!((&*out, &*tag, &self.session), (&*out_before, &*tag_before, &before));
+        } else {
+            assert_eq!(out[message..], out_before[message..]);
+        }
+        answer
+    }
+
+    /// Makes an unwrap of a cryptogram of this length on both, and compares what they give.
+    fn unwrapped(
+        &mut self,
+        cryptogram: usize,
+        out: &mut [u8],
+        by_session: impl FnOnce(&mut Record<M>, &mut [u8]) -> Result<u32, Refusal>,
+        by_ledger: impl FnOnce(&mut LedgerOf<M>, &mut [u8]) -> Result<u32, Refusal>,
+    ) -> Result<u32, Refusal> {
+        let mut again = out.to_vec();
+        let (before, out_before) = (self.session.clone(), out.to_vec());
+        let answer = by_session(&mut self.session, out);
+        assert_eq!(by_ledger(&mut self.ledger, &mut again), answer);
+        assert_eq!(&*out, &*again);
+        assert_eq!(self.ledger.record(), self.session);
+        match answer {
+            Ok(_) => assert_eq!(out[cryptogram..], out_before[cryptogram..]),
+            Err(Refusal { number: Number::Tag, .. }) => {
+                assert!(out[..cryptogram].iter().all(|byte| *byte == 0));
+                assert_eq!(out[cryptogram..], out_before[cryptogram..]);
+                assert_eq!(self.session, before);
+            }
+            Err(_) => assert_eq!((&*out, &self.session), (&*out_before, &before)),
+        }
+        answer
+    }
+
+    /// Unwraps into this buffer, without an envelope.
+    pub fn unwrap(&mut self, a: &[u8], c: &[u8], tag: &[u8], out: &mut [u8]) -> Result<u32, Refusal> {
+        let session = |session: &mut Record<M>, out: &mut [u8]| session.unwrap(a, c, tag, out);
+        self.unwrapped(c.len(), out, session, |ledger, out| ledger.unwrap(a, c, tag, out))
+    }
+}
+
+impl<M: Algorithm + Mode> End<M> {
     /// Wraps into these buffers, without an envelope.
     pub fn wrap(&mut self, a: &[u8], m: &[u8], out: &mut [u8], tag: &mut [u8]) -> Result<u32, Refusal> {
         self.wrap_for(None, a, m, out, tag)
@@ -75,24 +168,9 @@ impl<M: Algorithm> End<M> {
         out: &mut [u8],
         tag: &mut [u8],
     ) -> Result<u32, Refusal> {
-        let (mut out_again, mut tag_again) = (out.to_vec(), tag.to_vec());
-        let before = self.session.clone();
-        let (out_before, tag_before) = (out.to_vec(), tag.to_vec());
-        let answer = self.session.wrap_for(header, a, m, out, tag);
-        assert_eq!(self.ledger.wrap_for(header, a, m, &mut out_again, &mut tag_again), answer);
-        assert_eq!((&*out, &*tag), (&*out_again, &*tag_again));
-        assert_eq!(self.ledger.record(), self.session);
-        if answer.is_err() {
-            assert_eq!((&*out, &*tag, &self.session), (&*out_before, &*tag_before, &before));
-        } else {
-            assert_eq!(out[m.len()..], out_before[m.len()..]);
-        }
-        answer
-    }
-
-    /// Unwraps into this buffer, without an envelope.
-    pub fn unwrap(&mut self, a: &[u8], c: &[u8], tag: &[u8], out: &mut [u8]) -> Result<u32, Refusal> {
-        self.unwrap_for(None, a, c, tag, out)
+        let session =
+            |session: &mut Record<M>, out: &mut [u8], tag: &mut [u8]| session.wrap_for(header, a, m, out, tag);
+        self.wrapped(m.len(), out, tag, session, |ledger, out, tag| ledger.wrap_for(header, a, m, out, tag))
     }
 
     /// Unwraps into this buffer what arrived in the envelope with this header, or without one.
@@ -104,22 +182,8 @@ impl<M: Algorithm> End<M> {
         tag: &[u8],
         out: &mut [u8],
     ) -> Result<u32, Refusal> {
-        let mut again = out.to_vec();
-        let (before, out_before) = (self.session.clone(), out.to_vec());
-        let answer = self.session.unwrap_for(header, a, c, tag, out);
-        assert_eq!(self.ledger.unwrap_for(header, a, c, tag, &mut again), answer);
-        assert_eq!(&*out, &*again);
-        assert_eq!(self.ledger.record(), self.session);
-        match answer {
-            Ok(_) => assert_eq!(out[c.len()..], out_before[c.len()..]),
-            Err(Refusal { number: Number::Tag, .. }) => {
-                assert!(out[..c.len()].iter().all(|byte| *byte == 0));
-                assert_eq!(out[c.len()..], out_before[c.len()..]);
-                assert_eq!(self.session, before);
-            }
-            Err(_) => assert_eq!((&*out, &self.session), (&*out_before, &before)),
-        }
-        answer
+        let session = |session: &mut Record<M>, out: &mut [u8]| session.unwrap_for(header, a, c, tag, out);
+        self.unwrapped(c.len(), out, session, |ledger, out| ledger.unwrap_for(header, a, c, tag, out))
     }
 }
 
@@ -140,14 +204,14 @@ pub fn text(random: &mut Random, longest: usize) -> Vec<u8> {
 }
 
 /// The bytes with one bit flipped.
-fn flipped(random: &mut Random, bytes: &[u8]) -> Vec<u8> {
+pub fn flipped(random: &mut Random, bytes: &[u8]) -> Vec<u8> {
     let mut bad = bytes.to_vec();
     bad[random.below(bytes.len())] ^= 1 << random.below(8);
     bad
 }
 
 /// One message of a random session between two ends, for an envelope or without one, with damaged and repeated arrivals.
-pub fn message<M: Algorithm>(random: &mut Random, ends: &mut [End<M>; 2], longest: usize) {
+pub fn message<M: Algorithm + Mode>(random: &mut Random, ends: &mut [End<M>; 2], longest: usize) {
     let from = random.below(2);
     let (a, m) = (text(random, longest), text(random, longest));
     let group = random.below(32) as u32;
@@ -184,7 +248,7 @@ pub fn message<M: Algorithm>(random: &mut Random, ends: &mut [End<M>; 2], longes
 
 /// An arrival with the header of another group, without one, or with one that it was not wrapped with, is refused by 11; one with
 /// a header that does not fit by 1.
-fn other_headers<M: Algorithm>(
+fn other_headers<M: Algorithm + Mode>(
     end: &mut End<M>,
     (header, group): (Header<'_>, u32),
     [a, c, tag]: [&[u8]; 3],
@@ -200,6 +264,7 @@ fn other_headers<M: Algorithm>(
     let whole = of(M::LETTER, group, a.len(), c.len());
     let misfits = [
         of(if M::LETTER == b'S' { b'N' } else { b'S' }, group, a.len(), c.len()),
+        of(b'F', group, a.len(), c.len()),
         of(M::LETTER, group, a.len() + 1, c.len()),
         of(M::LETTER, group, a.len(), c.len() + 1),
         of(M::LETTER, 32 + group, a.len(), c.len()),
@@ -214,14 +279,14 @@ fn other_headers<M: Algorithm>(
 }
 
 /// The number of a refusal before any permutation.
-fn number(answer: Result<u32, Refusal>) -> Number {
+pub fn number(answer: Result<u32, Refusal>) -> Number {
     let refusal = answer.unwrap_err();
     assert_eq!(refusal.count, 0);
     refusal.number
 }
 
 /// Number 1 of this end before every other, of its record closed too; and a length that no header has gets 1 and not 6.
-pub fn check_headers_first<M: Algorithm>(end: &mut End<M>) {
+pub fn check_headers_first<M: Algorithm + Mode>(end: &mut End<M>) {
     let long = &vec![0; LENGTH_MAX + 1];
     let (mut out, mut short) = (vec![1; 10], vec![2; M::TAG - 1]);
     let mut closed = Record { open: false, ..end.session.clone() };
@@ -240,7 +305,7 @@ pub fn check_headers_first<M: Algorithm>(end: &mut End<M>) {
 }
 
 /// Numbers 6, 7 and 8 of this end, and 5 of its record closed, in their order.
-pub fn check_refusals<M: Algorithm>(end: &mut End<M>) {
+pub fn check_refusals<M: Algorithm + Mode>(end: &mut End<M>) {
     let long = &vec![0; LENGTH_MAX + 1];
     let (mut out, mut tag) = (vec![1; 10], vec![2; M::TAG]);
     let [mut short, mut wide] = [vec![2; M::TAG - 1], vec![2; M::TAG + 1]];
@@ -282,7 +347,7 @@ const CLOSE_TO_THE_LIMIT: [(u32, bool, usize, usize, bool); 15] = [
 ];
 
 /// Number 9: such a call, in the mode of this session.
-pub fn check_index_limit<M: Algorithm>(started: &Record<M>) {
+pub fn check_index_limit<M: Algorithm + Mode>(started: &Record<M>) {
     for (index, for_envelope, a, m, fits) in CLOSE_TO_THE_LIMIT {
         let session = Record { index, ..started.clone() };
         let (metadata, message) = (vec![3; a], vec![4; m]);
@@ -303,7 +368,7 @@ pub fn check_index_limit<M: Algorithm>(started: &Record<M>) {
 }
 
 /// The same of a ledger, whose history is one string that leads to the index.
-pub fn check_ledger_limit<M: Algorithm>(started: &LedgerOf<M>) {
+pub fn check_ledger_limit<M: Algorithm + Mode>(started: &LedgerOf<M>) {
     for (index, for_envelope, a, m, fits) in CLOSE_TO_THE_LIMIT.into_iter().filter(|(index, ..)| *index <= INDEX_MAX) {
         let mut ledger = started.clone();
         ledger.history = vec![Text::new(&vec![0; (index as usize - 2) * 48], &[])];
