@@ -192,4 +192,4 @@ as-many key h (m ∷ ms) = ap suc (as-many key (historyAfter key h m) ms)
 
 pub one-history : OneHistory
 unfolding saeUnwrap
-one-history key h x y A C = rw (some-more x A, some-more y C, eqb·suc-zero (length C)) refl
+one-history key h x y A C = rw (some-more x A, some-more y C, eqb·suc-zero (length C)) (refl, refl)

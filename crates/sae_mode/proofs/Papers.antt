@@ -1,6 +1,6 @@
 -- SAE over the whole history is Algorithm 2 of 001 as printed, by the steps of SANE with any frame bits; so what is proved of every mode that follows its
 -- paper holds of it. And wrapping what an unwrap found gives the letter again. Assumes nothing.
-use mathlib.Core.Bool.{Bool, true, false}
+use mathlib.Core.Bool.{Bool, false}
 use mathlib.Core.List.{List, [], _∷_}
 use mathlib.Core.Path.{_≡_, refl, sym, ap, _∙_}
 use Prim.Native.Nat.{ℕ, suc}
@@ -37,11 +37,11 @@ sae-laws = stream-laws saeParameters known-F short
 module _ (key : List ℕ) (h : List Str) (e : Bool) where
   pub sae-wraps : (a x : List ℕ) → toPaper sae e (sae .wraps (wholeHistory key) h e a x) ≡ keeping e (saeWrap key h a x)
   unfolding saeWrap
-  sae-wraps = stream-wraps letterF (λ e. false ∷ []) (λ e. true ∷ []) (λ e. e) key h e
+  sae-wraps = stream-wraps letterF (saeParameters .frameA) (saeParameters .frameM) (saeParameters .nextToggle) key h e
 
   pub sae-unwraps : (a c t : List ℕ) → toPaper sae e (sae .unwraps (wholeHistory key) h e a c t) ≡ keeping e (saeUnwrap key h a c)
   unfolding saeUnwrap
-  sae-unwraps = stream-unwraps letterF (λ e. false ∷ []) (λ e. true ∷ []) (λ e. e) key h e
+  sae-unwraps = stream-unwraps letterF (saeParameters .frameA) (saeParameters .frameM) (saeParameters .nextToggle) key h e
 
 pub sae-paper : paperOf sae ≡ saePaper
 unfolding paperOf

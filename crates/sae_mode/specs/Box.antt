@@ -140,8 +140,9 @@ abbrev pub AllOpenExactly : Type 0
 AllOpenExactly = (key : List ℕ) (h : List Str) (ms : List Message) → AllOpen key h ms ↔ AllFit key h ms
 
 -- what is not true of SAE is that the history tells the letters apart: a letter with metadata A and cryptogram C, and two letters with A alone and with C
--- alone, leave one history, where neither is empty
+-- alone, leave one history, where neither is empty; so the second one's tag is also that of the one letter
 abbrev pub OneHistory : Type 0
 OneHistory =
     (key : List ℕ) (h : List Str) (x y : ℕ) (A C : List ℕ)
-    → saeUnwrap key h (x ∷ A) (y ∷ C) .history ≡ saeUnwrap key (saeUnwrap key h (x ∷ A) [] .history) [] (y ∷ C) .history
+    → (saeUnwrap key h (x ∷ A) (y ∷ C) .history ≡ saeUnwrap key (saeUnwrap key h (x ∷ A) [] .history) [] (y ∷ C) .history)
+    × (saeUnwrap key h (x ∷ A) (y ∷ C) .tag ≡ saeUnwrap key (saeUnwrap key h (x ∷ A) [] .history) [] (y ∷ C) .tag)
