@@ -27,6 +27,29 @@ fn first_letter() -> Result<(), Refusal> {
     Ok(())
 }
 
+/// A session of old letters, which neither wraps nor takes an envelope of SANE with another letter.
+fn only_opens(key: &[u8], plain: &Plain<'_>, of_sane: &[u8]) -> Result<SaeSession, Refusal> {
+    let (mut old, _, _) = SaeSession::start(key, b"size C")?;
+    assert_eq!(old.wrap(plain).unwrap_err().number, Number::ReadOnly);
+    let as_letter = [b"F", &of_sane[1..]].concat();
+    assert_eq!((envelope::read(&as_letter)?.letter, old.open(&as_letter).unwrap_err().number), (Letter::F, Number::WrongTag));
+    assert_eq!(envelope::write_header(Letter::F, 7, plain).unwrap_err().number, Number::ReadOnly);
+    Ok(old)
+}
+
+/// A pool of rings, and windows in which some may be issued.
+fn rings() -> Result<(), Refusal> {
+    let mut pool = Pool::new();
+    pool.add(b"7,C,12001,12100,20250304\n")?;
+    assert_eq!((pool.rings(), pool.holds(Size::C, 12_100), pool.holds(Size::D, 12_100)), (100, true, false));
+    let windows = Windows::new([Window { open_month: 11, open_day: 15, close_month: 2, close_day: 29 }; 8]);
+    let spring = b"7,C,12101,12200,20250301\n";
+    assert_eq!(pool.add_in_season(&windows, spring).unwrap_err().number, Number::OutOfSeason);
+    assert_eq!(windows.first_day(spring)?, Some(20_251_115));
+    pool.add_in_season(&windows, b"7,C,12101,12200,20250228\n")?;
+    Ok(())
+}
+
 fn main() -> Result<(), Refusal> {
     let key = b"a key for the stored bytes";
     let plain = Plain { metadata: b"size C", message: b"12001-12100" };
@@ -45,20 +68,9 @@ fn main() -> Result<(), Refusal> {
     let (mut there, same_tag, _) = SaneSession::start(key, b"size C")?;
     let sealed = here.seal(7, &plain)?;
     assert_eq!((tag, &there.open(&sealed.envelope)?.message[..]), (same_tag, plain.message));
-    let (mut old, _, _) = SaeSession::start(key, b"size C")?;
-    assert_eq!(old.wrap(&plain).unwrap_err().number, Number::ReadOnly);
-    let as_letter = [b"F", &sealed.envelope[1..]].concat();
-    assert_eq!((envelope::read(&as_letter)?.letter, old.open(&as_letter).unwrap_err().number), (Letter::F, Number::WrongTag));
-    assert_eq!(envelope::write_header(Letter::F, 7, &plain).unwrap_err().number, Number::ReadOnly);
     first_letter()?;
-    let mut pool = Pool::new();
-    pool.add(b"7,C,12001,12100,20250304\n")?;
-    assert_eq!((pool.rings(), pool.holds(Size::C, 12_100), pool.holds(Size::D, 12_100)), (100, true, false));
-    let windows = Windows::new([Window { open_month: 11, open_day: 15, close_month: 2, close_day: 29 }; 8]);
-    let spring = b"7,C,12101,12200,20250301\n";
-    assert_eq!(pool.add_in_season(&windows, spring).unwrap_err().number, Number::OutOfSeason);
-    assert_eq!(windows.first_day(spring)?, Some(20_251_115));
-    pool.add_in_season(&windows, b"7,C,12101,12200,20250228\n")?;
+    let old = only_opens(key, &plain, &sealed.envelope)?;
+    rings()?;
     for number in Number::ALL {
         println!("{}", number.sentence());
     }
