@@ -16,7 +16,7 @@ const char *pevghazo_number_text(uint32_t number) {
     case PEVGHAZO_TOO_LONG: return "The metadata, the message or the nonce has more than 16,384 bytes.";
     case PEVGHAZO_BAD_TAG_LENGTH: return "The tag must have 32 bytes in SANSE (letter S), and 16 in SANE (letter N) and in old letters (letter F).";
     case PEVGHAZO_NO_ROOM: return "The output buffer is too short.";
-    case PEVGHAZO_INDEX_FULL: return "The session is full: start a new one with a new key, or in SANE with a new nonce.";
+    case PEVGHAZO_INDEX_FULL: return "The session is full: start a new one with a new key, or in SANE with a new nonce; of old letters (letter F) no more can be opened in it.";
     case PEVGHAZO_ALLOWANCE: return "The group's allowance for the day does not cover this call.";
     case PEVGHAZO_WRONG_TAG: return "The tag is wrong: the arrival is damaged, repeated, out of order or not meant for this session.";
     case PEVGHAZO_NO_CODE: return "There is no such code: no message was accepted yet, or the packet is above 2,047.";

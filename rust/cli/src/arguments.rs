@@ -228,12 +228,16 @@ fn quotes(given: &[(&Opt, OsString)]) -> String {
     quotes.unwrap_or_default()
 }
 
-/// Splits a command line into its words and its options.
+/// Splits a command line into its words and its options. After `--` there are words alone, whatever they begin with.
 fn split(tokens: impl IntoIterator<Item = OsString>) -> Result<(Vec<OsString>, Given), Failure> {
     let mut words = Vec::new();
     let mut given = Given::new();
     let mut tokens = tokens.into_iter();
     while let Some(token) = tokens.next() {
+        if token == "--" {
+            words.extend(tokens);
+            break;
+        }
         let (option, value) = if let Some(option) = token.as_bytes().strip_prefix(b"--") {
             long(option, &mut tokens)?
         } else if let Some(option) = letter(&token) {
@@ -423,6 +427,11 @@ mod tests {
         let Ok(Request::Run(_, arguments)) = parse(line.into_iter().chain([odd.clone()])) else { panic!() };
         assert_eq!(arguments.files(), ["a".into(), "help".into(), "pool".into(), odd]);
         assert_eq!(arguments.value("out-dir"), Some(OsStr::new("d")));
+        // After two hyphens all are files.
+        let Ok(Request::Run(_, arguments)) = parsed("sae open --state f a --out-dir d -- -h --state -- b") else {
+            panic!()
+        };
+        assert_eq!(arguments.files(), ["a", "-h", "--state", "--", "b"]);
         let said = parsed("sae open --state f --out-dir d").unwrap_err().to_string();
         assert_eq!(said, "No file is named: see `pevghazo sae open --help`.");
         let said = parsed("help sae open a").unwrap_err().to_string();

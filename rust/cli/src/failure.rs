@@ -261,7 +261,9 @@ impl Failure {
             Failure::OutputExists(path) => {
                 write!(f, "There is a file {} already: remove it or choose another output.", shown(path))
             }
-            Failure::LargeInput(path) => write!(f, "{} is too large to hold an envelope.", shown(path)),
+            Failure::LargeInput(path) => {
+                write!(f, "{} is too large: a file with envelopes has at most 16 MiB.", shown(path))
+            }
             _ => Ok(()),
         }
     }

@@ -16,7 +16,10 @@ const SENTENCES: [(i32, &str); 10] = [
     (4, "The key must have 16 to 47 bytes."),
     (5, "The session is not open."),
     (6, "The metadata, the message or the nonce has more than 16,384 bytes."),
-    (9, "The session is full: start a new one with a new key, or in SANE with a new nonce."),
+    (
+        9,
+        "The session is full: start a new one with a new key, or in SANE with a new nonce; of old letters (letter F) no more can be opened in it.",
+    ),
     (10, "The group's allowance for the day does not cover this call."),
     (
         11,

@@ -126,6 +126,10 @@ fn a_letter_that_is_missing() {
     old.folder.write("other", b"F,5,0,0,");
     let (_, said) = old.stops(21, "1 3 1 other");
     assert!(said.contains(&format!(" {missing} Letters opened: 0. Opened before: 1. Not tried: 2.")), "{said}");
+    // Nor of the right one under the number of another group, with which it would be stopped.
+    old.folder.write("other", &old.damaged(2, 2));
+    let (_, said) = old.stops(21, "1 3 other 4");
+    assert!(said.contains(&format!(" {missing} Letters opened: 0. Opened before: 1. Not tried: 2.")), "{said}");
     old.opens("2");
     old.opens("3 4");
     old.holds("1 2 3 4");
@@ -256,8 +260,10 @@ fn boxes_that_are_none() {
     assert!(said.starts_with("pevghazo: Stopped at letter 2 of 3, empty. Refused, number 1: "), "{said}");
     old.holds("1");
     old.folder.write("cut", &old.letters[1].bytes[..40]);
-    let (_, said) = old.stops(12, "cut 3");
+    // Which letter belongs there is told of a wrong tag alone.
+    let (_, said) = old.stops(12, "cut 2");
     assert!(said.starts_with("pevghazo: Stopped at letter 1 of 2, cut. Refused, number 2: "), "{said}");
+    assert!(said.ends_with("announces. Letters opened: 0. Opened before: 0. Not tried: 1.\n"), "{said}");
 }
 
 /// Envelopes of today, and letters of another group or another old session, in the box.
@@ -353,9 +359,10 @@ fn sessions_that_take_no_letter() {
     old.folder.forge("old", PLACE + 96, &u32::to_le_bytes(1_048_576));
     let (_, said) = old.stops(19, "1 2");
     assert!(
-        said.starts_with("pevghazo: Stopped at letter 1 of 2, 1. Refused, number 9: The session is full"),
+        said.starts_with("pevghazo: Stopped at letter 1 of 2, 1. Refused, number 9: The session is full: "),
         "{said}"
     );
+    assert!(said.contains("; of old letters (letter F) no more can be opened in it. Letters opened: 0. "), "{said}");
     old.folder.forge("old", PLACE, &[0; SESSION]);
     old.stops(15, "1 2");
     assert!(old.folder.done("sae show --state old").starts_with("group  5: closed, index       0, "));

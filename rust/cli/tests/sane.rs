@@ -153,7 +153,8 @@ fn refusals_by_their_numbers() {
     // The index is after the accumulator and the mask of the session.
     folder.forge("office", PLACE + 96, &u32::to_le_bytes(1_048_575));
     let said = fails(&folder, 19, "sane seal --state office --message text --out out");
-    let sentence = "The session is full: start a new one with a new key, or in SANE with a new nonce.";
+    let sentence = "The session is full: start a new one with a new key, or in SANE with a new nonce; of old letters (letter F) no more can \
+                    be opened in it.";
     assert_eq!(said, format!("pevghazo: Refused, number 9: {sentence}\n"));
     folder.forge("office", PLACE, &[0; SESSION]);
     fails(&folder, 15, "sane seal --state office --message text --out out");

@@ -105,7 +105,9 @@ impl Number {
                 "The tag must have 32 bytes in SANSE (letter S), and 16 in SANE (letter N) and in old letters (letter F)."
             }
             Number::NoRoom => "The output buffer is too short.",
-            Number::IndexFull => "The session is full: start a new one with a new key, or in SANE with a new nonce.",
+            Number::IndexFull => {
+                "The session is full: start a new one with a new key, or in SANE with a new nonce; of old letters (letter F) no more can be opened in it."
+            }
             Number::Allowance => "The group's allowance for the day does not cover this call.",
             Number::WrongTag => {
                 "The tag is wrong: the arrival is damaged, repeated, out of order or not meant for this session."
