@@ -2,7 +2,7 @@
 
 use pevghazo::{
     Arrival, BadBytes, Envelope, INDEX_MAX, KEY_MAX, KEY_MIN, Letter, NONCE_MAX, Number, Plain, Refusal,
-    SAE_TAG_LENGTH, SaeSession, SaneSession, Session, TEXT_MAX, Table, envelope, raw,
+    SAE_TAG_LENGTH, SaeSession, SaneSession, Session, TEXT_MAX, Table, envelope,
 };
 use pevghazo_reference::session::SaeSession as Trial;
 
@@ -61,32 +61,6 @@ fn the_first_vector() {
     let opened = session.open(&letter).unwrap();
     assert_eq!((opened.group, opened.metadata, &opened.message[..], opened.count), (7, &b""[..], &b""[..], 3));
     assert_eq!((session.index(), session.toggle()), (4, false));
-}
-
-/// The checks of a start in their order; a refused one closes the record and leaves the tag's buffer.
-#[test]
-fn a_refused_start_closes_the_record() {
-    let long = [0; NONCE_MAX + 1];
-    let refusals: [(u32, &[u8], &[u8], usize); 8] = [
-        (4, &KEY[..15], &long, 15),
-        (4, &[0; 48], NONCE, 16),
-        (6, KEY, &long, 15),
-        (6, KEY, &long, 16),
-        (7, KEY, NONCE, 0),
-        (7, KEY, NONCE, 15),
-        (7, KEY, NONCE, 17),
-        (7, KEY, NONCE, 32),
-    ];
-    for (number, key, nonce, length) in refusals {
-        let mut record = raw::SaeRecord::closed();
-        assert_eq!(raw::sae_start(&mut record, KEY, NONCE, &mut [0; 16]), raw::Answer { number: 0, count: 4 });
-        assert!(record.opened);
-        let mut tag = vec![0xA5; length];
-        assert_eq!(raw::sae_start(&mut record, key, nonce, &mut tag), raw::Answer { number, count: 0 });
-        assert_eq!(tag, vec![0xA5; length], "the tag's buffer");
-        assert_eq!((record.acc, record.mask), ([0; 12], [0; 12]), "the old session is lost");
-        assert_eq!((record.index, record.toggle, record.opened), (0, false, false));
-    }
 }
 
 #[test]

@@ -3,8 +3,7 @@
 
 mod ends;
 
-use ends::{End, flipped, key, number, text};
-use pevghazo_reference::bits;
+use ends::{End, both_ends, flipped, key, number, random_sessions, random_sessions_on_bits, text};
 use pevghazo_reference::deck::{Deck, Text, pad, xoofff};
 use pevghazo_reference::envelope::{SAE_LETTER, read};
 use pevghazo_reference::ledger::DeckFunction;
@@ -16,12 +15,8 @@ use pevghazo_reference::sane::{NONCE_FRAME, count};
 use pevghazo_reference::session::{Record, SaeSession, SaneSession, Scheme, growth};
 
 /// The first version's end and the product's, whose starts give one tag.
-fn both_ends(key: &[u8], nonce: &[u8], deck: DeckFunction) -> [End<Sae>; 2] {
-    let mut tags = [[0; 16], [1; 16]];
-    let ends = tags.each_mut().map(|tag| End::<Sae>::start(key, nonce, tag, deck).unwrap().0);
-    assert_eq!(tags[0], tags[1]);
-    assert_eq!(ends[0].session, ends[1].session);
-    ends
+fn started(key: &[u8], nonce: &[u8], deck: DeckFunction) -> [End<Sae>; 2] {
+    both_ends(|tag| End::<Sae>::start(key, nonce, tag, deck))
 }
 
 /// One letter from the first version to the product, damaged and repeated ones among it, and a wrap at the product's end.
@@ -50,7 +45,7 @@ fn letter(random: &mut Random, [from, to]: &mut [End<Sae>; 2], longest: usize) {
 /// Plays one random session.
 fn play(random: &mut Random, letters: usize, longest: usize, deck: DeckFunction) {
     let (key, nonce) = (key(random), text(random, longest));
-    let mut ends = both_ends(&key, &nonce, deck);
+    let mut ends = started(&key, &nonce, deck);
     for _ in 0..letters {
         letter(random, &mut ends, longest);
     }
@@ -58,21 +53,12 @@ fn play(random: &mut Random, letters: usize, longest: usize, deck: DeckFunction)
 
 #[test]
 fn random_sessions_against_the_ledger() {
-    let mut random = Random::new(10);
-    for _ in 0..150 {
-        play(&mut random, 6, 400, xoofff);
-    }
-    for _ in 0..8 {
-        play(&mut random, 4, LENGTH_MAX, xoofff);
-    }
+    random_sessions(10, play);
 }
 
 #[test]
 fn random_sessions_against_the_ledger_on_bits() {
-    let mut random = Random::new(11);
-    for _ in 0..4 {
-        play(&mut random, 3, 120, bits::xoofff);
-    }
+    random_sessions_on_bits(11, play);
 }
 
 /// Closing bytes, by hand from the paper's frame bits: nonce 1, metadata 2, cryptogram 3. Counts, by hand from document 02.
@@ -119,7 +105,7 @@ fn letters_and_nonces_at_the_edges() {
     let mut random = Random::new(12);
     for (nonce, index) in [(0, 2), (47, 2), (48, 3), (16_384, 343)] {
         let nonce = random.bytes(nonce);
-        let mut ends = both_ends(&[5; 47], &nonce, xoofff);
+        let mut ends = started(&[5; 47], &nonce, xoofff);
         assert_eq!((ends[0].session.index, ends[0].session.toggle, ends[0].session.open), (index, false, true));
         for (a, m) in [0, 20, 16_384].into_iter().flat_map(|a| [0, 1, 31, 32, 33, 47, 48, 49, 16_384].map(|m| (a, m))) {
             let (metadata, message, before) = (random.bytes(a), random.bytes(m), ends[0].session.index);
@@ -203,7 +189,7 @@ fn index_stops_at_its_limit() {
 /// one letter with both. Put together, with the second one's tag, they are accepted, and another text comes out.
 #[test]
 fn two_letters_are_one() {
-    let [mut from, mut to] = both_ends(&[9; 16], b"1", xoofff);
+    let [mut from, mut to] = started(&[9; 16], b"1", xoofff);
     let (mut cryptogram, mut tag, mut out) = ([0; 11], [0; 16], [0; 11]);
     from.trial_wrap(b"size C", b"", &mut [], &mut tag).unwrap();
     from.trial_wrap(b"", b"12001-12100", &mut cryptogram, &mut tag).unwrap();
@@ -215,7 +201,7 @@ fn two_letters_are_one() {
 /// A letter's envelope has the letter F and the parts of the first version's wrap.
 #[test]
 fn envelopes_of_letters() {
-    let [mut from, mut to] = both_ends(&[9; 16], b"1", xoofff);
+    let [mut from, mut to] = started(&[9; 16], b"1", xoofff);
     let bytes = from.session.trial_seal(7, b"size C", b"12001-12100");
     assert!(bytes.starts_with(b"F,7,6,11,size C"));
     let parts = read(&bytes).unwrap();

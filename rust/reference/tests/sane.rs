@@ -3,9 +3,9 @@
 mod ends;
 
 use ends::{
-    End, check_headers_first, check_index_limit, check_ledger_limit, check_refusals, key, message, no_deck, text,
+    End, both_ends, check_headers_first, check_index_limit, check_ledger_limit, check_refusals, key, message, no_deck,
+    random_sessions, random_sessions_on_bits, text,
 };
-use pevghazo_reference::bits;
 use pevghazo_reference::deck::{pad, xoofff};
 use pevghazo_reference::ledger::{DeckFunction, SaneLedger};
 use pevghazo_reference::limits::LENGTH_MAX;
@@ -15,18 +15,14 @@ use pevghazo_reference::sane::{NONCE_FRAME, Sane, count, cryptogram_frame, start
 use pevghazo_reference::session::{SaneSession, growth, metadata_frame};
 
 /// Both ends of a session under one key and nonce, whose starts give one tag.
-fn both_ends(key: &[u8], nonce: &[u8], deck: DeckFunction) -> [End<Sane>; 2] {
-    let mut tags = [[0; 16], [1; 16]];
-    let ends = tags.each_mut().map(|tag| End::<Sane>::start(key, nonce, tag, deck).unwrap().0);
-    assert_eq!(tags[0], tags[1]);
-    assert_eq!(ends[0].session, ends[1].session);
-    ends
+fn started(key: &[u8], nonce: &[u8], deck: DeckFunction) -> [End<Sane>; 2] {
+    both_ends(|tag| End::<Sane>::start(key, nonce, tag, deck))
 }
 
 /// Plays one random session between two ends.
 fn play(random: &mut Random, messages: usize, longest: usize, deck: DeckFunction) {
     let (key, nonce) = (key(random), text(random, longest));
-    let mut ends = both_ends(&key, &nonce, deck);
+    let mut ends = started(&key, &nonce, deck);
     for _ in 0..messages {
         message(random, &mut ends, longest);
     }
@@ -34,21 +30,12 @@ fn play(random: &mut Random, messages: usize, longest: usize, deck: DeckFunction
 
 #[test]
 fn random_sessions_against_the_ledger() {
-    let mut random = Random::new(7);
-    for _ in 0..150 {
-        play(&mut random, 6, 400, xoofff);
-    }
-    for _ in 0..8 {
-        play(&mut random, 4, LENGTH_MAX, xoofff);
-    }
+    random_sessions(7, play);
 }
 
 #[test]
 fn random_sessions_against_the_ledger_on_bits() {
-    let mut random = Random::new(8);
-    for _ in 0..4 {
-        play(&mut random, 3, 120, bits::xoofff);
-    }
+    random_sessions_on_bits(8, play);
 }
 
 /// Counts and closing bytes, by hand from document 02 and the cookbook's frame bits.
@@ -71,7 +58,7 @@ fn messages_and_nonces_at_the_edges() {
     let mut random = Random::new(9);
     for (nonce, index) in [(0, 2), (47, 2), (48, 3), (16_384, 343)] {
         let nonce = random.bytes(nonce);
-        let mut ends = both_ends(&[5; 47], &nonce, xoofff);
+        let mut ends = started(&[5; 47], &nonce, xoofff);
         assert_eq!((ends[0].session.index, ends[0].session.toggle, ends[0].session.open), (index, false, true));
         for a in [0, 20, 16_384] {
             for m in [0, 1, 31, 32, 33, 47, 48, 49, 16_384] {
@@ -121,7 +108,7 @@ fn index_stops_at_its_limit() {
 /// What the toggle is for (cookbook, section 4.1): metadata in one message and text in the next do not pass for one message.
 #[test]
 fn two_messages_are_not_one() {
-    let [mut from, mut to] = both_ends(&[9; 16], b"1", xoofff);
+    let [mut from, mut to] = started(&[9; 16], b"1", xoofff);
     let (mut cryptogram, mut tag) = ([0; 11], [0; 16]);
     from.wrap(b"size C", b"", &mut [], &mut tag).unwrap();
     from.wrap(b"", b"12001-12100", &mut cryptogram, &mut tag).unwrap();

@@ -2,12 +2,13 @@
 
 mod ends;
 
-use ends::{End, check_headers_first, check_index_limit, check_ledger_limit, check_refusals, key, message, no_deck};
-use pevghazo_reference::bits;
+use ends::{
+    End, check_headers_first, check_index_limit, check_ledger_limit, check_refusals, key, message, no_deck,
+    random_sessions, random_sessions_on_bits,
+};
 use pevghazo_reference::codes::{CODE, PACKET_MAX};
 use pevghazo_reference::deck::xoofff;
 use pevghazo_reference::ledger::{DeckFunction, Ledger};
-use pevghazo_reference::limits::LENGTH_MAX;
 use pevghazo_reference::random::Random;
 use pevghazo_reference::refusal::{Number, Refusal};
 use pevghazo_reference::sanse::Sanse;
@@ -36,21 +37,12 @@ fn play(random: &mut Random, messages: usize, longest: usize, highest: u32, deck
 
 #[test]
 fn random_sessions_against_the_ledger() {
-    let mut random = Random::new(5);
-    for _ in 0..150 {
-        play(&mut random, 6, 400, PACKET_MAX, xoofff);
-    }
-    for _ in 0..8 {
-        play(&mut random, 4, LENGTH_MAX, PACKET_MAX, xoofff);
-    }
+    random_sessions(5, |random, messages, longest, deck| play(random, messages, longest, PACKET_MAX, deck));
 }
 
 #[test]
 fn random_sessions_against_the_ledger_on_bits() {
-    let mut random = Random::new(6);
-    for _ in 0..4 {
-        play(&mut random, 3, 120, 20, bits::xoofff);
-    }
+    random_sessions_on_bits(6, |random, messages, longest, deck| play(random, messages, longest, 20, deck));
 }
 
 #[test]

@@ -1,8 +1,9 @@
 //! One end of a session kept twice, as a record and as a ledger, in any mode; and random sessions between two such ends.
 #![allow(dead_code)]
 
+use pevghazo_reference::bits;
 use pevghazo_reference::codes::CODE;
-use pevghazo_reference::deck::Text;
+use pevghazo_reference::deck::{Text, xoofff};
 use pevghazo_reference::envelope::header_bytes;
 use pevghazo_reference::ledger::{Algorithm, DeckFunction, Ledger, LedgerOf, SaeLedger, SaneLedger};
 use pevghazo_reference::limits::{INDEX_MAX, LENGTH_MAX};
@@ -60,6 +61,34 @@ fn both_started<M: Algorithm>(
             Err(number)
         }
         _ => panic!("one of the two starts is refused"),
+    }
+}
+
+/// Both ends of a session, each started with a tag's buffer of its own: the starts give one tag.
+pub fn both_ends<M: Algorithm>(start: impl Fn(&mut [u8]) -> Started<End<M>>) -> [End<M>; 2] {
+    let mut tags = [[0; 16], [1; 16]];
+    let ends = tags.each_mut().map(|tag| start(tag).unwrap().0);
+    assert_eq!(tags[0], tags[1]);
+    assert_eq!(ends[0].session, ends[1].session);
+    ends
+}
+
+/// Plays random sessions of so many messages, with texts up to a length: short ones and some with the longest texts.
+pub fn random_sessions(seed: u64, play: impl Fn(&mut Random, usize, usize, DeckFunction)) {
+    let mut random = Random::new(seed);
+    for _ in 0..150 {
+        play(&mut random, 6, 400, xoofff);
+    }
+    for _ in 0..8 {
+        play(&mut random, 4, LENGTH_MAX, xoofff);
+    }
+}
+
+/// The same, few and short, over the deck function that works on bits.
+pub fn random_sessions_on_bits(seed: u64, play: impl Fn(&mut Random, usize, usize, DeckFunction)) {
+    let mut random = Random::new(seed);
+    for _ in 0..4 {
+        play(&mut random, 3, 120, bits::xoofff);
     }
 }
 
