@@ -4,6 +4,7 @@ mod common;
 
 use std::ffi::OsStr;
 use std::fs;
+use std::io::Read;
 use std::os::unix::ffi::OsStrExt;
 use std::os::unix::fs::{MetadataExt, symlink};
 
@@ -176,6 +177,25 @@ fn a_report_that_cannot_be_printed() {
     let run = full("1 2 4 3");
     assert_eq!(run.status, 21, "{}", run.said);
     assert!(run.said.starts_with("pevghazo: Stopped at letter 3 of 4, 4. "), "{}", run.said);
+}
+
+/// Where the report is read slowly, nobody is kept waiting: it is longer than a pipe holds, and the state file is free.
+#[test]
+fn a_slow_reader_of_the_report_keeps_nobody_waiting() {
+    let old = OldBox::of_four();
+    let mut child = old.folder.command(&format!("{OPEN} 1 2 3 4{}", " 1".repeat(4_000))).spawn().unwrap();
+    let mut output = child.stdout.take().unwrap();
+    let mut first = [0; 7];
+    output.read_exact(&mut first).unwrap();
+    assert_eq!(&first, b"letter ");
+    old.folder.done("sae show --state old --wait 0");
+    let mut rest = Vec::new();
+    output.read_to_end(&mut rest).unwrap();
+    assert!(
+        rest.len() > 1 << 17
+            && rest.ends_with(b"\nopened 4, opened before 4000, not opened 0, not tried 0 of 4004 letters\n")
+    );
+    assert!(child.wait().unwrap().success());
 }
 
 /// At a terminal the progress is shown and taken away again, and people are told what was done.

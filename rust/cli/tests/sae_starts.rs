@@ -9,6 +9,7 @@ use std::fs;
 use common::letters::{KEY, OldBox, START, trial};
 use common::sane::{shown, text};
 use common::{Folder, PLACE, Run, SESSION};
+use pevghazo_reference::session::Session;
 
 /// A folder with the key of the old session.
 fn with_key() -> Folder {
@@ -39,6 +40,18 @@ fn an_old_session_is_read_again_from_its_start() {
     // In the place of a lost one too.
     fs::remove_file(folder.0.join("old")).unwrap();
     assert_eq!(folder.done(&format!("{START} old")), tag);
+}
+
+/// The letters that were opened are known by fingerprints under a key that comes from the session's own, which nobody else has: the tag of a fixed
+/// text, of the independent implementation.
+#[test]
+fn the_key_of_the_fingerprints_comes_from_the_session_s() {
+    let folder = with_key();
+    folder.done(&format!("{START} old"));
+    let mut tag = [0; 32];
+    let mut session = Session::start(KEY).unwrap();
+    session.wrap(b"pevghazo: the fingerprints of letters", b"", &mut [], &mut tag).unwrap();
+    assert!(folder.read("old").unwrap().windows(tag.len()).any(|bytes| bytes == tag));
 }
 
 #[test]

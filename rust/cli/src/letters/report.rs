@@ -158,7 +158,7 @@ mod tests {
             letter("box/1", 0, &bytes[..]),
             letter("box/a \"b\", c", 0, bytes),
             letter("box/1", 42, b""),
-            letter("box/line\nfeed", 0, bytes),
+            letter("box/\"line\nfeed", 0, bytes),
         ];
         let stopped = Fate::Stopped(Some(Number::BadHeader));
         let fates = [Fate::Opened(1_204, "1204-1.message".into()), Fate::Before(7), stopped, Fate::NotTried];
@@ -172,7 +172,7 @@ letter group metadata message  result         place  file
      1     5        6      11  opened          1204  box/1 to 1204-1.message
      2     5        6      11  opened before      7  box/a \"b\", c
      3     -        -       -  REFUSED, 1         -  box/1 from byte 42
-     4     5        6      11  not tried          -  box/line\\nfeed
+     4     5        6      11  not tried          -  box/\"line\\nfeed
 opened 1, opened before 1, not opened 1, not tried 1 of 4 letters
 ";
         assert_eq!(report("text"), expected);
@@ -185,7 +185,7 @@ letter,file,from,group,metadata,message,result,number,place,output
 1,box/1,0,5,6,11,opened,,1204,1204-1.message
 2,\"box/a \"\"b\"\", c\",0,5,6,11,opened-before,,7,
 3,box/1,42,,,,refused,1,,
-4,box/line\\nfeed,0,5,6,11,not-tried,,,
+4,\"box/\"\"line\\nfeed\",0,5,6,11,not-tried,,,
 ";
         assert_eq!(report("csv"), expected);
     }
