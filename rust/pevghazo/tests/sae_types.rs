@@ -1,8 +1,11 @@
 //! The safe type of a session of old letters: its start, refusals, stored bytes, envelopes, and what is shown.
 
+mod common;
+
+use common::stored;
 use pevghazo::{
-    Arrival, BadBytes, Envelope, INDEX_MAX, KEY_MAX, KEY_MIN, Letter, NONCE_MAX, Number, Plain, Refusal,
-    SAE_TAG_LENGTH, SaeSession, SaneSession, Session, TEXT_MAX, Table, envelope,
+    Arrival, Envelope, INDEX_MAX, KEY_MAX, KEY_MIN, Letter, NONCE_MAX, Number, Plain, Refusal, SAE_TAG_LENGTH,
+    SaeSession, SaneSession, Session, TEXT_MAX, Table, envelope,
 };
 use pevghazo_reference::session::SaeSession as Trial;
 
@@ -236,24 +239,10 @@ fn no_envelope_is_written() {
 #[test]
 fn stored_bytes_are_checked() {
     let bytes = start().to_bytes();
-    let reason = |place: usize, value: &[u8]| {
-        let mut bad = bytes.to_vec();
-        bad[place..place + value.len()].copy_from_slice(value);
-        SaeSession::from_bytes(&bad).unwrap_err()
-    };
-    for place in [100, 101] {
-        (2..=255).for_each(|value| assert_eq!(reason(place, &[value]), BadBytes::Flag));
-    }
-    assert_eq!(reason(96, &(INDEX_MAX + 1).to_le_bytes()), BadBytes::Index);
-    assert_eq!(reason(101, &[0]), BadBytes::Closed);
-    for length in [0, SaeSession::BYTES - 1, SaeSession::BYTES + 1] {
-        let error = SaeSession::from_bytes(&vec![0; length]).unwrap_err();
-        assert_eq!(error, BadBytes::Length { expected: SaeSession::BYTES, found: length });
-    }
-    let numbers: Vec<u8> = (0..96).chain([1, 2, 3, 0, 1, 1]).collect();
-    let session = SaeSession::from_bytes(&numbers).unwrap();
-    assert_eq!(*session.to_bytes(), numbers);
-    assert_eq!((session.index(), session.toggle(), session.is_open()), (0x0003_0201, true, true));
+    assert_eq!(bytes.len(), SaeSession::BYTES);
+    stored::are_checked(&bytes, SaeSession::from_bytes, |session| {
+        (session.to_bytes().to_vec(), session.index(), session.toggle(), session.is_open())
+    });
 }
 
 #[test]

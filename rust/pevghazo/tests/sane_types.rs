@@ -1,8 +1,11 @@
 //! The safe type of a session in SANE: its start, refusals, stored bytes, envelopes, and what is shown.
 
+mod common;
+
+use common::stored;
 use pevghazo::{
-    Arrival, BadBytes, INDEX_MAX, KEY_MAX, KEY_MIN, Letter, NONCE_MAX, Number, Plain, Refusal, SANE_TAG_LENGTH,
-    SaneSession, Session, TEXT_MAX, Table, Wrapped, envelope, raw,
+    Arrival, INDEX_MAX, KEY_MAX, KEY_MIN, Letter, NONCE_MAX, Number, Plain, Refusal, SANE_TAG_LENGTH, SaneSession,
+    Session, TEXT_MAX, Table, Wrapped, envelope, raw,
 };
 
 const KEY: &[u8] = b"a key for the tests here";
@@ -170,24 +173,10 @@ fn a_state_that_is_used_twice() {
 #[test]
 fn stored_bytes_are_checked() {
     let bytes = start().to_bytes();
-    let reason = |place: usize, value: &[u8]| {
-        let mut bad = bytes.to_vec();
-        bad[place..place + value.len()].copy_from_slice(value);
-        SaneSession::from_bytes(&bad).unwrap_err()
-    };
-    for place in [100, 101] {
-        (2..=255).for_each(|value| assert_eq!(reason(place, &[value]), BadBytes::Flag));
-    }
-    assert_eq!(reason(96, &(INDEX_MAX + 1).to_le_bytes()), BadBytes::Index);
-    assert_eq!(reason(101, &[0]), BadBytes::Closed);
-    for length in [0, SaneSession::BYTES - 1, SaneSession::BYTES + 1] {
-        let error = SaneSession::from_bytes(&vec![0; length]).unwrap_err();
-        assert_eq!(error, BadBytes::Length { expected: SaneSession::BYTES, found: length });
-    }
-    let numbers: Vec<u8> = (0..96).chain([1, 2, 3, 0, 1, 1]).collect();
-    let session = SaneSession::from_bytes(&numbers).unwrap();
-    assert_eq!(*session.to_bytes(), numbers);
-    assert_eq!((session.index(), session.toggle(), session.is_open()), (0x0003_0201, true, true));
+    assert_eq!(bytes.len(), SaneSession::BYTES);
+    stored::are_checked(&bytes, SaneSession::from_bytes, |session| {
+        (session.to_bytes().to_vec(), session.index(), session.toggle(), session.is_open())
+    });
 }
 
 /// Sealing is writing the header, wrapping for it and writing the envelope; opening is reading and unwrapping; and the first check

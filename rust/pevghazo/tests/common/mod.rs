@@ -12,6 +12,7 @@ pub mod lists;
 pub mod play;
 pub mod pools;
 pub mod seasons;
+pub mod stored;
 pub mod tables;
 
 pub use both::{
