@@ -41,7 +41,7 @@ fn write_code(d: DeckState, packet: u32, out: &mut [u8]) -> u32
 {
     let mut code = [0u8; 8];
     let offset = 32 + 8 * (packet as usize);
-    let count = steps::add_output(d, offset, &mut code);
+    let count = steps::add_output(d, offset, &mut code, false);
     steps::copy(&code, out);
     count
 }

@@ -147,6 +147,7 @@ pub fn wrap_string(
     message: &[u8],
     out: &mut [u8],
     tag: &mut [u8],
+    four: bool,
 ) -> GroupResult
     requires { ⌜ length (now head) ≤ 17 ⌝ }
     ensures { λ g. ⌜ groupResult g (now (out .exit)) (now (tag .exit))
@@ -168,7 +169,7 @@ pub fn wrap_string(
     if number != 0 {
         return refused(number, r);
     }
-    let given = sanse::wrap_string(s, head, metadata, message, out, tag);
+    let given = sanse::wrap_string(s, head, metadata, message, out, tag, four);
     charged(given, allowance, r.count)
 }
 
@@ -182,6 +183,7 @@ pub fn unwrap_string(
     cryptogram: &[u8],
     tag: &[u8],
     out: &mut [u8],
+    four: bool,
 ) -> GroupResult
     requires { ⌜ length (now head) ≤ 17 ⌝ }
     ensures { λ g. ⌜ groupResult g (now (out .exit)) (now (tag .entry))
@@ -203,7 +205,7 @@ pub fn unwrap_string(
     if number != 0 {
         return refused(number, r);
     }
-    let given = sanse::unwrap_string(s, head, metadata, cryptogram, tag, out);
+    let given = sanse::unwrap_string(s, head, metadata, cryptogram, tag, out, four);
     charged(given, allowance, r.count)
 }
 
@@ -222,7 +224,7 @@ pub fn wrap(
         ≡ wrapOnDay allowance (recordOf r) (handed (now (metadata .entry)) (now (message .entry)) (now (out .entry)) (now (tag .entry))) ⌝ }
 {
     let none = &metadata[..0];
-    wrap_string(r, allowance, none, metadata, message, out, tag)
+    wrap_string(r, allowance, none, metadata, message, out, tag, false)
 }
 
 // Unwraps a cryptogram for a group. Checks 5 to 10, and 11, whose count is added to the group's.
@@ -238,5 +240,5 @@ pub fn unwrap(
         ≡ unwrapOnDay allowance (recordOf r) (handed (now (metadata .entry)) (now (cryptogram .entry)) (now (out .entry)) (now (tag .entry))) ⌝ }
 {
     let none = &metadata[..0];
-    unwrap_string(r, allowance, none, metadata, cryptogram, tag, out)
+    unwrap_string(r, allowance, none, metadata, cryptogram, tag, out, false)
 }

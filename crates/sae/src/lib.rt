@@ -57,7 +57,7 @@ fn add_stream(d: DeckState, text: &[u8], out: &mut [u8]) -> u32
     if text.len() == 0 {
         return 0;
     }
-    steps::add_keystream(d, 16, text, out)
+    steps::add_keystream(d, 16, text, out, false)
 }
 
 // The history gains the cryptogram, if it is not empty, and its tag fills a buffer of 16 bytes; gives the history and the permutations done.
@@ -67,7 +67,7 @@ fn finish(d: DeckState, cryptogram: &[u8], e: bool, tag: &mut [u8]) -> Compresse
         × (now (tag .exit) ≡ tagOf saeParameters incremental (r .state))
         × (r .count ≡ cond (isEmpty (now (cryptogram .entry))) 0 (b (length (now (cryptogram .entry)))) + outputCount 0 16) ⌝ }
 {
-    let h = steps::append_text(d, cryptogram, CLOSING_C);
+    let h = steps::append_text(d, cryptogram, CLOSING_C, false);
     let state = h.state;
     let count = h.count + steps::tag_of(state, tag);
     Compressed { state, count }
@@ -144,7 +144,7 @@ pub fn unwrap(
         return result(number, 0, d, e, s.opened);
     }
     let none = &metadata[..0];
-    let h = steps::append_metadata(d, none, metadata, cryptogram, CLOSING_A);
+    let h = steps::append_metadata(d, none, metadata, cryptogram, CLOSING_A, false);
     let d1 = h.state;
     let c = add_stream(d, cryptogram, out);
     let mut found = [0u8; 16];

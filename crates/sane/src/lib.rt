@@ -79,7 +79,7 @@ fn check(opened: bool, index: u32, string: usize, a: usize, m: usize, tag: usize
 }
 
 // A text plus the keystream of a history, from byte 16 on, goes to the start of a buffer; gives the permutations done, none for an empty text.
-fn add_stream(d: DeckState, text: &[u8], out: &mut [u8]) -> u32
+fn add_stream(d: DeckState, text: &[u8], out: &mut [u8], four: bool) -> u32
     requires { ⌜ (length (now text) ≤ 16384) × (length (now text) ≤ length (now out)) ⌝ }
     ensures { λ r. ⌜ (now (out .exit) ≡ written (sum (now (text .entry)) (run (output d) 16 (length (now (text .entry))))) (now (out .entry)))
         × (r ≡ cond (isEmpty (now (text .entry))) 0 (outputCount 16 (length (now (text .entry))))) ⌝ }
@@ -87,17 +87,17 @@ fn add_stream(d: DeckState, text: &[u8], out: &mut [u8]) -> u32
     if text.len() == 0 {
         return 0;
     }
-    steps::add_keystream(d, 16, text, out)
+    steps::add_keystream(d, 16, text, out, four)
 }
 
 // The history gains the cryptogram, if it is not empty, and its tag fills a buffer of 16 bytes; gives the history and the permutations done.
-fn finish(d: DeckState, cryptogram: &[u8], e: bool, tag: &mut [u8]) -> Compressed
+fn finish(d: DeckState, cryptogram: &[u8], e: bool, tag: &mut [u8], four: bool) -> Compressed
     requires { ⌜ (length (now cryptogram) ≤ 16384) × (length (now tag) ≡ 16) × (d .index ≤ 1048576) ⌝ }
     ensures { λ r. ⌜ (r .state ≡ withText saneParameters incremental d e (now (cryptogram .entry)))
         × (now (tag .exit) ≡ tagOf saneParameters incremental (r .state))
         × (r .count ≡ cond (isEmpty (now (cryptogram .entry))) 0 (b (length (now (cryptogram .entry)))) + outputCount 0 16) ⌝ }
 {
-    let h = steps::append_text(d, cryptogram, closing(true, e));
+    let h = steps::append_text(d, cryptogram, closing(true, e), four);
     let state = h.state;
     let count = h.count + steps::tag_of(state, tag);
     Compressed { state, count }
@@ -174,6 +174,7 @@ pub fn wrap_string(
     message: &[u8],
     out: &mut [u8],
     tag: &mut [u8],
+    four: bool,
 ) -> SaneResult
     requires { ⌜ length (now head) ≤ 17 ⌝ }
     ensures { λ r. ⌜ callResult r (now (out .exit)) (now (tag .exit))
@@ -188,10 +189,10 @@ pub fn wrap_string(
     if number != 0 {
         return result(number, 0, d, e, s.opened);
     }
-    let h = steps::append_metadata(d, head, metadata, message, closing(false, e));
+    let h = steps::append_metadata(d, head, metadata, message, closing(false, e), four);
     let d1 = h.state;
-    let c = add_stream(d, message, out);
-    let g = finish(d1, &out[..n], e, tag);
+    let c = add_stream(d, message, out, four);
+    let g = finish(d1, &out[..n], e, tag, four);
     let d2 = g.state;
     result(0, c + h.count + g.count, d2, !e, s.opened)
 }
@@ -205,6 +206,7 @@ pub fn unwrap_string(
     cryptogram: &[u8],
     tag: &[u8],
     out: &mut [u8],
+    four: bool,
 ) -> SaneResult
     requires { ⌜ length (now head) ≤ 17 ⌝ }
     ensures { λ r. ⌜ callResult r (now (out .exit)) (now (tag .entry))
@@ -219,11 +221,11 @@ pub fn unwrap_string(
     if number != 0 {
         return result(number, 0, d, e, s.opened);
     }
-    let h = steps::append_metadata(d, head, metadata, cryptogram, closing(false, e));
+    let h = steps::append_metadata(d, head, metadata, cryptogram, closing(false, e), four);
     let d1 = h.state;
-    let c = add_stream(d, cryptogram, out);
+    let c = add_stream(d, cryptogram, out, four);
     let mut found = [0u8; 16];
-    let g = finish(d1, cryptogram, e, &mut found);
+    let g = finish(d1, cryptogram, e, &mut found, four);
     let d2 = g.state;
     let count = c + h.count + g.count;
     if steps::same_bytes(tag, &found) {
@@ -247,7 +249,7 @@ pub fn wrap(
         ≡ wrapAt sane incremental (stateOf s) (handed (now (metadata .entry)) (now (message .entry)) (now (out .entry)) (now (tag .entry))) ⌝ }
 {
     let none = &metadata[..0];
-    wrap_string(s, none, metadata, message, out, tag)
+    wrap_string(s, none, metadata, message, out, tag, false)
 }
 
 // Unwraps a cryptogram: the message goes to the start of `out`. Checks 5 to 9, and 11 for a tag that differs, whose 16 bytes are all compared.
@@ -262,7 +264,7 @@ pub fn unwrap(
         ≡ unwrapAt sane incremental (stateOf s) (handed (now (metadata .entry)) (now (cryptogram .entry)) (now (out .entry)) (now (tag .entry))) ⌝ }
 {
     let none = &metadata[..0];
-    unwrap_string(s, none, metadata, cryptogram, tag, out)
+    unwrap_string(s, none, metadata, cryptogram, tag, out, false)
 }
 
 // ---- calls for an envelope
@@ -284,7 +286,7 @@ pub fn wrap_envelope(
         let d = deck_of(s);
         return result(1, 0, d, s.toggle, s.opened);
     }
-    wrap_string(s, header, metadata, message, out, tag)
+    wrap_string(s, header, metadata, message, out, tag, false)
 }
 
 // Unwraps the cryptogram of the envelope with this header. Check 1 where the header is not the layout's with letter N and the lengths of metadata
@@ -304,5 +306,5 @@ pub fn unwrap_envelope(
         let d = deck_of(s);
         return result(1, 0, d, s.toggle, s.opened);
     }
-    unwrap_string(s, header, metadata, cryptogram, tag, out)
+    unwrap_string(s, header, metadata, cryptogram, tag, out, false)
 }

@@ -68,7 +68,7 @@ fn check(opened: bool, index: u32, string: usize, a: usize, m: usize, tag: usize
 }
 
 // A text plus the keystream of the history with the tag goes to the start of a buffer; gives the permutations done, none for an empty text.
-fn add_body(d: DeckState, text: &[u8], tag: &[u8], closing: u8, out: &mut [u8]) -> u32
+fn add_body(d: DeckState, text: &[u8], tag: &[u8], closing: u8, out: &mut [u8], four: bool) -> u32
     requires { ⌜ (0 < closing) × (length (now tag) ≤ 16401) × (d .index ≤ 1048576) × (length (now text) ≤ 16384) × (length (now text) ≤ length (now out)) ⌝ }
     ensures { λ r. ⌜ (now (out .exit) ≡ written (sum (now (text .entry)) (run (output (append d (closedBy (now (tag .entry)) closing))) 0 (length (now (text .entry))))) (now (out .entry)))
         × (r ≡ cond (isEmpty (now (text .entry))) 0 (b (length (now (tag .entry))) + outputCount 0 (length (now (text .entry))))) ⌝ }
@@ -78,7 +78,7 @@ fn add_body(d: DeckState, text: &[u8], tag: &[u8], closing: u8, out: &mut [u8]) 
     }
     let h = xoofff::compress(d, tag, closing);
     let t = h.state;
-    h.count + steps::add_keystream(t, 0, text, out)
+    h.count + steps::add_keystream(t, 0, text, out, four)
 }
 
 // What a record keeps of its history.
@@ -157,6 +157,7 @@ pub fn wrap_string(
     message: &[u8],
     out: &mut [u8],
     tag: &mut [u8],
+    four: bool,
 ) -> CallResult
     requires { ⌜ length (now head) ≤ 17 ⌝ }
     ensures { λ r. ⌜ callResult r
@@ -176,12 +177,12 @@ pub fn wrap_string(
     if number != 0 {
         return result(number, 0, d, e, s.opened);
     }
-    let h = steps::append_metadata(d, head, metadata, message, closing_a(e));
+    let h = steps::append_metadata(d, head, metadata, message, closing_a(e), four);
     let d1 = h.state;
-    let g = steps::append_text(d1, message, closing_m(e));
+    let g = steps::append_text(d1, message, closing_m(e), four);
     let d2 = g.state;
     let t = steps::tag_of(d2, tag);
-    let c = add_body(d1, message, tag, closing_t(e), out);
+    let c = add_body(d1, message, tag, closing_t(e), out, four);
     result(0, h.count + g.count + t + c, d2, !e, s.opened)
 }
 
@@ -194,6 +195,7 @@ pub fn unwrap_string(
     cryptogram: &[u8],
     tag: &[u8],
     out: &mut [u8],
+    four: bool,
 ) -> CallResult
     requires { ⌜ length (now head) ≤ 17 ⌝ }
     ensures { λ r. ⌜ callResult r
@@ -208,10 +210,10 @@ pub fn unwrap_string(
     if number != 0 {
         return result(number, 0, d, e, s.opened);
     }
-    let h = steps::append_metadata(d, head, metadata, cryptogram, closing_a(e));
+    let h = steps::append_metadata(d, head, metadata, cryptogram, closing_a(e), four);
     let d1 = h.state;
-    let c = add_body(d1, cryptogram, tag, closing_t(e), out);
-    let g = steps::append_text(d1, &out[..n], closing_m(e));
+    let c = add_body(d1, cryptogram, tag, closing_t(e), out, four);
+    let g = steps::append_text(d1, &out[..n], closing_m(e), four);
     let d2 = g.state;
     let mut found = [0u8; 32];
     let t = steps::tag_of(d2, &mut found);
@@ -237,7 +239,7 @@ pub fn wrap(
         ≡ wrapAt sanse incremental (stateOf s) (handed (now (metadata .entry)) (now (message .entry)) (now (out .entry)) (now (tag .entry))) ⌝ }
 {
     let none = &metadata[..0];
-    wrap_string(s, none, metadata, message, out, tag)
+    wrap_string(s, none, metadata, message, out, tag, false)
 }
 
 // Unwraps a cryptogram: the message goes to the start of `out`. Checks 5 to 9, and 11 for a tag that differs, whose 32 bytes are all compared.
@@ -252,7 +254,7 @@ pub fn unwrap(
         ≡ unwrapAt sanse incremental (stateOf s) (handed (now (metadata .entry)) (now (cryptogram .entry)) (now (out .entry)) (now (tag .entry))) ⌝ }
 {
     let none = &metadata[..0];
-    unwrap_string(s, none, metadata, cryptogram, tag, out)
+    unwrap_string(s, none, metadata, cryptogram, tag, out, false)
 }
 
 // ---- calls for an envelope
@@ -274,7 +276,7 @@ pub fn wrap_envelope(
         let d = deck_of(s);
         return result(1, 0, d, s.toggle, s.opened);
     }
-    wrap_string(s, header, metadata, message, out, tag)
+    wrap_string(s, header, metadata, message, out, tag, false)
 }
 
 // Unwraps the cryptogram of the envelope with this header. Check 1 where the header is not the layout's with letter S and the lengths of metadata
@@ -294,5 +296,5 @@ pub fn unwrap_envelope(
         let d = deck_of(s);
         return result(1, 0, d, s.toggle, s.opened);
     }
-    unwrap_string(s, header, metadata, cryptogram, tag, out)
+    unwrap_string(s, header, metadata, cryptogram, tag, out, false)
 }

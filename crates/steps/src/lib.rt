@@ -1,5 +1,6 @@
 // Steps that session modes share: the first check, the strings that enter the history, tag and keystream, and the handling of buffers. A
-// mode's closing bytes, the length of its tag and the offset of its keystream are parameters.
+// mode's closing bytes, the length of its tag and the offset of its keystream are parameters; so is, as `four`, whether full blocks are taken four
+// side by side (document 02, request 10), of which no contract speaks: it alters nothing but the time.
 ghost use mathlib.Core.Path.{_≡_};
 ghost use mathlib.Core.Bool.{not, _||_};
 ghost use mathlib.Core.List.{_++_};
@@ -75,38 +76,45 @@ pub fn first_check(
 
 // The history gains A, which is the header's bytes `head` and then the metadata `a`, with this closing byte, if A is not empty or the text is. The
 // metadata is read where it stands.
-pub fn append_metadata(d: DeckState, head: &[u8], a: &[u8], m: &[u8], closing: u8) -> Compressed
+pub fn append_metadata(
+    d: DeckState,
+    head: &[u8],
+    a: &[u8],
+    m: &[u8],
+    closing: u8,
+    four: bool,
+) -> Compressed
     requires { ⌜ (0 < closing) × (length (now head) ≤ 17) × (length (now a) ≤ 16384) × (d .index ≤ 1048576) ⌝ }
     ensures { λ r. ⌜ r ≡ compressedIf (not (isEmpty (now (head .entry) ++ now (a .entry))) || isEmpty (now (m .entry))) d
         (closedBy (now (head .entry) ++ now (a .entry)) closing) ⌝ }
 {
     if head.len() != 0 {
-        return joined::compress_joined(d, head, a, closing);
+        return joined4::compress_joined_by(d, head, a, closing, four);
     }
     if a.len() != 0 {
-        return xoofff::compress(d, a, closing);
+        return compress4::compress_by(d, a, closing, four);
     }
     if m.len() == 0 {
-        return xoofff::compress(d, a, closing);
+        return compress4::compress_by(d, a, closing, four);
     }
     Compressed { state: d, count: 0 }
 }
 
 // The history gains a text, with this closing byte, if it is not empty.
-pub fn append_text(d: DeckState, text: &[u8], closing: u8) -> Compressed
+pub fn append_text(d: DeckState, text: &[u8], closing: u8, four: bool) -> Compressed
     requires { ⌜ (0 < closing) × (length (now text) ≤ 16401) × (d .index ≤ 1048576) ⌝ }
     ensures { λ r. ⌜ r ≡ compressedIf (not (isEmpty (now (text .entry)))) d (closedBy (now (text .entry)) closing) ⌝ }
 {
     if text.len() == 0 {
         return Compressed { state: d, count: 0 };
     }
-    xoofff::compress(d, text, closing)
+    compress4::compress_by(d, text, closing, four)
 }
 
 // ---- tag and keystream
 
 // Adds the output for a history to a buffer, from the output's byte `offset` on; gives the permutations done.
-pub fn add_output(d: DeckState, offset: usize, buffer: &mut [u8]) -> u32
+pub fn add_output(d: DeckState, offset: usize, buffer: &mut [u8], four: bool) -> u32
     requires { ⌜ offset + length (now buffer) ≤ 65536 ⌝ }
     ensures { λ r. ⌜ (now (buffer .exit) ≡ sum (now (buffer .entry)) (run (output d) offset (length (now (buffer .entry)))))
         × (r ≡ outputCount offset (length (now (buffer .entry)))) ⌝ }
@@ -114,7 +122,7 @@ pub fn add_output(d: DeckState, offset: usize, buffer: &mut [u8]) -> u32
     let acc = d.acc;
     let mask = d.mask;
     let y = xoodoo::permute(acc);
-    xoofff::expand(y, &mask, offset, buffer) + 1
+    expand4::expand_by(y, &mask, offset, buffer, four) + 1
 }
 
 // The tag of a history fills a buffer; gives the permutations done.
@@ -124,18 +132,18 @@ pub fn tag_of(d: DeckState, tag: &mut [u8]) -> u32
 {
     let n = tag.len();
     clear(tag, n);
-    add_output(d, 0, tag)
+    add_output(d, 0, tag, false)
 }
 
 // A text plus the keystream of a history from byte `offset` on goes to the start of a buffer; gives the permutations done.
-pub fn add_keystream(d: DeckState, offset: usize, text: &[u8], out: &mut [u8]) -> u32
+pub fn add_keystream(d: DeckState, offset: usize, text: &[u8], out: &mut [u8], four: bool) -> u32
     requires { ⌜ (offset + length (now text) ≤ 65536) × (length (now text) ≤ length (now out)) ⌝ }
     ensures { λ r. ⌜ (now (out .exit) ≡ written (sum (now (text .entry)) (run (output d) offset (length (now (text .entry))))) (now (out .entry)))
         × (r ≡ outputCount offset (length (now (text .entry)))) ⌝ }
 {
     let n = text.len();
     copy(text, out);
-    add_output(d, offset, &mut out[..n])
+    add_output(d, offset, &mut out[..n], four)
 }
 
 // ---- buffers

@@ -16,12 +16,12 @@ use Rattle.steps.proofs.add_output.Tie as tie
 add-result : tie.Need-add-result
 add-result c =
     let a = c .before .before .before .before .before .before .before .before .before .args in
-    omega (arith, blocks-most (a .offset) (length (now (a .buffer))), c .before .before .expand .ensures .1)
+    omega (arith, blocks-most (a .offset) (length (now (a .buffer))), c .before .before .expand-by .ensures .1)
 
 returns : tie.Need-returns
 unfolding output
 returns c =
-    let x = c .before .before .expand in
+    let x = c .before .before .expand-by in
     let a = c .before .before .before .before .before .before .before .before .before .args in
     let o = now (a .buffer) in (
       x .ensures .0
