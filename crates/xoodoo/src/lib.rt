@@ -128,14 +128,14 @@ fn rho_east(a: [u32; 12]) -> [u32; 12]
 }
 
 // One round, with the constant c.
-fn round_step(a: [u32; 12], c: u32) -> [u32; 12]
+pub fn round_step(a: [u32; 12], c: u32) -> [u32; 12]
     ensures { λ r. ⌜ r ≡ round c a ⌝ }
 {
     rho_east(chi_step(iota_step(rho_west(theta_step(a)), c)))
 }
 
 // The round constants, in the order of the rounds.
-const CONSTANTS: [u32; 6] = [0x60, 0x2C, 0x380, 0xF0, 0x1A0, 0x12];
+pub const CONSTANTS: [u32; 6] = [0x60, 0x2C, 0x380, 0xF0, 0x1A0, 0x12];
 
 // The permutation Xoodoo[6].
 pub fn permute(a: [u32; 12]) -> [u32; 12]

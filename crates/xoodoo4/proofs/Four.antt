@@ -1,0 +1,196 @@
+-- Four states side by side: what is put in is what is taken out, and steps done to each of the four follow one another. Assumes nothing.
+use mathlib.Core.Path.{_≡_, refl, sym, ap, ap₂, _∙_}
+use mathlib.Core.List.{List, []}
+use Prim.Native.Nat.{ℕ, zero, suc, _+_, _*_, _/_, _%_, _≤_, _<_}
+use native.Mathlib.Decide.{decLe}
+use native.Mathlib.Numerals.{add-one}
+use native.Mathlib.Omega.{arith}
+use lib.Dec.{lit<}
+use lib.ListN.{length, getD, set, drop, length-set}
+use lib.Seq.{getD-set-same, getD-set-other}
+use Rattle.word.proofs.Lists.{tabulate-length, tabulate-at, tabulate-ext, tabulate-is}
+use Rattle.xoodoo.specs.Xoodoo.{round, rounds}
+use Rattle.state.proofs.Lanes.{lanes-length}
+use Rattle.xoodoo.proofs.Steps.{rounds-more}
+use Rattle.xoodoo4.specs.Four.{part, put, beside, four, each}
+
+-- ---- one more lane of state j is stored
+
+pub put-none : (j : ℕ) (s w : List ℕ) → put 0 j s w ≡ w
+unfolding put
+put-none j s w = refl
+
+pub put-more : (i j : ℕ) (s w : List ℕ) → put (i + 1) j s w ≡ set (put i j s w) (4 * i + j) (getD s i 0)
+unfolding put
+put-more i j s w = ap (λ (n : ℕ). put n j s w) (add-one i)
+
+put-length : (i j : ℕ) (s w : List ℕ) → length (put i j s w) ≡ length w
+unfolding put
+put-length zero j s w = refl
+put-length (suc i) j s w = length-set (put i j s w) (4 * i + j) (getD s i 0) ∙ put-length i j s w
+
+-- the lanes that are stored
+put-here : (i j : ℕ) (s w : List ℕ) → j < 4 → i ≤ 12 → length w ≡ 48 → (k : ℕ) → k < i → getD (put i j s w) (4 * k + j) 0 ≡ getD s k 0
+unfolding put
+put-here zero j s w hj hi hw k hk = absurd (omega arith)
+put-here (suc i) j s w hj hi hw k hk = go (decLe i k) (put-here i j s w hj (omega arith) hw k)
+  where
+    go : Dec (i ≤ k) → (k < i → getD (put i j s w) (4 * k + j) 0 ≡ getD s k 0) → getD (set (put i j s w) (4 * i + j) (getD s i 0)) (4 * k + j) 0 ≡ getD s k 0
+    go (yes p) f =
+        let q : k ≡ i = omega arith in
+        ap (λ (n : ℕ). getD (set (put i j s w) (4 * i + j) (getD s i 0)) (4 * n + j) 0) q
+        ∙ getD-set-same (put i j s w) (4 * i + j) (getD s i 0) 0 (omega (arith, put-length i j s w))
+        ∙ ap (λ (n : ℕ). getD s n 0) (sym q)
+    go (no p) f = getD-set-other (put i j s w) (4 * i + j) (4 * k + j) (getD s i 0) 0 (λ q. omega (arith, q, p)) ∙ f (omega (arith, p))
+
+-- the other states' lanes
+put-rest : (i j : ℕ) (s w : List ℕ) (k : ℕ) → j < 4 → k < 4 → (k ≡ j → ⊥) → (n : ℕ) → getD (put i j s w) (4 * n + k) 0 ≡ getD w (4 * n + k) 0
+unfolding put
+put-rest zero j s w k hj hk ne n = refl
+put-rest (suc i) j s w k hj hk ne n =
+    getD-set-other (put i j s w) (4 * i + j) (4 * n + k) (getD s i 0) 0 (λ q. ne (omega (arith, q))) ∙ put-rest i j s w k hj hk ne n
+
+-- ---- what is put in is what is taken out
+
+pub part-length : (j : ℕ) (w : List ℕ) → length (part j w) ≡ 12
+unfolding part
+part-length j w = tabulate-length 12 _
+
+-- a state by its lanes
+is-part : (j : ℕ) (s w : List ℕ) → length s ≡ 12 → ((i : ℕ) → i < 12 → getD s i 0 ≡ getD w (4 * i + j) 0) → s ≡ part j w
+unfolding part
+is-part j s w h e = tabulate-is 12 _ s h e
+
+part-at : (j : ℕ) (w : List ℕ) (i : ℕ) → i < 12 → getD (part j w) i 0 ≡ getD w (4 * i + j) 0
+unfolding part
+part-at j w i h = tabulate-at 12 _ i h
+
+pub put-same : (j : ℕ) (s w : List ℕ) → j < 4 → length s ≡ 12 → length w ≡ 48 → part j (put 12 j s w) ≡ s
+put-same j s w hj hs hw = sym (is-part j s (put 12 j s w) hs (λ i h. sym (put-here 12 j s w hj (omega arith) hw i h)))
+
+pub put-other : (j k : ℕ) (s w : List ℕ) → j < 4 → k < 4 → (k ≡ j → ⊥) → part k (put 12 j s w) ≡ part k w
+put-other j k s w hj hk ne =
+    is-part k (part k (put 12 j s w)) w (part-length k (put 12 j s w)) (λ i h. part-at k (put 12 j s w) i h ∙ put-rest 12 j s w k hj hk ne i)
+
+pub put-all : (j : ℕ) (s w : List ℕ) → length w ≡ 48 → length (put 12 j s w) ≡ 48
+put-all j s w h = put-length 12 j s w ∙ h
+
+pub beside-part : (f : ℕ → List ℕ) (j : ℕ) → j < 4 → length (f j) ≡ 12 → part j (beside f) ≡ f j
+unfolding beside
+beside-part f j hj hf = sym (is-part j (f j) (beside f) hf at)
+  where
+    at : (i : ℕ) → i < 12 → getD (f j) i 0 ≡ getD (beside f) (4 * i + j) 0
+    at i h =
+        let r : j ≡ (4 * i + j) % 4 = omega arith in
+        let q : i ≡ (4 * i + j) / 4 = omega arith in
+        ap₂ (λ (k m : ℕ). getD (f k) m 0) r q ∙ sym (tabulate-at 48 (λ n. getD (f (n % 4)) (n / 4) 0) (4 * i + j) (omega arith))
+
+-- 48 lanes by their four states
+pub is-beside : (f : ℕ → List ℕ) (w : List ℕ) → length w ≡ 48 → ((j : ℕ) → j < 4 → part j w ≡ f j) → w ≡ beside f
+unfolding beside
+is-beside f w h e = tabulate-is 48 _ w h at
+  where
+    at : (n : ℕ) → n < 48 → getD w n 0 ≡ getD (f (n % 4)) (n / 4) 0
+    at n l =
+        let d : n ≡ 4 * (n / 4) + n % 4 = omega arith in
+        ap (λ (m : ℕ). getD w m 0) d ∙ sym (part-at (n % 4) w (n / 4) (omega arith)) ∙ ap (λ (s : List ℕ). getD s (n / 4) 0) (e (n % 4) (omega arith))
+
+-- ---- steps done to each of the four
+
+pub each-part : (F : List ℕ → List ℕ) → ((l : List ℕ) → length (F l) ≡ 12) → (j : ℕ) (w : List ℕ) → j < 4 → part j (each F w) ≡ F (part j w)
+unfolding each
+each-part F h j w l = beside-part (λ j. F (part j w)) j l (h (part j w))
+
+-- done to four states that were put side by side
+pub each-beside : (F : List ℕ → List ℕ) → ((l : List ℕ) → length (F l) ≡ 12) → (f : ℕ → List ℕ) (j : ℕ) → j < 4 → length (f j) ≡ 12
+    → part j (each F (beside f)) ≡ F (f j)
+each-beside F h f j l hf = each-part F h j (beside f) l ∙ ap F (beside-part f j l hf)
+
+-- F of t's states is G of w's
+each-ext : (F G : List ℕ → List ℕ) (t w : List ℕ) → ((j : ℕ) → j < 4 → F (part j t) ≡ G (part j w)) → each F t ≡ each G w
+unfolding each beside
+each-ext F G t w e = tabulate-ext 48 _ _ (λ n h. ap (λ (s : List ℕ). getD s (n / 4) 0) (e (n % 4) (omega arith)))
+
+-- 48 lanes whose states are F of w's
+pub is-each : (F : List ℕ → List ℕ) (w r : List ℕ) → length r ≡ 48 → ((j : ℕ) → j < 4 → part j r ≡ F (part j w)) → r ≡ each F w
+unfolding each
+is-each F w r h e = is-beside (λ j. F (part j w)) r h e
+
+-- ---- the code's steps
+
+-- what a store of another state leaves
+kept : (j k : ℕ) (s w : List ℕ) {v : List ℕ} → v ≡ put 12 j s w → j < 4 → k < 4 → (k ≡ j → ⊥) → part k v ≡ part k w
+kept j k s w e hj hk ne = ap (part k) e ∙ put-other j k s w hj hk ne
+
+-- four states put in one after another
+pub four-put : (a b c d w : List ℕ) {t u v x : List ℕ} → length w ≡ 48 → length a ≡ 12 → length b ≡ 12 → length c ≡ 12 → length d ≡ 12
+    → t ≡ put 12 0 a w → u ≡ put 12 1 b t → v ≡ put 12 2 c u → x ≡ put 12 3 d v → x ≡ beside (four a b c d)
+four-put a b c d w {t} {u} {v} {x} hw ha hb hc hd et eu ev ex = is-beside (four a b c d) x hx at
+  where
+    ht : length t ≡ 48
+    ht = ap length et ∙ put-all 0 a w hw
+
+    hu : length u ≡ 48
+    hu = ap length eu ∙ put-all 1 b t ht
+
+    hv : length v ≡ 48
+    hv = ap length ev ∙ put-all 2 c u hu
+
+    hx : length x ≡ 48
+    hx = ap length ex ∙ put-all 3 d v hv
+
+    at : (j : ℕ) → j < 4 → part j x ≡ four a b c d j
+    at zero h =
+        kept 3 0 d v ex (lit< tt) (lit< tt) (λ q. omega (arith, q))
+        ∙ kept 2 0 c u ev (lit< tt) (lit< tt) (λ q. omega (arith, q))
+        ∙ kept 1 0 b t eu (lit< tt) (lit< tt) (λ q. omega (arith, q))
+        ∙ ap (part 0) et ∙ put-same 0 a w (lit< tt) ha hw
+    at (suc zero) h =
+        kept 3 1 d v ex (lit< tt) (lit< tt) (λ q. omega (arith, q))
+        ∙ kept 2 1 c u ev (lit< tt) (lit< tt) (λ q. omega (arith, q))
+        ∙ ap (part 1) eu ∙ put-same 1 b t (lit< tt) hb ht
+    at (suc (suc zero)) h = kept 3 2 d v ex (lit< tt) (lit< tt) (λ q. omega (arith, q)) ∙ ap (part 2) ev ∙ put-same 2 c u (lit< tt) hc hu
+    at (suc (suc (suc zero))) h = ap (part 3) ex ∙ put-same 3 d v (lit< tt) hd hv
+    at (suc (suc (suc (suc j)))) h = absurd (omega arith)
+
+-- the first j states of r are F of w's
+pub record Done (F : List ℕ → List ℕ) (w : List ℕ) (j : ℕ) (r : List ℕ) : Type 0 where
+  pub size : length r ≡ 48
+  pub parts : (k : ℕ) → k < j → part k r ≡ F (part k w)
+
+pub done-none : (F : List ℕ → List ℕ) (w r : List ℕ) → length r ≡ 48 → Done F w 0 r
+done-none F w r h = record { size = h; parts = λ k l. absurd (omega arith) }
+
+pub done-more : (F : List ℕ → List ℕ) (w : List ℕ) (j : ℕ) (r s : List ℕ) {t : List ℕ} → j < 4 → length s ≡ 12 → s ≡ F (part j w) → t ≡ put 12 j s r
+    → Done F w j r → Done F w (j + 1) t
+done-more F w j r s {t} hj hs es et d = record { size = ap length et ∙ put-all j s r (d .size); parts = λ k l. go k l (decLe j k) }
+  where
+    go : (k : ℕ) → k < j + 1 → Dec (j ≤ k) → part k t ≡ F (part k w)
+    go k l (yes p) =
+        let q : k ≡ j = omega arith in
+        ap (λ (n : ℕ). part n t) q ∙ ap (part j) et ∙ put-same j s r hj hs (d .size) ∙ es ∙ ap (λ (n : ℕ). F (part n w)) (sym q)
+    go k l (no p) = kept j k s r et hj (omega arith) (λ q. omega (arith, q, p)) ∙ d .parts k (omega (arith, p))
+
+pub done-all : (F : List ℕ → List ℕ) (w r : List ℕ) → Done F w 4 r → r ≡ each F w
+done-all F w r d = is-each F w r (d .size) (d .parts)
+
+-- ---- the rounds of the four
+
+round-length : (c : ℕ) (l : List ℕ) → length (round c l) ≡ 12
+unfolding round
+round-length c l = lanes-length _
+
+-- none is left
+pub rounds-none : (w : List ℕ) → length w ≡ 48 → w ≡ each (rounds []) w
+unfolding rounds
+rounds-none w h = is-each (rounds []) w w h (λ j l. refl)
+
+-- one more, by the next constant
+pub rounds-each : (cs : List ℕ) (i : ℕ) (w t : List ℕ) → i < length cs → t ≡ each (round (getD cs i 0)) w
+    → each (rounds (drop (i + 1) cs)) t ≡ each (rounds (drop i cs)) w
+rounds-each cs i w t h e =
+    each-ext (rounds (drop (i + 1) cs)) (rounds (drop i cs)) t w
+    (λ j l.
+    ap (λ (v : List ℕ). rounds (drop (i + 1) cs) (part j v)) e
+    ∙ ap (rounds (drop (i + 1) cs)) (each-part (round (getD cs i 0)) (round-length (getD cs i 0)) j w l)
+    ∙ rounds-more cs i (part j w) (round (getD cs i 0) (part j w)) h refl)

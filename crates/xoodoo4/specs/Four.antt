@@ -1,0 +1,29 @@
+-- Four states side by side in 48 lanes: lane i of state j stands at place 4 i + j. Assumes nothing.
+use mathlib.Core.List.{List}
+use Prim.Native.Nat.{ℕ, zero, suc, _+_, _*_, _/_, _%_}
+use lib.ListN.{getD, set}
+use Rattle.word.specs.Lists.{tabulate}
+
+-- state j of the four
+unfoldable pub part : ℕ → List ℕ → List ℕ
+part j w = tabulate 12 (λ i. getD w (4 * i + j) 0)
+
+-- the first n lanes of state j become those of s, one after another
+unfoldable pub put : (n j : ℕ) (s w : List ℕ) → List ℕ
+put zero j s w = w
+put (suc i) j s w = set (put i j s w) (4 * i + j) (getD s i 0)
+
+-- the states f 0, f 1, f 2 and f 3, side by side
+unfoldable pub beside : (ℕ → List ℕ) → List ℕ
+beside f = tabulate 48 (λ n. getD (f (n % 4)) (n / 4) 0)
+
+-- a, b, c and d as states 0, 1, 2 and 3
+abbrev pub four : (a b c d : List ℕ) → ℕ → List ℕ
+four a b c d zero = a
+four a b c d (suc zero) = b
+four a b c d (suc (suc zero)) = c
+four a b c d (suc (suc (suc j))) = d
+
+-- F done to each of the four
+unfoldable pub each : (List ℕ → List ℕ) → List ℕ → List ℕ
+each F w = beside (λ j. F (part j w))
