@@ -1,30 +1,23 @@
 -- Four output blocks at a time are one after another, and parts of a buffer that have their sums make a whole that has. Assumes nothing.
 use mathlib.Core.Path.{_≡_, refl, sym, ap, ap₂, _∙_, subst}
-use mathlib.Core.Bool.{Bool}
-use mathlib.Core.List.{List, [], _∷_, _++_}
-use Prim.Native.Nat.{ℕ, zero, suc, _+_, _*_, _-_, _/_, _%_, _^_, _<_, _≤_, min}
+use mathlib.Core.List.{List, _++_}
+use Prim.Native.Nat.{ℕ, zero, suc, _+_, _*_, _-_, _/_, _%_, _<_, _≤_, min}
 use native.Mathlib.Nat.{zero-add}
 use native.Mathlib.Omega.{arith}
-use lib.Bits.{bitXor}
 use lib.Dec.{lit<}
-use lib.ListN.{length, getD, set, take, drop, length-append, length-take, length-drop, List·getD-append}
-use lib.Seq.{getD-append-add, getD-take, getD-drop, length-take-le}
-use Rattle.word.specs.Word.{bit, _⊕_}
-use Rattle.word.specs.Lists.{sum}
-use Rattle.word.proofs.Bit.{bit-xor, bit-ofBits, is-word, is-more, is-part, is-own, is-xor}
-use Rattle.word.proofs.Lists.{sum-at, sum-length, tabulate-at, tabulate-length}
+use lib.ListN.{length, take, drop, length-take, length-drop}
+use Rattle.word.specs.Lists.{tabulate, sum}
+use Rattle.state.specs.Bytes.{stateByte}
 use Rattle.xoodoo.specs.Xoodoo.{perm}
+use Rattle.xoodoo.proofs.Facts.{perm-length}
 use Rattle.rolling.specs.Rolling.{rollOut}
-use Rattle.state.specs.Bytes.{byteBit, stateByte}
-use Rattle.state.specs.State.{lane}
-use Rattle.state.proofs.Bytes.{byte-of}
-use Rattle.xoodoo.proofs.Facts.{perm-length, rollOut-length}
+use Rattle.rolling.proofs.Facts.{rollOut-length}
 use Rattle.xoodoo4.specs.Four.{part, beside, four, each}
 use Rattle.xoodoo4.proofs.Four.{each-beside}
-use Rattle.xoofff.specs.Deck.{iterate, outputBlock, outputByte, run}
+use Rattle.deck.specs.Deck.{iterate, outputBlock, outputByte, run}
+use Rattle.deck.proofs.Deck.{iterate-add}
 use Rattle.xoofff.specs.Leaves.{outputBlocks, Added}
-use Rattle.xoofff.proofs.Deck.{iterate-add}
-use Rattle.xoofff.proofs.Leaves.{added-none, added-byte, added-on, added-all, blocks-of, no-blocks}
+use Rattle.xoofff.proofs.Leaves.{added-none, added-on, added-part, added-all, blocks-of, no-blocks}
 
 -- ---- the output of a rolled state is the output from a later block on
 pub rolled-byte : (y k′ z : List ℕ) (i p k n : ℕ) → z ≡ iterate i rollOut y → p ≡ 48 * i → n ≡ p + k → outputByte z k′ k ≡ outputByte y k′ n
@@ -87,16 +80,7 @@ four-added z k′ at {z₁} {z₂} {z₃} {v} {w} {o} {o₁} {o₂} {o₃} {o₄
     p₃ : part 3 w ≡ perm (iterate 3 rollOut z)
     p₃ = at-part 3 (lit< tt) (ap length e₃ ∙ rollOut-length z₂) ∙ ap perm (e₃ ∙ ap rollOut (e₂ ∙ ap rollOut e₁))
 
--- ---- parts of a buffer
-
--- the bytes of a sum with a run
-sum-run : (f : ℕ → ℕ) (i : ℕ) (o : List ℕ) (k : ℕ) → k < length o → getD (sum o (run f i (length o))) k 0 ≡ bitXor (getD o k 0) (f (i + k))
-sum-run f i o k h =
-    let n : length (run f i (length o)) ≡ length o = tabulate-length (length o) (λ j. f (i + j)) in
-    sum-at o (run f i (length o)) k h (omega arith) ∙ ap (bitXor (getD o k 0)) (tabulate-at (length o) (λ j. f (i + j)) k h)
-
-sum-run-length : (f : ℕ → ℕ) (i : ℕ) (o : List ℕ) → length (sum o (run f i (length o))) ≡ length o
-sum-run-length f i o = sum-length o (run f i (length o)) (omega (arith, tabulate-length (length o) (λ j. f (i + j))))
+-- ---- counts
 
 -- the output blocks of two runs, where the second starts a block or is empty
 pub blocks-split : (i m n : ℕ) → (0 < n → (i + m) % 48 ≡ 0) → outputBlocks i m + outputBlocks 0 n ≡ outputBlocks i (m + n)
@@ -125,62 +109,6 @@ blocks-skip i (suc n) = omega (arith, blocks-of (i % 48) (suc n) (omega arith), 
 
 pub same-added : (at n : ℕ) {l m o o′ : List ℕ} → l ≡ m → Added (stateByte l) at n o o′ → Added (stateByte m) at n o o′
 same-added at n {o = o} {o′ = o′} e a = subst (λ (l : List ℕ). Added (stateByte l) at n o o′) e a
-
--- one more byte, by what it was before the others
-added-next : (f : ℕ → ℕ) (at i p : ℕ) (o o′ : List ℕ) (v : ℕ) → p ≡ at + i → p < length o → v ≡ bitXor (getD o p 0) (f i) → Added f at i o o′
-    → Added f at (i + 1) o (set o′ p v)
-added-next f at i p o o′ v ep h e d =
-    subst (λ (n : ℕ). Added f at (i + 1) o (set o′ n v)) (sym ep)
-    (added-byte f at i o o′ v (omega arith) (e ∙ ap (λ (n : ℕ). bitXor n (f i)) (ap (λ (n : ℕ). getD o n 0) ep ∙ sym (d .rest (at + i) (omega arith)))) d)
-
--- byte q of a lane
-abbrev pub laneByte : ℕ → ℕ → ℕ
-laneByte x q = x / 2 ^ (8 * q) % 2 ^ 8
-
--- byte q of the sum of four bytes, joined, and a lane
-joined-byte : (b₀ b₁ b₂ b₃ x j q b : ℕ) → q < 4 → b < 2 ^ 8 → b ≡ getD (b₀ ∷ b₁ ∷ b₂ ∷ b₃ ∷ []) q 0 → j ≡ lane (byteBit (b₀ ∷ b₁ ∷ b₂ ∷ b₃ ∷ []))
-    → laneByte (bitXor j x) q ≡ bitXor b (laneByte x q)
-joined-byte b₀ b₁ b₂ b₃ x j q b hq hb eb ej = is-word (is-more (is-part 8 (8 * q) (bitXor j x)) same) ∙ sym (is-word (is-xor (is-own hb) (is-part 8 (8 * q) x)))
-  where
-    l : List ℕ
-    l = b₀ ∷ b₁ ∷ b₂ ∷ b₃ ∷ []
-
-    same : (z : ℕ) → z < 8 → bit (bitXor j x) (8 * q + z) ≡ bit b z ⊕ bit x (8 * q + z)
-    same z h =
-        let d : (8 * q + z) / 8 ≡ q = omega arith in
-        let m : (8 * q + z) % 8 ≡ z = omega arith in
-        bit-xor j x (8 * q + z)
-        ∙ ap (λ (u : Bool). u ⊕ bit x (8 * q + z))
-        (ap (λ (n : ℕ). bit n (8 * q + z)) ej ∙ bit-ofBits 32 (byteBit l) (8 * q + z) (omega arith)
-        ∙ ap₂ (λ (n k : ℕ). bit (getD l n 0) k) d m ∙ ap (λ (n : ℕ). bit n z) (sym eb))
-
--- a lane's four bytes, as one word
-pub lane-added : (x at : ℕ) (o : List ℕ) {j : ℕ} → at + 4 ≤ length o → ((i : ℕ) → getD o i 0 < 2 ^ 8)
-    → j ≡ lane (byteBit (getD o at 0 ∷ getD o (at + 1) 0 ∷ getD o (at + 2) 0 ∷ getD o (at + 3) 0 ∷ []))
-    → Added (laneByte x) at 4 o
-    (set (set (set (set o at (bitXor j x % 256)) (at + 1) (bitXor j x / 256 % 256)) (at + 2) (bitXor j x / 65536 % 256)) (at + 3) (bitXor j x / 16777216 % 256))
-lane-added x at o {j} h w ej =
-    let y : ℕ = bitXor j x in
-    let z : y % 256 ≡ y / 2 ^ (8 * 0) % 2 ^ 8 = ap (λ (n : ℕ). n % 256) (omega arith) in
-    let d₀ = added-next f at 0 at o o (y % 256) (omega arith) (omega arith) (z ∙ byte 0 (getD o at 0) (lit< tt) (w at) refl) (added-none f at o) in
-    let d₁ = added-next f at 1 (at + 1) o _ (y / 256 % 256) refl (omega arith) (byte 1 (getD o (at + 1) 0) (lit< tt) (w (at + 1)) refl) d₀ in
-    let d₂ = added-next f at 2 (at + 2) o _ (y / 65536 % 256) refl (omega arith) (byte 2 (getD o (at + 2) 0) (lit< tt) (w (at + 2)) refl) d₁ in
-    added-next f at 3 (at + 3) o _ (y / 16777216 % 256) refl (omega arith) (byte 3 (getD o (at + 3) 0) (lit< tt) (w (at + 3)) refl) d₂
-  where
-    f : ℕ → ℕ
-    f = laneByte x
-
-    byte : (q b : ℕ) → q < 4 → b < 2 ^ 8 → b ≡ getD (getD o at 0 ∷ getD o (at + 1) 0 ∷ getD o (at + 2) 0 ∷ getD o (at + 3) 0 ∷ []) q 0
-        → laneByte (bitXor j x) q ≡ bitXor b (laneByte x q)
-    byte q b hq hb eb = joined-byte (getD o at 0) (getD o (at + 1) 0) (getD o (at + 2) 0) (getD o (at + 3) 0) x j q b hq hb eb ej
-
--- one more lane of a state
-pub lanes-more : (l : List ℕ) (at i : ℕ) (o o′ : List ℕ) {o″ : List ℕ} → Added (laneByte (getD l i 0)) (at + 4 * i) 4 o′ o″ → Added (stateByte l) at (4 * i) o o′
-    → Added (stateByte l) at (4 * (i + 1)) o o″
-lanes-more l at i o o′ {o″} a d =
-    let e : 4 * i + 4 ≡ 4 * (i + 1) = omega arith in
-    subst (λ (n : ℕ). Added (stateByte l) at n o o″) e
-    (added-on (stateByte l) (laneByte (getD l i 0)) at (4 * i) (at + 4 * i) 4 o o′ o″ refl (λ k h. byte-of l i k (laneByte (getD l i 0) k) h refl) d a)
 
 -- ---- groups of four blocks: the first n bytes of the buffer have their sums, and z is the state that the next block is made from
 pub record Groups (y k′ o : List ℕ) (n : ℕ) (z o′ : List ℕ) : Type 0 where
@@ -216,52 +144,9 @@ part-size a k o h = omega (arith, length-take k (drop a o), length-drop a o)
 
 pub part-added : (f : ℕ → ℕ) (i a k : ℕ) (o : List ℕ) {e : List ℕ} → a + k ≤ length o
     → e ≡ sum (take k (drop a o)) (run f i (length (take k (drop a o)))) → Added (λ j. f (i + j)) a k o (back a k o e)
-part-added f i a k o {e} h ee = record { size = size; sums = sums; front = front; rest = rest }
-  where
-    T : List ℕ
-    T = take a o
-
-    M : List ℕ
-    M = take k (drop a o)
-
-    R : List ℕ
-    R = drop k (drop a o)
-
-    hT : length T ≡ a
-    hT = length-take-le a o (omega arith)
-
-    hM : length M ≡ k
-    hM = part-size a k o h
-
-    he : length e ≡ k
-    he = ap length ee ∙ sum-run-length f i M ∙ hM
-
-    size : length (T ++ (e ++ R)) ≡ length o
-    size = omega (arith, length-append T (e ++ R), length-append e R, length-drop k (drop a o), length-drop a o, hT, he)
-
-    sums : (j : ℕ) → j < k → getD (T ++ (e ++ R)) (a + j) 0 ≡ bitXor (getD o (a + j) 0) (f (i + j))
-    sums j l =
-        ap (λ (n : ℕ). getD (T ++ (e ++ R)) (n + j) 0) (sym hT)
-        ∙ getD-append-add T (e ++ R) j 0
-        ∙ List·getD-append e R 0 j (omega (arith, he))
-        ∙ ap (λ (t : List ℕ). getD t j 0) ee
-        ∙ sum-run f i M j (omega (arith, hM))
-        ∙ ap (λ (n : ℕ). bitXor n (f (i + j))) (getD-take k (drop a o) j 0 l ∙ getD-drop a o j 0)
-
-    front : (j : ℕ) → j < a → getD (T ++ (e ++ R)) j 0 ≡ getD o j 0
-    front j l = List·getD-append T (e ++ R) 0 j (omega (arith, hT)) ∙ getD-take a o j 0 l
-
-    rest : (n : ℕ) → a + k ≤ n → getD (T ++ (e ++ R)) n 0 ≡ getD o n 0
-    rest n l =
-        let m : ℕ = n - (a + k) in
-        let p : n ≡ length T + (length e + m) = omega (arith, hT, he) in
-        let q : a + (k + m) ≡ n = omega arith in
-        ap (λ (t : ℕ). getD (T ++ (e ++ R)) t 0) p
-        ∙ getD-append-add T (e ++ R) (length e + m) 0
-        ∙ getD-append-add e R m 0
-        ∙ getD-drop k (drop a o) m 0
-        ∙ getD-drop a o (k + m) 0
-        ∙ ap (λ (t : ℕ). getD o t 0) q
+part-added f i a k o {e} h ee =
+    added-part (λ j. f (i + j)) a k o e h
+    (ee ∙ ap (λ (n : ℕ). sum (take k (drop a o)) (tabulate n (λ j. f (i + j)))) (part-size a k o h))
 
 -- ---- the groups and the leftover
 

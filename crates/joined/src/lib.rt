@@ -35,8 +35,8 @@ fn assemble(head: &[u8], s: &[u8], n: usize) -> [u8; 48]
 }
 
 // One more string, of the bytes of `head` followed by those of `s`, and this closing byte: the first block is assembled, and every other full
-// block is read where it stands in `s`.
-pub fn compress_joined(d: DeckState, head: &[u8], s: &[u8], closing: u8) -> Compressed
+// block is read where it stands in `s`, four at a time where `four` says so.
+pub fn compress_joined(d: DeckState, head: &[u8], s: &[u8], closing: u8, four: bool) -> Compressed
     requires { ⌜ (0 < closing) × (length (now head) ≤ 48) × (length (now head) + length (now s) ≤ 16401) × (d .index ≤ 1048576) ⌝ }
     ensures { λ r. ⌜ r ≡ compressed d (closedBy (now (head .entry) ++ now (s .entry)) closing) ⌝ }
 {
@@ -57,7 +57,7 @@ pub fn compress_joined(d: DeckState, head: &[u8], s: &[u8], closing: u8) -> Comp
         mask: rolled,
         index: d.index,
     };
-    let rest = xoofff::compress(first, &s[48 - h..], closing);
+    let rest = compress4::compress_by(first, &s[48 - h..], closing, four);
     let mut state = rest.state;
     state.index += 1;
     let count = rest.count + 1;

@@ -89,7 +89,7 @@ pub fn append_metadata(
         (closedBy (now (head .entry) ++ now (a .entry)) closing) ⌝ }
 {
     if head.len() != 0 {
-        return joined4::compress_joined_by(d, head, a, closing, four);
+        return joined::compress_joined(d, head, a, closing, four);
     }
     if a.len() != 0 {
         return compress4::compress_by(d, a, closing, four);

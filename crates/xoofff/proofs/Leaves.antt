@@ -147,73 +147,78 @@ added-byte f at i o o′ v h e d =
         ∙ ap (λ (n : ℕ). bitXor (getD o (at + n) 0) (f n)) q
     go k l (no p) = getD-set-other o′ (at + i) (at + k) v 0 (λ q. omega (arith, q, p)) ∙ d .sums k (omega (arith, p))
 
--- a second run directly after the first
-pub added-run : (f g : ℕ → ℕ) (m n : ℕ) (o o′ o″ : List ℕ) → ((k : ℕ) → k < n → g k ≡ f (m + k)) → Added f 0 m o o′ → Added g m n o′ o″ → Added f 0 (m + n) o o″
-added-run f g m n o o′ o″ e a d =
+-- a second run directly after the first, from place p on
+pub added-on : (f g : ℕ → ℕ) (at m p n : ℕ) (o o′ o″ : List ℕ) → p ≡ at + m → ((k : ℕ) → k < n → g k ≡ f (m + k))
+    → Added f at m o o′ → Added g p n o′ o″ → Added f at (m + n) o o″
+added-on f g at m p n o o′ o″ ep e a d =
     record {
       size = d .size ∙ a .size;
-      sums = λ k l. let z : 0 + k ≡ k = zero-add k in ap (λ (i : ℕ). getD o″ i 0) z ∙ go k l (decLe m k) ∙ ap (λ (i : ℕ). bitXor (getD o i 0) (f k)) (sym z);
-      front = λ k l. absurd (omega arith);
+      sums = λ k l. go k l (decLe m k);
+      front = λ k l. d .front k (omega arith) ∙ a .front k l;
       rest = λ k l. d .rest k (omega arith) ∙ a .rest k (omega arith);
     }
   where
-    go : (k : ℕ) → k < m + n → Dec (m ≤ k) → getD o″ k 0 ≡ bitXor (getD o k 0) (f k)
-    go k l (yes p) =
-        let q : k ≡ m + (k - m) = omega arith in
-        ap (λ (i : ℕ). getD o″ i 0) q
+    go : (k : ℕ) → k < m + n → Dec (m ≤ k) → getD o″ (at + k) 0 ≡ bitXor (getD o (at + k) 0) (f k)
+    go k l (yes q) =
+        let i : at + k ≡ p + (k - m) = omega arith in
+        let j : m + (k - m) ≡ k = omega arith in
+        ap (λ (h : ℕ). getD o″ h 0) i
         ∙ d .sums (k - m) (omega arith)
-        ∙ ap₂ bitXor (a .rest (m + (k - m)) (omega arith)) (e (k - m) (omega arith))
-        ∙ ap (λ (i : ℕ). bitXor (getD o i 0) (f i)) (sym q)
-    go k l (no p) =
-        let z : k ≡ 0 + k = sym (zero-add k) in
-        d .front k (omega (arith, p)) ∙ ap (λ (i : ℕ). getD o′ i 0) z ∙ a .sums k (omega (arith, p)) ∙ ap (λ (i : ℕ). bitXor (getD o i 0) (f k)) (sym z)
+        ∙ ap₂ bitXor (a .rest (p + (k - m)) (omega arith) ∙ ap (λ (h : ℕ). getD o h 0) (sym i)) (e (k - m) (omega arith) ∙ ap f j)
+    go k l (no q) = d .front (at + k) (omega (arith, q)) ∙ a .sums k (omega (arith, q))
 
--- a run that was added to the 48 bytes from place `at` on
-added-part : (f : ℕ → ℕ) (at : ℕ) (o b : List ℕ) → at + 48 ≤ length o → b ≡ sum (take 48 (drop at o)) (tabulate 48 f)
-    → Added f at 48 o (take at o ++ (b ++ drop 48 (drop at o)))
-added-part f at o b h e =
+-- a run that was added to the n bytes from place `at` on
+pub added-part : (f : ℕ → ℕ) (at n : ℕ) (o b : List ℕ) → at + n ≤ length o → b ≡ sum (take n (drop at o)) (tabulate n f)
+    → Added f at n o (take at o ++ (b ++ drop n (drop at o)))
+added-part f at n o b h e =
     record {
-      size = omega (arith, length-append (take at o) (b ++ drop 48 (drop at o)), length-append b (drop 48 (drop at o)), length-drop 48 (drop at o), length-drop at o, n, m);
+      size = omega (arith, length-append (take at o) (b ++ drop n (drop at o)), length-append b (drop n (drop at o)), length-drop n (drop at o), length-drop at o, p, m);
       sums = λ k l.
           behind k
-          ∙ List·getD-append b (drop 48 (drop at o)) 0 k (omega (arith, m))
+          ∙ List·getD-append b (drop n (drop at o)) 0 k (omega (arith, m))
           ∙ ap (λ (u : List ℕ). getD u k 0) e
-          ∙ sum-at (take 48 (drop at o)) (tabulate 48 f) k (omega (arith, t)) (omega (arith, tabulate-length 48 f))
-          ∙ ap₂ bitXor (getD-take 48 (drop at o) k 0 l ∙ getD-drop at o k 0) (tabulate-at 48 f k l);
-      front = λ k l. List·getD-append (take at o) (b ++ drop 48 (drop at o)) 0 k (omega (arith, n)) ∙ getD-take at o k 0 l;
+          ∙ sum-at (take n (drop at o)) (tabulate n f) k (omega (arith, t)) (omega (arith, tabulate-length n f))
+          ∙ ap₂ bitXor (getD-take n (drop at o) k 0 l ∙ getD-drop at o k 0) (tabulate-at n f k l);
+      front = λ k l. List·getD-append (take at o) (b ++ drop n (drop at o)) 0 k (omega (arith, p)) ∙ getD-take at o k 0 l;
       rest = λ k l.
-          let i : k ≡ at + (length b + (k - at - 48)) = omega (arith, m) in
-          let j : at + (48 + (k - at - 48)) ≡ k = omega arith in
-          ap (λ (u : ℕ). getD (take at o ++ (b ++ drop 48 (drop at o))) u 0) i
-          ∙ behind (length b + (k - at - 48))
-          ∙ getD-append-add b (drop 48 (drop at o)) (k - at - 48) 0
-          ∙ getD-drop 48 (drop at o) (k - at - 48) 0
-          ∙ getD-drop at o (48 + (k - at - 48)) 0
+          let i : k ≡ at + (length b + (k - at - n)) = omega (arith, m) in
+          let j : at + (n + (k - at - n)) ≡ k = omega arith in
+          ap (λ (u : ℕ). getD (take at o ++ (b ++ drop n (drop at o))) u 0) i
+          ∙ behind (length b + (k - at - n))
+          ∙ getD-append-add b (drop n (drop at o)) (k - at - n) 0
+          ∙ getD-drop n (drop at o) (k - at - n) 0
+          ∙ getD-drop at o (n + (k - at - n)) 0
           ∙ ap (λ (u : ℕ). getD o u 0) j;
     }
   where
-    n : length (take at o) ≡ at
-    n = length-take-le at o (omega arith)
+    p : length (take at o) ≡ at
+    p = length-take-le at o (omega arith)
 
-    t : length (take 48 (drop at o)) ≡ 48
-    t = length-take-le 48 (drop at o) (omega (arith, length-drop at o))
+    t : length (take n (drop at o)) ≡ n
+    t = length-take-le n (drop at o) (omega (arith, length-drop at o))
 
-    m : length b ≡ 48
-    m = ap length e ∙ sum-length (take 48 (drop at o)) (tabulate 48 f) (omega (arith, t, tabulate-length 48 f)) ∙ t
+    m : length b ≡ n
+    m = ap length e ∙ sum-length (take n (drop at o)) (tabulate n f) (omega (arith, t, tabulate-length n f)) ∙ t
 
-    behind : (k : ℕ) → getD (take at o ++ (b ++ drop 48 (drop at o))) (at + k) 0 ≡ getD (b ++ drop 48 (drop at o)) k 0
-    behind k = ap (λ (u : ℕ). getD (take at o ++ (b ++ drop 48 (drop at o))) (u + k) 0) (sym n) ∙ getD-append-add (take at o) (b ++ drop 48 (drop at o)) k 0
+    behind : (k : ℕ) → getD (take at o ++ (b ++ drop n (drop at o))) (at + k) 0 ≡ getD (b ++ drop n (drop at o)) k 0
+    behind k = ap (λ (u : ℕ). getD (take at o ++ (b ++ drop n (drop at o))) (u + k) 0) (sym p) ∙ getD-append-add (take at o) (b ++ drop n (drop at o)) k 0
 
--- the same of a block l that goes out whole, so from its first byte on: n is what is there from byte `skip` on and fits, and w bytes were lent
+-- the same of a block l that goes out whole, where w bytes were lent
+pub added-whole : (l : List ℕ) (at w : ℕ) (o b : List ℕ) → at + 48 ≤ length o → w ≡ 48 → b ≡ sum (take w (drop at o)) (toBytes l)
+    → Added (stateByte l) at 48 o (take at o ++ (b ++ drop w (drop at o)))
+added-whole l at w o b h ew eb =
+    subst (λ (v : ℕ). Added (stateByte l) at 48 o (take at o ++ (b ++ drop v (drop at o)))) (sym ew)
+    (added-part (stateByte l) at 48 o b h (eb ∙ ap (λ (v : ℕ). sum (take v (drop at o)) (toBytes l)) ew))
+
+-- so from its first byte on: n is what is there from byte `skip` on and fits
 pub added-block : (l : List ℕ) (skip at n w : ℕ) (o b : List ℕ) → n ≡ min (48 - skip) (length o - at) → 48 ≤ n → w ≡ 48
     → b ≡ sum (take w (drop at o)) (toBytes l) → Added (λ k. stateByte l (skip + k)) at n o (take at o ++ (b ++ drop w (drop at o)))
 added-block l skip at n w o b en h ew eb =
     let e : 48 ≡ n = omega arith in
     let z : 0 ≡ skip = omega arith in
-    subst (λ (v : ℕ). Added (λ k. stateByte l (skip + k)) at n o (take at o ++ (b ++ drop v (drop at o)))) (sym ew)
-    (subst (λ (v : ℕ). Added (λ k. stateByte l (skip + k)) at v o (take at o ++ (b ++ drop 48 (drop at o)))) e
+    subst (λ (v : ℕ). Added (λ k. stateByte l (skip + k)) at v o (take at o ++ (b ++ drop w (drop at o)))) e
     (added-same (stateByte l) (λ k. stateByte l (skip + k)) at 48 (λ k g. let i : k ≡ skip + k = omega arith in ap (stateByte l) i)
-    (added-part (stateByte l) at o b (omega arith) (eb ∙ ap (λ (v : ℕ). sum (take v (drop at o)) (toBytes l)) ew))))
+    (added-whole l at w o b (omega arith) ew eb))
 
 -- the whole buffer
 pub added-all : (f : ℕ → ℕ) (n : ℕ) (o o′ : List ℕ) → n ≡ length o → Added f 0 n o o′ → o′ ≡ sum o (tabulate (length o) f)
@@ -229,7 +234,7 @@ pub no-blocks : (i : ℕ) → 0 ≡ outputBlocks i 0
 unfolding outputBlocks
 no-blocks i = refl
 
-blocks-of : (i n : ℕ) → 0 < n → outputBlocks i n ≡ (i + (n - 1)) / 48 + 1 - i / 48
+pub blocks-of : (i n : ℕ) → 0 < n → outputBlocks i n ≡ (i + (n - 1)) / 48 + 1 - i / 48
 unfolding outputBlocks
 blocks-of i zero h = absurd (omega arith)
 blocks-of i (suc n) h = let e : n ≡ suc n - 1 = omega arith in ap (λ (k : ℕ). (i + k) / 48 + 1 - i / 48) e
@@ -262,7 +267,7 @@ expanded-more y k′ from o z o′ o″ m n count b t e h eb et d x =
     record {
       rolled = et ∙ ap rollOut (x .rolled) ∙ sym (iterate-more rollOut (from / 48 + count) y) ∙ ap (λ (j : ℕ). iterate j rollOut y) i;
       added =
-          added-run (λ k. outputByte y k′ (from + k)) (λ k. stateByte b ((from + m) % 48 + k)) m n o o′ o″
+          added-on (λ k. outputByte y k′ (from + k)) (λ k. stateByte b ((from + m) % 48 + k)) 0 m m n o o′ o″ (sym (zero-add m))
           (λ k l.
           let a : from + m + k ≡ from + (m + k) = omega arith in
           ap (λ (u : List ℕ). stateByte u ((from + m) % 48 + k)) eb

@@ -19,7 +19,7 @@ pub struct Compressed {
 }
 
 // The smaller of two numbers.
-fn smaller(a: usize, b: usize) -> usize
+pub fn smaller(a: usize, b: usize) -> usize
     ensures { λ r. ⌜ r ≡ min a b ⌝ }
 {
     if a < b {
@@ -95,7 +95,7 @@ pub fn compress(d: DeckState, s: &[u8], closing: u8) -> Compressed
 }
 
 // y after n output rollings.
-fn roll_by(y: [u32; 12], n: usize) -> [u32; 12]
+pub fn roll_by(y: [u32; 12], n: usize) -> [u32; 12]
     ensures { λ r. ⌜ r ≡ iterate n rollOut y ⌝ }
 {
     let mut z = y;

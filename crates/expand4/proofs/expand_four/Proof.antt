@@ -1,12 +1,12 @@
--- `xoofff4::expand_four` meets its contract. Assumes nothing.
+-- `expand4::expand_four` meets its contract. Assumes nothing.
 use native.Mathlib.Omega.{arith}
 use lib.ListN.{length}
 use denote.Ref.{now}
 use borrow.Author.Needs.{needs}
 use Rattle.xoofff.proofs.Leaves.{blocks-most}
-use Rattle.xoofff4.proofs.Expand.{whole-is}
-use Rattle.xoofff4.proofs.expand_four.Statement.{statement}
-use Rattle.xoofff4.proofs.expand_four.Tie as tie
+use Rattle.expand4.proofs.Expand.{whole-is}
+use Rattle.expand4.proofs.expand_four.Statement.{statement}
+use Rattle.expand4.proofs.expand_four.Tie as tie
 
 add-result : tie.Need-add-result
 add-result c =

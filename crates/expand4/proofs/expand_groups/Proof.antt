@@ -1,4 +1,4 @@
--- `xoofff4::expand_groups` meets its contract. The loop's invariant: the bytes below `at` have their sums, and z is the state that the next
+-- `expand4::expand_groups` meets its contract. The loop's invariant: the bytes below `at` have their sums, and z is the state that the next
 -- block is made from. Assumes nothing.
 use mathlib.Core.Path.{_≡_, _∙_}
 use Prim.Native.Nat.{_≤_, _+_, _-_}
@@ -6,11 +6,11 @@ use native.Mathlib.Omega.{arith}
 use lib.ListN.{length}
 use denote.Ref.{now}
 use borrow.Author.Needs.{needs}
-use Rattle.xoofff.specs.Deck.{outputByte}
+use Rattle.deck.specs.Deck.{outputByte}
 use Rattle.xoofff.proofs.Leaves.{blocks-most}
-use Rattle.xoofff4.proofs.Expand.{Groups, groups-none, groups-more, groups-all, groups-count, part-added, rest-blocks}
-use Rattle.xoofff4.proofs.expand_groups.Statement.{statement}
-use Rattle.xoofff4.proofs.expand_groups.Tie as tie
+use Rattle.expand4.proofs.Expand.{Groups, groups-none, groups-more, groups-all, groups-count, part-added, rest-blocks}
+use Rattle.expand4.proofs.expand_groups.Statement.{statement}
+use Rattle.expand4.proofs.expand_groups.Tie as tie
 
 abbrev Inv-loop : tie.InvT-loop
 Inv-loop mask out₀ z₀ at₀ out z at = (at ≤ length out₀) × Groups z₀ mask out₀ at z out

@@ -1,12 +1,12 @@
--- `xoofff4::four_out` meets its contract. Assumes nothing.
+-- `expand4::four_out` meets its contract. Assumes nothing.
 use mathlib.Core.Path.{_≡_}
 use native.Mathlib.Omega.{arith}
 use lib.ListN.{length}
 use denote.Ref.{now}
 use borrow.Author.Needs.{needs}
-use Rattle.xoofff4.proofs.Expand.{four-rolled, four-added}
-use Rattle.xoofff4.proofs.four_out.Statement.{statement}
-use Rattle.xoofff4.proofs.four_out.Tie as tie
+use Rattle.expand4.proofs.Expand.{four-rolled, four-added}
+use Rattle.expand4.proofs.four_out.Statement.{statement}
+use Rattle.expand4.proofs.four_out.Tie as tie
 
 returns : tie.Need-returns
 returns c =

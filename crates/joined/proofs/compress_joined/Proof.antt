@@ -28,16 +28,16 @@ returns c =
 add-state : tie.Need-add-state
 add-state c =
     let q = c .before .before .before .before .before .before .before .before .before .before .before .before .before .before in
-    omega (arith, q .pre .2, q .pre .3, compressed-index _ _ _ (c .before .before .compress2 .ensures), c .before .before .before .compress-arg .given)
+    omega (arith, q .pre .2, q .pre .3, compressed-index _ _ _ (c .before .before .compress-by .ensures), c .before .before .before .compress-by-arg .given)
 
 add-count : tie.Need-add-count
 add-count c =
     let q = c .before .before .before .before .before .before .before .before .before .before .before .before .before .before .before in
-    omega (arith, q .pre .2, compressed-count _ _ _ (c .before .before .before .compress2 .ensures), c .before .before .before .before .compress-arg .given)
+    omega (arith, q .pre .2, compressed-count _ _ _ (c .before .before .before .compress-by .ensures), c .before .before .before .before .compress-by-arg .given)
 
 returns-2 : tie.Need-returns-2
 returns-2 c =
-    let z = c .before .before .before .compress2 in
+    let z = c .before .before .before .compress-by in
     let m = c .before .before .before .before .before .roll-in in
     let k = c .before .before .before .before .before .before .add-block in
     let f = c .before .before .before .before .before .before .before .before .before .from-bytes in

@@ -11,7 +11,7 @@ use Rattle.steps.proofs.append_metadata.Tie as tie
 returns : tie.Need-returns
 returns c =
     let a = c .before .before .before .before .before .args in
-    headed-a (a .d) (c .compress-joined-by .result) (now (a .head)) (now (a .a)) (now (a .m)) (closedBy (now (a .head) ++ now (a .a)) (a .closing)) (c .before .if1 .taken) (c .compress-joined-by .ensures)
+    headed-a (a .d) (c .compress-joined .result) (now (a .head)) (now (a .a)) (now (a .m)) (closedBy (now (a .head) ++ now (a .a)) (a .closing)) (c .before .if1 .taken) (c .compress-joined .ensures)
 
 returns-2 : tie.Need-returns-2
 returns-2 c =
