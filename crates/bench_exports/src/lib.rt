@@ -47,3 +47,33 @@ pub extern "C" fn pevghazo_expand(y: &[u32; 12], mask: &[u32; 12], out: &mut [u8
 {
     xoofff::expand(*y, mask, 0, out)
 }
+
+// ---- the same two, with full blocks taken four side by side
+
+#[no_mangle]
+pub extern "C" fn pevghazo_compress_four(acc: &mut [u32; 12], mask: &mut [u32; 12], s: &[u8])
+    requires { ⌜ length (now s) ≤ 16401 ⌝ }
+    ensures { λ _. ⌜ (now (acc .exit) ≡ accAfter (now (acc .entry)) (now (mask .entry)) (now (s .entry)))
+        × (now (mask .exit) ≡ maskAfter (now (acc .entry)) (now (mask .entry)) (now (s .entry))) ⌝ }
+{
+    let d = DeckState {
+        acc: *acc,
+        mask: *mask,
+        index: 0,
+    };
+    let r = compress4::compress_four(d, s, 1);
+    let e = r.state;
+    let x = e.acc;
+    let k = e.mask;
+    *acc = x;
+    *mask = k;
+}
+
+#[no_mangle]
+pub extern "C" fn pevghazo_expand_four(y: &[u32; 12], mask: &[u32; 12], out: &mut [u8]) -> u32
+    requires { ⌜ length (now out) ≤ 65536 ⌝ }
+    ensures { λ r. ⌜ (now (out .exit) ≡ sum (now (out .entry)) (run (outputByte (now (y .entry)) (now (mask .entry))) 0 (length (now (out .entry)))))
+        × (r ≡ outputBlocks 0 (length (now (out .entry)))) ⌝ }
+{
+    expand4::expand_four(*y, mask, 0, out)
+}
