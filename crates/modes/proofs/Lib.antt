@@ -19,6 +19,7 @@ pub mod OneCall
 pub mod Demands
 pub mod Fresh
 pub mod SaneDemands
+pub mod EitherWay
 pub mod Envelopes
 pub mod Edges
 pub mod Leaves

@@ -17,6 +17,7 @@ pub mod Demand3
 pub mod Promises
 pub mod Demands
 pub mod SaneDemands
+pub mod EitherWay
 pub mod Fresh
 pub mod Envelopes
 pub mod Edges
