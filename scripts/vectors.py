@@ -3,6 +3,7 @@
 
 With --check nothing is written: the exit status is 1 where a file is not what the vectors give.
 """
+import itertools
 import os
 import sys
 
@@ -71,9 +72,10 @@ def xoofff_program():
 
 
 def sanse_program():
-    """Sessions of SANSE: both starts, wraps and unwraps at the two ends, and the records after each."""
+    """Sessions of SANSE: both starts, wraps and unwraps at the two ends, and the records after each; all of them with full blocks taken one after
+    the other, and once more with four side by side."""
     given, expected = b"", ""
-    for record in map(dict, records("sanse.txt")):
+    for blocks, record in itertools.product(b"14", map(dict, records("sanse.txt"))):
         op = record["op"]
         number = 11 if record.get("result") == "tag" else 0
         tag = data(record["T"]) if op != "start" else b""
@@ -85,7 +87,7 @@ def sanse_program():
             parts = (data(record["A"]), data(record["C"]))
             out = bytes(len(parts[1])) if number else data(record["M"])
         for end in "ab" if op == "start" else record["end"]:
-            given += op[0].upper().encode() + end.encode() + b"".join(len(p).to_bytes(2, "little") for p in parts)
+            given += op[0].upper().encode() + end.encode() + bytes([blocks]) + b"".join(len(p).to_bytes(2, "little") for p in parts)
             given += b"".join(parts) + (tag if op == "unwrap" else bytes(32))
             expected += f"{number} {record['count']} {record['index']} {record['e']}\n"
             expected += "".join(line + "\n" for line in (out.hex(), tag.hex(), record["acc"], record["mask"]))

@@ -76,7 +76,7 @@ pub asked-anywhere-says : (p : Promises sanseKind) (c : Codes sanseKind)
     → (g : CodeOutcome) × CodeRun sanseKind p c (map call cs ++ code x packet out ∷ map call ds) from os (g ∷ []) to)
 asked-anywhere-says p c = refl
 
--- ---- the claims
+-- ---- the claims; of lists, for each way to call wrap and unwrap: full blocks one after the other, or four side by side
 
 -- asked of any record
 pub any-code : AnyCodeOf sanseKind codes
@@ -87,20 +87,20 @@ pub one-code : OneCodeOf sanseKind codes
 one-code = one-code-of sanseKind codes code-is
 
 -- in every list of demand 3
-pub demand-3-with-codes : WithCodesOf sanseKind StartPromise promises codes
-demand-3-with-codes = with-codes-of start-is program code-is
+pub demand-3-with-codes : (four : Bool) → WithCodesOf sanseKind StartPromise (promises four) codes
+demand-3-with-codes four = with-codes-of start-is (program four) code-is
 
 -- both ends have the same codes where each message was delivered
-pub same-codes : SameCodesOf sanseKind StartPromise promises codes
-same-codes = same-codes-of start-is program code-is
+pub same-codes : (four : Bool) → SameCodesOf sanseKind StartPromise (promises four) codes
+same-codes four = same-codes-of start-is (program four) code-is
 
 -- a code changes nothing
-pub codes-change-nothing : SameRuns sanseKind promises codes
-codes-change-nothing = same-runs sanseKind codes code-is promises
+pub codes-change-nothing : (four : Bool) → SameRuns sanseKind (promises four) codes
+codes-change-nothing four = same-runs sanseKind codes code-is (promises four)
 
 -- every list of calls and codes has a run, and a code can be asked at every point of every list of calls
-pub code-run-exists : CodeRunsExist sanseKind promises codes
-code-run-exists = code-runs-exist sanseKind codes code-is run-exists
+pub code-run-exists : (four : Bool) → CodeRunsExist sanseKind (promises four) codes
+code-run-exists four = code-runs-exist sanseKind codes code-is (run-exists four)
 
-pub code-anywhere : AskedAnywhere sanseKind promises codes
-code-anywhere = asked-anywhere sanseKind codes code-is promises
+pub code-anywhere : (four : Bool) → AskedAnywhere sanseKind (promises four) codes
+code-anywhere four = asked-anywhere sanseKind codes code-is (promises four)

@@ -1,6 +1,7 @@
 // A call for one group of the office's table, by value: the group's own record goes in and comes back. The record is the group's session and,
 // beside it, its own day's count; the day's allowance is handed to each call. A call for an envelope has its header under the tag (document 02,
-// request 7); whether the header is the call's own, check 1, is the table's to ask.
+// request 7); whether the header is the call's own, check 1, is the table's to ask. `four` is whether full blocks are taken four side by side (request 10): it
+// alters nothing but the time.
 ghost use mathlib.Core.Path.{_≡_};
 ghost use Prim.Native.Nat.{_+_, _≤_};
 ghost use lib.ListN.{length};
@@ -219,12 +220,13 @@ pub fn wrap(
     message: &[u8],
     out: &mut [u8],
     tag: &mut [u8],
+    four: bool,
 ) -> GroupResult
     ensures { λ g. ⌜ groupResult g (now (out .exit)) (now (tag .exit))
         ≡ wrapOnDay allowance (recordOf r) (handed (now (metadata .entry)) (now (message .entry)) (now (out .entry)) (now (tag .entry))) ⌝ }
 {
     let none = &metadata[..0];
-    wrap_string(r, allowance, none, metadata, message, out, tag, false)
+    wrap_string(r, allowance, none, metadata, message, out, tag, four)
 }
 
 // Unwraps a cryptogram for a group. Checks 5 to 10, and 11, whose count is added to the group's.
@@ -235,10 +237,11 @@ pub fn unwrap(
     cryptogram: &[u8],
     tag: &[u8],
     out: &mut [u8],
+    four: bool,
 ) -> GroupResult
     ensures { λ g. ⌜ groupResult g (now (out .exit)) (now (tag .entry))
         ≡ unwrapOnDay allowance (recordOf r) (handed (now (metadata .entry)) (now (cryptogram .entry)) (now (out .entry)) (now (tag .entry))) ⌝ }
 {
     let none = &metadata[..0];
-    unwrap_string(r, allowance, none, metadata, cryptogram, tag, out, false)
+    unwrap_string(r, allowance, none, metadata, cryptogram, tag, out, four)
 }

@@ -46,7 +46,7 @@ pub fn no_group(records: usize, group: usize) -> bool
 }
 
 // Refused by 3: nothing counted.
-fn refused3() -> Answer
+pub fn refused3() -> Answer
     ensures { λ r. ⌜ r ≡ refused3 ⌝ }
 {
     Answer {
@@ -89,7 +89,7 @@ pub fn wrap_group(
     if no_group(table.len(), group) {
         return refused3();
     }
-    let r = groups::wrap(table[group], allowance, metadata, message, out, tag);
+    let r = groups::wrap(table[group], allowance, metadata, message, out, tag, false);
     table[group] = r.left;
     Answer {
         number: r.number,
@@ -114,7 +114,15 @@ pub fn unwrap_group(
     if no_group(table.len(), group) {
         return refused3();
     }
-    let r = groups::unwrap(table[group], allowance, metadata, cryptogram, tag, out);
+    let r = groups::unwrap(
+        table[group],
+        allowance,
+        metadata,
+        cryptogram,
+        tag,
+        out,
+        false,
+    );
     table[group] = r.left;
     Answer {
         number: r.number,

@@ -13,7 +13,7 @@ use session::Answer;
 // ---- checks 1 and 3
 
 // The first of the checks 1 and 3 that a call meets, or 0: by the number of records, the group, the header, and the lengths of metadata and text.
-fn first_check(records: usize, group: usize, header: &[u8], alen: usize, mlen: usize) -> u32
+pub fn first_check(records: usize, group: usize, header: &[u8], alen: usize, mlen: usize) -> u32
     ensures { λ r. ⌜ r ≡ tableCheck (fitsGroup letterS group alen mlen (now (header .entry))) (noGroup records group) ⌝ }
 {
     if !headers::fits_group(LETTER_S, group, header, alen, mlen) {
@@ -26,7 +26,7 @@ fn first_check(records: usize, group: usize, header: &[u8], alen: usize, mlen: u
 }
 
 // Refused: nothing counted.
-fn refused(number: u32) -> Answer
+pub fn refused(number: u32) -> Answer
     ensures { λ r. ⌜ r ≡ record { number = number; count = 0 } ⌝ }
 {
     Answer { number, count: 0 }
@@ -54,7 +54,16 @@ pub fn wrap_envelope_group(
     if number != 0 {
         return refused(number);
     }
-    let r = groups::wrap_string(table[group], allowance, header, metadata, message, out, tag);
+    let r = groups::wrap_string(
+        table[group],
+        allowance,
+        header,
+        metadata,
+        message,
+        out,
+        tag,
+        false,
+    );
     table[group] = r.left;
     Answer {
         number: r.number,
@@ -89,6 +98,7 @@ pub fn unwrap_envelope_group(
         cryptogram,
         tag,
         out,
+        false,
     );
     table[group] = r.left;
     Answer {

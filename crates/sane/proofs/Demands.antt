@@ -62,32 +62,36 @@ module _ (p : Promises saneKind) (s : SaneSession) (i : CallInput) (r : SaneResu
       → UnwrapClaim sanePaper key h e i (callResult r out tag)
   one-unwrap-says c key h e = c .unwraps key h e s i r out tag
 
--- ---- the demands
+-- ---- the demands, for each way to call wrap and unwrap: full blocks one after the other, or four side by side
 
 -- each promise, of calls of both sorts, is just the call's equation with the rules
-program : ByRules sane promises
-program =
-    both-by-rules (record { wraps = wrap-is; unwraps = unwrap-is })
-    (λ x. record { wraps = λ s i r out tag. wrap-envelope-is s i r out tag x; unwraps = λ s i r out tag. unwrap-envelope-is s i r out tag x })
+program : (four : Bool) → ByRules sane (promises four)
+program four =
+    both-by-rules (record { wraps = wrap-is four; unwraps = unwrap-is four })
+    (λ x.
+    record {
+      wraps = λ s i r out tag. wrap-envelope-is four s i r out tag x;
+      unwraps = λ s i r out tag. unwrap-envelope-is four s i r out tag x;
+    })
 
 -- demand 1: every start, and every call of any record
 pub one-start : NonceStartOf saneKind StartPromise
 one-start = nonce-start-of saneKind StartPromise start-is
 
-pub any-call : AnyCallOf saneKind sane promises
-any-call = any-call-of program
+pub any-call : (four : Bool) → AnyCallOf saneKind sane (promises four)
+any-call four = any-call-of (program four)
 
 -- demands 1 and 2: one call of the record of a history
-pub one-call : OneCallOf saneKind sanePaper promises
-one-call = one-call-of program sane-follows
+pub one-call : (four : Bool) → OneCallOf saneKind sanePaper (promises four)
+one-call four = one-call-of (program four) sane-follows
 
 -- an envelope whose group was changed on its way: another history, and 11 exactly where the tags differ
-pub readdressed : ReaddressedOf saneKind sanePaper promises
-readdressed = readdressed-of program sane-follows sane-readdressed
+pub readdressed : (four : Bool) → ReaddressedOf saneKind sanePaper (promises four)
+readdressed four = readdressed-of (program four) sane-follows sane-readdressed
 
 -- demand 3, one claim about the whole list
-pub demand-3 : SaneDemand3Of saneKind StartPromise promises
-demand-3 = sane-demand-3-of start-is program
+pub demand-3 : (four : Bool) → SaneDemand3Of saneKind StartPromise (promises four)
+demand-3 four = sane-demand-3-of start-is (program four)
 
 -- ---- what they speak of is there
 
@@ -112,5 +116,5 @@ start-exists = nonce-starts-exist whole StartPromise start-is
 pub accepted-start-exists : AcceptedStartsExist saneKind StartPromise
 accepted-start-exists = accepted-starts-exist whole StartPromise start-is
 
-pub run-exists : RunsExist saneKind promises
-run-exists = runs-exist (kept whole program)
+pub run-exists : (four : Bool) → RunsExist saneKind (promises four)
+run-exists four = runs-exist (kept whole (program four))

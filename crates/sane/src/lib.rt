@@ -1,5 +1,6 @@
 // Xoofff-SANE by value (document 02, request 2): start with a nonce, wrap and unwrap over a session record, without an envelope and for one, whose
 // header is under the tag then (request 7). A refused call leaves the record and the buffers as they were; a refused start gives a closed record.
+// `four` is whether full blocks are taken four side by side (request 10): it alters nothing but the time.
 ghost use mathlib.Core.Path.{_≡_};
 ghost use mathlib.Core.Bool.{_&&_, cond};
 ghost use mathlib.Core.List.{[], _∷_};
@@ -244,12 +245,13 @@ pub fn wrap(
     message: &[u8],
     out: &mut [u8],
     tag: &mut [u8],
+    four: bool,
 ) -> SaneResult
     ensures { λ r. ⌜ callResult r (now (out .exit)) (now (tag .exit))
         ≡ wrapAt sane incremental (stateOf s) (handed (now (metadata .entry)) (now (message .entry)) (now (out .entry)) (now (tag .entry))) ⌝ }
 {
     let none = &metadata[..0];
-    wrap_string(s, none, metadata, message, out, tag, false)
+    wrap_string(s, none, metadata, message, out, tag, four)
 }
 
 // Unwraps a cryptogram: the message goes to the start of `out`. Checks 5 to 9, and 11 for a tag that differs, whose 16 bytes are all compared.
@@ -259,12 +261,13 @@ pub fn unwrap(
     cryptogram: &[u8],
     tag: &[u8],
     out: &mut [u8],
+    four: bool,
 ) -> SaneResult
     ensures { λ r. ⌜ callResult r (now (out .exit)) (now (tag .entry))
         ≡ unwrapAt sane incremental (stateOf s) (handed (now (metadata .entry)) (now (cryptogram .entry)) (now (out .entry)) (now (tag .entry))) ⌝ }
 {
     let none = &metadata[..0];
-    unwrap_string(s, none, metadata, cryptogram, tag, out, false)
+    unwrap_string(s, none, metadata, cryptogram, tag, out, four)
 }
 
 // ---- calls for an envelope
@@ -278,6 +281,7 @@ pub fn wrap_envelope(
     message: &[u8],
     out: &mut [u8],
     tag: &mut [u8],
+    four: bool,
 ) -> SaneResult
     ensures { λ r. ⌜ callResult r (now (out .exit)) (now (tag .exit))
         ≡ wrapAt sane incremental (stateOf s) (handedFor (now (header .entry)) (now (metadata .entry)) (now (message .entry)) (now (out .entry)) (now (tag .entry))) ⌝ }
@@ -286,7 +290,7 @@ pub fn wrap_envelope(
         let d = deck_of(s);
         return result(1, 0, d, s.toggle, s.opened);
     }
-    wrap_string(s, header, metadata, message, out, tag, false)
+    wrap_string(s, header, metadata, message, out, tag, four)
 }
 
 // Unwraps the cryptogram of the envelope with this header. Check 1 where the header is not the layout's with letter N and the lengths of metadata
@@ -298,6 +302,7 @@ pub fn unwrap_envelope(
     cryptogram: &[u8],
     tag: &[u8],
     out: &mut [u8],
+    four: bool,
 ) -> SaneResult
     ensures { λ r. ⌜ callResult r (now (out .exit)) (now (tag .entry))
         ≡ unwrapAt sane incremental (stateOf s) (handedFor (now (header .entry)) (now (metadata .entry)) (now (cryptogram .entry)) (now (out .entry)) (now (tag .entry))) ⌝ }
@@ -306,5 +311,5 @@ pub fn unwrap_envelope(
         let d = deck_of(s);
         return result(1, 0, d, s.toggle, s.opened);
     }
-    unwrap_string(s, header, metadata, cryptogram, tag, out, false)
+    unwrap_string(s, header, metadata, cryptogram, tag, out, four)
 }

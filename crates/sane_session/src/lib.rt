@@ -29,7 +29,7 @@ pub fn wrap(
     ensures { λ r. ⌜ Wrapped (now (s .entry)) (handed (now (metadata .entry)) (now (message .entry)) (now (out .entry)) (now (tag .entry)))
         r (now (s .exit)) (now (out .exit)) (now (tag .exit)) ⌝ }
 {
-    let r = sane::wrap(*s, metadata, message, out, tag);
+    let r = sane::wrap(*s, metadata, message, out, tag, false);
     *s = r.session;
     Answer {
         number: r.number,
@@ -48,7 +48,7 @@ pub fn unwrap(
     ensures { λ r. ⌜ Unwrapped (now (s .entry)) (handed (now (metadata .entry)) (now (cryptogram .entry)) (now (out .entry)) (now (tag .entry)))
         r (now (s .exit)) (now (out .exit)) (now (tag .entry)) ⌝ }
 {
-    let r = sane::unwrap(*s, metadata, cryptogram, tag, out);
+    let r = sane::unwrap(*s, metadata, cryptogram, tag, out, false);
     *s = r.session;
     Answer {
         number: r.number,
@@ -72,7 +72,7 @@ pub fn wrap_envelope(
         (handedFor (now (header .entry)) (now (metadata .entry)) (now (message .entry)) (now (out .entry)) (now (tag .entry)))
         r (now (s .exit)) (now (out .exit)) (now (tag .exit)) ⌝ }
 {
-    let r = sane::wrap_envelope(*s, header, metadata, message, out, tag);
+    let r = sane::wrap_envelope(*s, header, metadata, message, out, tag, false);
     *s = r.session;
     Answer {
         number: r.number,
@@ -94,7 +94,7 @@ pub fn unwrap_envelope(
         (handedFor (now (header .entry)) (now (metadata .entry)) (now (cryptogram .entry)) (now (out .entry)) (now (tag .entry)))
         r (now (s .exit)) (now (out .exit)) (now (tag .entry)) ⌝ }
 {
-    let r = sane::unwrap_envelope(*s, header, metadata, cryptogram, tag, out);
+    let r = sane::unwrap_envelope(*s, header, metadata, cryptogram, tag, out, false);
     *s = r.session;
     Answer {
         number: r.number,

@@ -1,5 +1,6 @@
 -- What the program's functions promise: for each of the five, its clauses are just one equation with the rules, and it asks nothing of a
 -- call; and the promises by the functions' own `ensures`, as the modes' `Promises` has them. Assumes nothing.
+use mathlib.Core.Bool.{Bool}
 use mathlib.Core.List.{List, []}
 use mathlib.Core.Logic.{_↔_}
 use mathlib.Core.Path.{_≡_, refl, sym, ap, _∙_, subst}
@@ -129,44 +130,48 @@ pub record StartPromise (key : List ℕ) (r : CallResult) : Type 0 where
   pub isKey : now (args .0) ≡ key
   pub met : StartPost κs args r exits
 
--- a wrap that was handed the record s and i gave r, and left the output buffer and the tag
-pub record WrapPromise (s : Session) (i : CallInput) (r : CallResult) (out tag : List ℕ) : Type 0 where
+-- a wrap that was handed the record s and i, and whether to take full blocks four side by side, gave r, and left the output buffer and the tag
+pub record WrapPromise (four : Bool) (s : Session) (i : CallInput) (r : CallResult) (out tag : List ℕ) : Type 0 where
   pub κs : Lfts 4
   pub args : Dens κs wrap-ps
   pub exits : AtExit (endedOf 4 wrap-ps wrap-r) κs
   pub isRecord : args .0 ≡ s
+  pub isFour : args .1 .1 .1 .1 .1 .0 ≡ four
   pub isInput : handed (now (args .1 .0)) (now (args .1 .1 .0)) (now (args .1 .1 .1 .0)) (now (args .1 .1 .1 .1 .0)) ≡ i
   pub isOut : now (exits .1 .1 .1 .0) ≡ out
   pub isTag : now (exits .1 .1 .1 .1 .0) ≡ tag
   pub met : WrapPost κs args r exits
 
 -- and so of an unwrap, whose tag is a shared slice: no call alters it
-pub record UnwrapPromise (s : Session) (i : CallInput) (r : CallResult) (out tag : List ℕ) : Type 0 where
+pub record UnwrapPromise (four : Bool) (s : Session) (i : CallInput) (r : CallResult) (out tag : List ℕ) : Type 0 where
   pub κs : Lfts 4
   pub args : Dens κs unwrap-ps
   pub exits : AtExit (endedOf 4 unwrap-ps unwrap-r) κs
   pub isRecord : args .0 ≡ s
+  pub isFour : args .1 .1 .1 .1 .1 .0 ≡ four
   pub isInput : handed (now (args .1 .0)) (now (args .1 .1 .0)) (now (args .1 .1 .1 .1 .0)) (now (args .1 .1 .1 .0)) ≡ i
   pub isOut : now (exits .1 .1 .1 .1 .0) ≡ out
   pub isTag : now (args .1 .1 .1 .0) ≡ tag
   pub met : UnwrapPost κs args r exits
 
 -- the same of a wrap and of an unwrap for an envelope
-pub record WrapEnvelopePromise (s : Session) (i : CallInput) (r : CallResult) (out tag : List ℕ) : Type 0 where
+pub record WrapEnvelopePromise (four : Bool) (s : Session) (i : CallInput) (r : CallResult) (out tag : List ℕ) : Type 0 where
   pub κs : Lfts 5
   pub args : Dens κs wrap-envelope-ps
   pub exits : AtExit (endedOf 5 wrap-envelope-ps wrap-envelope-r) κs
   pub isRecord : args .0 ≡ s
+  pub isFour : args .1 .1 .1 .1 .1 .1 .0 ≡ four
   pub isInput : handedFor (now (args .1 .0)) (now (args .1 .1 .0)) (now (args .1 .1 .1 .0)) (now (args .1 .1 .1 .1 .0)) (now (args .1 .1 .1 .1 .1 .0)) ≡ i
   pub isOut : now (exits .1 .1 .1 .1 .0) ≡ out
   pub isTag : now (exits .1 .1 .1 .1 .1 .0) ≡ tag
   pub met : WrapEnvelopePost κs args r exits
 
-pub record UnwrapEnvelopePromise (s : Session) (i : CallInput) (r : CallResult) (out tag : List ℕ) : Type 0 where
+pub record UnwrapEnvelopePromise (four : Bool) (s : Session) (i : CallInput) (r : CallResult) (out tag : List ℕ) : Type 0 where
   pub κs : Lfts 5
   pub args : Dens κs unwrap-envelope-ps
   pub exits : AtExit (endedOf 5 unwrap-envelope-ps unwrap-envelope-r) κs
   pub isRecord : args .0 ≡ s
+  pub isFour : args .1 .1 .1 .1 .1 .1 .0 ≡ four
   pub isInput : handedFor (now (args .1 .0)) (now (args .1 .1 .0)) (now (args .1 .1 .1 .0)) (now (args .1 .1 .1 .1 .1 .0)) (now (args .1 .1 .1 .1 .0)) ≡ i
   pub isOut : now (exits .1 .1 .1 .1 .1 .0) ≡ out
   pub isTag : now (args .1 .1 .1 .1 .0) ≡ tag
@@ -180,44 +185,44 @@ start-kept κs args exits r h = record { κs = κs; args = args; exits = exits; 
 
 pub wrap-kept : (κs : Lfts 4) (args : Dens κs wrap-ps) (exits : AtExit (endedOf 4 wrap-ps wrap-r) κs) (r : CallResult)
     → WrapPost κs args r exits
-    → WrapPromise (args .0) (handed (now (args .1 .0)) (now (args .1 .1 .0)) (now (args .1 .1 .1 .0)) (now (args .1 .1 .1 .1 .0))) r
+    → WrapPromise (args .1 .1 .1 .1 .1 .0) (args .0) (handed (now (args .1 .0)) (now (args .1 .1 .0)) (now (args .1 .1 .1 .0)) (now (args .1 .1 .1 .1 .0))) r
     (now (exits .1 .1 .1 .0)) (now (exits .1 .1 .1 .1 .0))
 wrap-kept κs args exits r h =
-    record { κs = κs; args = args; exits = exits; isRecord = refl; isInput = refl; isOut = refl; isTag = refl; met = h }
+    record { κs = κs; args = args; exits = exits; isRecord = refl; isFour = refl; isInput = refl; isOut = refl; isTag = refl; met = h }
 
 pub unwrap-kept : (κs : Lfts 4) (args : Dens κs unwrap-ps) (exits : AtExit (endedOf 4 unwrap-ps unwrap-r) κs) (r : CallResult)
     → UnwrapPost κs args r exits
-    → UnwrapPromise (args .0) (handed (now (args .1 .0)) (now (args .1 .1 .0)) (now (args .1 .1 .1 .1 .0)) (now (args .1 .1 .1 .0))) r
+    → UnwrapPromise (args .1 .1 .1 .1 .1 .0) (args .0) (handed (now (args .1 .0)) (now (args .1 .1 .0)) (now (args .1 .1 .1 .1 .0)) (now (args .1 .1 .1 .0))) r
     (now (exits .1 .1 .1 .1 .0)) (now (args .1 .1 .1 .0))
 unwrap-kept κs args exits r h =
-    record { κs = κs; args = args; exits = exits; isRecord = refl; isInput = refl; isOut = refl; isTag = refl; met = h }
+    record { κs = κs; args = args; exits = exits; isRecord = refl; isFour = refl; isInput = refl; isOut = refl; isTag = refl; met = h }
 
 pub wrap-envelope-kept : (κs : Lfts 5) (args : Dens κs wrap-envelope-ps) (exits : AtExit (endedOf 5 wrap-envelope-ps wrap-envelope-r) κs) (r : CallResult)
     → WrapEnvelopePost κs args r exits
-    → WrapEnvelopePromise (args .0)
+    → WrapEnvelopePromise (args .1 .1 .1 .1 .1 .1 .0) (args .0)
     (handedFor (now (args .1 .0)) (now (args .1 .1 .0)) (now (args .1 .1 .1 .0)) (now (args .1 .1 .1 .1 .0)) (now (args .1 .1 .1 .1 .1 .0))) r
     (now (exits .1 .1 .1 .1 .0)) (now (exits .1 .1 .1 .1 .1 .0))
 wrap-envelope-kept κs args exits r h =
-    record { κs = κs; args = args; exits = exits; isRecord = refl; isInput = refl; isOut = refl; isTag = refl; met = h }
+    record { κs = κs; args = args; exits = exits; isRecord = refl; isFour = refl; isInput = refl; isOut = refl; isTag = refl; met = h }
 
 pub unwrap-envelope-kept : (κs : Lfts 5) (args : Dens κs unwrap-envelope-ps) (exits : AtExit (endedOf 5 unwrap-envelope-ps unwrap-envelope-r) κs)
     (r : CallResult)
     → UnwrapEnvelopePost κs args r exits
-    → UnwrapEnvelopePromise (args .0)
+    → UnwrapEnvelopePromise (args .1 .1 .1 .1 .1 .1 .0) (args .0)
     (handedFor (now (args .1 .0)) (now (args .1 .1 .0)) (now (args .1 .1 .1 .0)) (now (args .1 .1 .1 .1 .1 .0)) (now (args .1 .1 .1 .1 .0))) r
     (now (exits .1 .1 .1 .1 .1 .0)) (now (args .1 .1 .1 .1 .0))
 unwrap-envelope-kept κs args exits r h =
-    record { κs = κs; args = args; exits = exits; isRecord = refl; isInput = refl; isOut = refl; isTag = refl; met = h }
+    record { κs = κs; args = args; exits = exits; isRecord = refl; isFour = refl; isInput = refl; isOut = refl; isTag = refl; met = h }
 
--- the promises of wrap and unwrap, without an envelope and for one, and of calls of both sorts
-abbrev pub barePromises : Promises sanseKind
-barePromises = record { wraps = WrapPromise; unwraps = UnwrapPromise }
+-- the promises of wrap and unwrap, by which way they were called: without an envelope and for one, and of calls of both sorts
+abbrev pub barePromises : Bool → Promises sanseKind
+barePromises four = record { wraps = WrapPromise four; unwraps = UnwrapPromise four }
 
-abbrev pub envelopePromises : Promises sanseKind
-envelopePromises = record { wraps = WrapEnvelopePromise; unwraps = UnwrapEnvelopePromise }
+abbrev pub envelopePromises : Bool → Promises sanseKind
+envelopePromises four = record { wraps = WrapEnvelopePromise four; unwraps = UnwrapEnvelopePromise four }
 
-abbrev pub promises : Promises sanseKind
-promises = bothSorts sanseKind barePromises envelopePromises
+abbrev pub promises : Bool → Promises sanseKind
+promises four = bothSorts sanseKind (barePromises four) (envelopePromises four)
 
 -- some reference to these bytes, and some lifetimes, one for each slice that wrap or unwrap is handed
 abbrev to : List ℕ → RefT (List ℕ)
@@ -231,47 +236,47 @@ lifetimes = ([], ([], ([], ([], tt))))
 pub start-is : (key : List ℕ) (r : CallResult) → StartPromise key r ↔ (startResult r ≡ startAt key)
 start-is key r = (λ p. p .met ∙ ap startAt (p .isKey), λ e. start-kept ([], tt) (to key, tt) (to key, tt) r e)
 
-module _ (s : Session) (i : CallInput) (r : CallResult) (out tag : List ℕ) where
+module _ (four : Bool) (s : Session) (i : CallInput) (r : CallResult) (out tag : List ℕ) where
   -- the tag handed to an unwrap is not altered
   tag-kept : (h : CallHeader) → callResult r out tag ≡ unwrapAt sanse incremental (stateOf s) (withHeader h i) → i .tag ≡ tag
   tag-kept h e = sym (ap (λ (o : Outcome DeckState). o .tag) e ∙ any-unwrap sanse incremental (stateOf s) (withHeader h i) .tag)
 
-  pub wrap-is : WrapPromise s (withHeader bare i) r out tag ↔ (callResult r out tag ≡ wrapAt sanse incremental (stateOf s) (withHeader bare i))
+  pub wrap-is : WrapPromise four s (withHeader bare i) r out tag ↔ (callResult r out tag ≡ wrapAt sanse incremental (stateOf s) (withHeader bare i))
   wrap-is = (
     λ p.
         sym (λ j. callResult r (p .isOut j) (p .isTag j)) ∙ p .met
         ∙ (λ j. wrapAt sanse incremental (stateOf (p .isRecord j)) (p .isInput j)),
     λ e.
-        wrap-kept lifetimes (s, (to (i .metadata), (to (i .text), (to (i .out), (to (i .tag), tt)))))
-        (s, (to (i .metadata), (to (i .text), (to out, (to tag, tt))))) r e,
+        wrap-kept lifetimes (s, (to (i .metadata), (to (i .text), (to (i .out), (to (i .tag), (four, tt))))))
+        (s, (to (i .metadata), (to (i .text), (to out, (to tag, (four, tt)))))) r e,
   )
 
-  pub unwrap-is : UnwrapPromise s (withHeader bare i) r out tag ↔ (callResult r out tag ≡ unwrapAt sanse incremental (stateOf s) (withHeader bare i))
+  pub unwrap-is : UnwrapPromise four s (withHeader bare i) r out tag ↔ (callResult r out tag ≡ unwrapAt sanse incremental (stateOf s) (withHeader bare i))
   unwrap-is = (
     λ p.
         sym (λ j. callResult r (p .isOut j) (p .isTag j)) ∙ p .met
         ∙ (λ j. unwrapAt sanse incremental (stateOf (p .isRecord j)) (p .isInput j)),
     λ e.
         let t : i .tag ≡ tag = tag-kept bare e in
-        subst (UnwrapPromise s (withHeader bare i) r out) t
-        (unwrap-kept lifetimes (s, (to (i .metadata), (to (i .text), (to (i .tag), (to (i .out), tt)))))
-        (s, (to (i .metadata), (to (i .text), (to (i .tag), (to out, tt))))) r (ap (callResult r out) t ∙ e)),
+        subst (UnwrapPromise four s (withHeader bare i) r out) t
+        (unwrap-kept lifetimes (s, (to (i .metadata), (to (i .text), (to (i .tag), (to (i .out), (four, tt))))))
+        (s, (to (i .metadata), (to (i .text), (to (i .tag), (to out, (four, tt)))))) r (ap (callResult r out) t ∙ e)),
   )
 
   -- under the header x
   module _ (x : List ℕ) where
-    pub wrap-envelope-is : WrapEnvelopePromise s (withHeader (under x) i) r out tag
+    pub wrap-envelope-is : WrapEnvelopePromise four s (withHeader (under x) i) r out tag
         ↔ (callResult r out tag ≡ wrapAt sanse incremental (stateOf s) (withHeader (under x) i))
     wrap-envelope-is = (
       λ p.
           sym (λ j. callResult r (p .isOut j) (p .isTag j)) ∙ p .met
           ∙ (λ j. wrapAt sanse incremental (stateOf (p .isRecord j)) (p .isInput j)),
       λ e.
-          wrap-envelope-kept ([], lifetimes) (s, (to x, (to (i .metadata), (to (i .text), (to (i .out), (to (i .tag), tt))))))
-          (s, (to x, (to (i .metadata), (to (i .text), (to out, (to tag, tt)))))) r e,
+          wrap-envelope-kept ([], lifetimes) (s, (to x, (to (i .metadata), (to (i .text), (to (i .out), (to (i .tag), (four, tt)))))))
+          (s, (to x, (to (i .metadata), (to (i .text), (to out, (to tag, (four, tt))))))) r e,
     )
 
-    pub unwrap-envelope-is : UnwrapEnvelopePromise s (withHeader (under x) i) r out tag
+    pub unwrap-envelope-is : UnwrapEnvelopePromise four s (withHeader (under x) i) r out tag
         ↔ (callResult r out tag ≡ unwrapAt sanse incremental (stateOf s) (withHeader (under x) i))
     unwrap-envelope-is = (
       λ p.
@@ -279,7 +284,7 @@ module _ (s : Session) (i : CallInput) (r : CallResult) (out tag : List ℕ) whe
           ∙ (λ j. unwrapAt sanse incremental (stateOf (p .isRecord j)) (p .isInput j)),
       λ e.
           let t : i .tag ≡ tag = tag-kept (under x) e in
-          subst (UnwrapEnvelopePromise s (withHeader (under x) i) r out) t
-          (unwrap-envelope-kept ([], lifetimes) (s, (to x, (to (i .metadata), (to (i .text), (to (i .tag), (to (i .out), tt))))))
-          (s, (to x, (to (i .metadata), (to (i .text), (to (i .tag), (to out, tt)))))) r (ap (callResult r out) t ∙ e)),
+          subst (UnwrapEnvelopePromise four s (withHeader (under x) i) r out) t
+          (unwrap-envelope-kept ([], lifetimes) (s, (to x, (to (i .metadata), (to (i .text), (to (i .tag), (to (i .out), (four, tt)))))))
+          (s, (to x, (to (i .metadata), (to (i .text), (to (i .tag), (to out, (four, tt))))))) r (ap (callResult r out) t ∙ e)),
     )

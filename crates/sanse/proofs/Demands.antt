@@ -76,32 +76,36 @@ module _ (p : Promises sanseKind) (s : Session) (i : CallInput) (r : CallResult)
       → UnwrapClaim sansePaper key h e i (callResult r out tag)
   one-unwrap-says c key h e = c .unwraps key h e s i r out tag
 
--- ---- the demands
+-- ---- the demands, for each way to call wrap and unwrap: full blocks one after the other, or four side by side
 
 -- each promise is just the call's equation with the rules
-pub program : ByRules sanse promises
-program =
-    both-by-rules (record { wraps = wrap-is; unwraps = unwrap-is })
-    (λ x. record { wraps = λ s i r out tag. wrap-envelope-is s i r out tag x; unwraps = λ s i r out tag. unwrap-envelope-is s i r out tag x })
+pub program : (four : Bool) → ByRules sanse (promises four)
+program four =
+    both-by-rules (record { wraps = wrap-is four; unwraps = unwrap-is four })
+    (λ x.
+    record {
+      wraps = λ s i r out tag. wrap-envelope-is four s i r out tag x;
+      unwraps = λ s i r out tag. unwrap-envelope-is four s i r out tag x;
+    })
 
 -- demand 1: every start, and every call of any record
 pub one-start : StartOf sanseKind StartPromise
 one-start = start-of sanseKind StartPromise start-is
 
-pub any-call : AnyCallOf sanseKind sanse promises
-any-call = any-call-of program
+pub any-call : (four : Bool) → AnyCallOf sanseKind sanse (promises four)
+any-call four = any-call-of (program four)
 
 -- demands 1 and 2: one call of the record of a history
-pub one-call : OneCallOf sanseKind sansePaper promises
-one-call = one-call-of program sanse-follows
+pub one-call : (four : Bool) → OneCallOf sanseKind sansePaper (promises four)
+one-call four = one-call-of (program four) sanse-follows
 
 -- an envelope whose group was changed on its way: another history, and 11 exactly where the tags differ
-pub readdressed : ReaddressedOf sanseKind sansePaper promises
-readdressed = readdressed-of program sanse-follows sanse-readdressed
+pub readdressed : (four : Bool) → ReaddressedOf sanseKind sansePaper (promises four)
+readdressed four = readdressed-of (program four) sanse-follows sanse-readdressed
 
 -- demand 3, one claim about the whole list
-pub demand-3 : Demand3Of sanseKind StartPromise promises
-demand-3 = demand-3-of start-is program
+pub demand-3 : (four : Bool) → Demand3Of sanseKind StartPromise (promises four)
+demand-3 four = demand-3-of start-is (program four)
 
 -- ---- what they speak of is there
 
@@ -123,5 +127,5 @@ whole =
 pub start-exists : StartsExist sanseKind StartPromise
 start-exists = starts-exist whole StartPromise start-is
 
-pub run-exists : RunsExist sanseKind promises
-run-exists = runs-exist (kept whole program)
+pub run-exists : (four : Bool) → RunsExist sanseKind (promises four)
+run-exists four = runs-exist (kept whole (program four))

@@ -1,7 +1,7 @@
-// Sessions of SANSE at two ends, from standard input. A record is an operation (S: start, W: wrap, U: unwrap), an end (a or b), the lengths
-// of two parts (two bytes each, the lowest first), the parts and 32 bytes. The parts are key and nothing, metadata and message, or metadata
-// and cryptogram; the 32 bytes are the tag handed to unwrap. Written for each: the number, the count, the index and e; then a line of
-// hexadecimal digits for the output, the tag, the accumulator and the mask.
+// Sessions of SANSE at two ends, from standard input. A record is an operation (S: start, W: wrap, U: unwrap), an end (a or b), how many full blocks
+// are taken side by side (1 or 4), the lengths of two parts (two bytes each, the lowest first), the parts and 32 bytes. The parts are key and nothing,
+// metadata and message, or metadata and cryptogram; the 32 bytes are the tag handed to unwrap. Written for each: the number, the count, the index and
+// e; then a line of hexadecimal digits for the output, the tag, the accumulator and the mask.
 ghost use Prim.Native.Nat.{_≤_, _<_};
 ghost use lib.ListN.{length};
 use sanse::CallResult;
@@ -29,7 +29,7 @@ fn show(r: CallResult, out: &[u8], tag: &[u8]) {
 }
 
 // Carries a record out, and gives the session after it.
-fn answer(op: u8, s: Session, first: &[u8], second: &[u8], given: [u8; 32]) -> Session
+fn answer(op: u8, s: Session, first: &[u8], second: &[u8], given: [u8; 32], four: bool) -> Session
     requires { ⌜ length (now second) < 65536 ⌝ }
 {
     let mut tag = given;
@@ -41,11 +41,11 @@ fn answer(op: u8, s: Session, first: &[u8], second: &[u8], given: [u8; 32]) -> S
         return r.session;
     }
     if op == b'W' {
-        let r = sanse::wrap(s, first, second, &mut out, &mut tag);
+        let r = sanse::wrap(s, first, second, &mut out, &mut tag, four);
         show(r, &out[..n], &tag);
         return r.session;
     }
-    let r = sanse::unwrap(s, first, second, &tag, &mut out);
+    let r = sanse::unwrap(s, first, second, &tag, &mut out, four);
     show(r, &out[..n], &tag);
     r.session
 }
@@ -58,16 +58,17 @@ fn read(n: usize, buffer: &mut [u8])
 }
 
 // Reads the rest of a record, and carries it out.
-fn next(header: &[u8; 6], s: Session) -> Session {
-    let n = hexline::pair(header[2], header[3]);
-    let m = hexline::pair(header[4], header[5]);
+fn next(header: &[u8; 7], s: Session) -> Session {
+    let four = header[2] == b'4';
+    let n = hexline::pair(header[3], header[4]);
+    let m = hexline::pair(header[5], header[6]);
     let mut first = io::large_buffer();
     let mut second = io::large_buffer();
     let mut tag = [0u8; 32];
     read(n, &mut first);
     read(m, &mut second);
     read(32, &mut tag);
-    answer(header[0], s, &first[..n], &second[..m], tag)
+    answer(header[0], s, &first[..n], &second[..m], tag, four)
 }
 
 fn main() {
@@ -76,8 +77,8 @@ fn main() {
     let mut b = closed.session;
     let mut left: u32 = 4096;
     while 0 < left {
-        let mut header = [0u8; 6];
-        if io::read_full(0, &mut header) < 6 {
+        let mut header = [0u8; 7];
+        if io::read_full(0, &mut header) < 7 {
             return;
         }
         if header[1] == b'a' {

@@ -34,7 +34,7 @@ pub fn wrap(
     ensures { λ r. ⌜ Wrapped (now (s .entry)) (handed (now (metadata .entry)) (now (message .entry)) (now (out .entry)) (now (tag .entry)))
         r (now (s .exit)) (now (out .exit)) (now (tag .exit)) ⌝ }
 {
-    let r = sanse::wrap(*s, metadata, message, out, tag);
+    let r = sanse::wrap(*s, metadata, message, out, tag, false);
     *s = r.session;
     Answer {
         number: r.number,
@@ -53,7 +53,7 @@ pub fn unwrap(
     ensures { λ r. ⌜ Unwrapped (now (s .entry)) (handed (now (metadata .entry)) (now (cryptogram .entry)) (now (out .entry)) (now (tag .entry)))
         r (now (s .exit)) (now (out .exit)) (now (tag .entry)) ⌝ }
 {
-    let r = sanse::unwrap(*s, metadata, cryptogram, tag, out);
+    let r = sanse::unwrap(*s, metadata, cryptogram, tag, out, false);
     *s = r.session;
     Answer {
         number: r.number,
@@ -77,7 +77,7 @@ pub fn wrap_envelope(
         (handedFor (now (header .entry)) (now (metadata .entry)) (now (message .entry)) (now (out .entry)) (now (tag .entry)))
         r (now (s .exit)) (now (out .exit)) (now (tag .exit)) ⌝ }
 {
-    let r = sanse::wrap_envelope(*s, header, metadata, message, out, tag);
+    let r = sanse::wrap_envelope(*s, header, metadata, message, out, tag, false);
     *s = r.session;
     Answer {
         number: r.number,
@@ -98,7 +98,7 @@ pub fn unwrap_envelope(
         (handedFor (now (header .entry)) (now (metadata .entry)) (now (cryptogram .entry)) (now (out .entry)) (now (tag .entry)))
         r (now (s .exit)) (now (out .exit)) (now (tag .entry)) ⌝ }
 {
-    let r = sanse::unwrap_envelope(*s, header, metadata, cryptogram, tag, out);
+    let r = sanse::unwrap_envelope(*s, header, metadata, cryptogram, tag, out, false);
     *s = r.session;
     Answer {
         number: r.number,
