@@ -1,6 +1,6 @@
 -- Demands 1 to 3 hold of the program's start, wrap and unwrap of SANE, the last two without an envelope and for one, in lists that mix both, each
 -- known by its own `ensures` alone; what they say, written out; and that what they speak of is there. Assumes nothing.
-use mathlib.Core.Bool.{Bool}
+use mathlib.Core.Bool.{Bool, false, true}
 use mathlib.Core.List.{List}
 use mathlib.Core.Path.{_≡_, refl}
 use Prim.Native.Nat.{ℕ}
@@ -16,7 +16,9 @@ use Rattle.modes.specs.NonceStart.{NonceExactly}
 use Rattle.modes.specs.Promises.{Promises, Records, Run, sessionsHeld}
 use Rattle.modes.specs.Demands.{AnyCallOf, OneCallOf, RunsExist}
 use Rattle.modes.specs.SaneDemands.{SaneDemand3, NonceStarts, NonceStartOf, SaneDemand3Of, NonceStartsExist, AcceptedStartsExist}
+use Rattle.modes.specs.EitherWay.{EitherSaneDemand3Of, NobodyCanTell, ChoicesExist, Among}
 use Rattle.modes.specs.Envelopes.{ReaddressedOf}
+use Rattle.modes.proofs.EitherWay.{either-sane-demand-3, nobody-can-tell, choices-exist, among}
 use Rattle.modes.proofs.Envelopes.{readdressed-of, sane-readdressed}
 use Rattle.modes.proofs.Modes.{sane-follows}
 use Rattle.modes.proofs.Demands.{ByRules, Whole, both-by-rules, any-call-of, one-call-of, runs-exist, kept}
@@ -118,3 +120,20 @@ accepted-start-exists = accepted-starts-exist whole StartPromise start-is
 
 pub run-exists : (four : Bool) → RunsExist saneKind (promises four)
 run-exists four = runs-exist (kept whole (program four))
+
+-- ---- lists in which each call is made either way (document 02, request 10)
+
+-- demand 3, whichever way each call of the list is made
+pub demand-3-either : EitherSaneDemand3Of saneKind StartPromise (promises false) (promises true)
+demand-3-either = either-sane-demand-3 start-is (program false) (program true)
+
+-- nobody can tell
+pub nobody-tells : NobodyCanTell saneKind (promises false) (promises true)
+nobody-tells = nobody-can-tell (program false) (program true)
+
+-- such lists are there, with any choice for each call, and those of one way alone are among them
+pub choice-exists : ChoicesExist saneKind (promises false) (promises true)
+choice-exists = choices-exist (kept whole (program false)) (kept whole (program true))
+
+pub one-way-alone : Among saneKind (promises false) (promises true)
+one-way-alone = among (promises false) (promises true)

@@ -1,6 +1,6 @@
 -- Demands 1 to 3 hold of the program's start, wrap and unwrap, known by their `ensures` alone; what they say, written out; and that what they
 -- speak of is there. Assumes nothing.
-use mathlib.Core.Bool.{Bool}
+use mathlib.Core.Bool.{Bool, false, true}
 use mathlib.Core.List.{List}
 use mathlib.Core.Path.{_≡_, refl}
 use Prim.Native.Nat.{ℕ, _≤_}
@@ -17,7 +17,9 @@ use Rattle.modes.specs.Start.{StartExactly}
 use Rattle.modes.specs.Demand3.{Demand3}
 use Rattle.modes.specs.Promises.{Promises, Records, Run, sessionsHeld}
 use Rattle.modes.specs.Demands.{StartOf, AnyCallOf, WrapOf, UnwrapOf, OneCallOf, Demand3Of, StartsExist, RunsExist}
+use Rattle.modes.specs.EitherWay.{EitherDemand3Of, NobodyCanTell, ChoicesExist, Among}
 use Rattle.modes.specs.Envelopes.{ReaddressedOf}
+use Rattle.modes.proofs.EitherWay.{either-demand-3, nobody-can-tell, choices-exist, among}
 use Rattle.modes.proofs.Envelopes.{readdressed-of, sanse-readdressed}
 use Rattle.modes.proofs.Modes.{sanse-follows}
 use Rattle.modes.proofs.Demands.{ByRules, Whole, both-by-rules, start-of, any-call-of, one-call-of, demand-3-of, runs-exist, kept, starts-exist}
@@ -129,3 +131,20 @@ start-exists = starts-exist whole StartPromise start-is
 
 pub run-exists : (four : Bool) → RunsExist sanseKind (promises four)
 run-exists four = runs-exist (kept whole (program four))
+
+-- ---- lists in which each call is made either way (document 02, request 10)
+
+-- demand 3, whichever way each call of the list is made
+pub demand-3-either : EitherDemand3Of sanseKind StartPromise (promises false) (promises true)
+demand-3-either = either-demand-3 start-is (program false) (program true)
+
+-- nobody can tell
+pub nobody-tells : NobodyCanTell sanseKind (promises false) (promises true)
+nobody-tells = nobody-can-tell (program false) (program true)
+
+-- such lists are there, with any choice for each call, and those of one way alone are among them
+pub choice-exists : ChoicesExist sanseKind (promises false) (promises true)
+choice-exists = choices-exist (kept whole (program false)) (kept whole (program true))
+
+pub one-way-alone : Among sanseKind (promises false) (promises true)
+one-way-alone = among (promises false) (promises true)
