@@ -1,4 +1,5 @@
 -- Four states side by side: what is put in is what is taken out, and steps done to each of the four follow one another. Assumes nothing.
+use mathlib.Core.Logic.{_↔_}
 use mathlib.Core.Path.{_≡_, refl, sym, ap, ap₂, _∙_}
 use mathlib.Core.List.{List, []}
 use Prim.Native.Nat.{ℕ, zero, suc, _+_, _*_, _/_, _%_, _≤_, _<_}
@@ -9,7 +10,8 @@ use lib.Dec.{lit<}
 use lib.ListN.{length, getD, set, drop, length-set}
 use lib.Seq.{getD-set-same, getD-set-other}
 use Rattle.word.proofs.Lists.{tabulate-length, tabulate-at, tabulate-ext, tabulate-is}
-use Rattle.xoodoo.specs.Xoodoo.{round, rounds}
+use Rattle.xoodoo.specs.Xoodoo.{round, rounds, perm}
+use Rattle.xoodoo.proofs.Facts.{perm-length}
 use Rattle.state.proofs.Lanes.{lanes-length}
 use Rattle.xoodoo.proofs.Steps.{rounds-more}
 use Rattle.xoodoo4.specs.Four.{part, put, beside, four, each}
@@ -106,6 +108,10 @@ pub each-beside : (F : List ℕ → List ℕ) → ((l : List ℕ) → length (F 
     → part j (each F (beside f)) ≡ F (f j)
 each-beside F h f j l hf = each-part F h j (beside f) l ∙ ap F (beside-part f j l hf)
 
+pub each-length : (F : List ℕ → List ℕ) (w : List ℕ) → length (each F w) ≡ 48
+unfolding each beside
+each-length F w = tabulate-length 48 _
+
 -- F of t's states is G of w's
 each-ext : (F G : List ℕ → List ℕ) (t w : List ℕ) → ((j : ℕ) → j < 4 → F (part j t) ≡ G (part j w)) → each F t ≡ each G w
 unfolding each beside
@@ -194,3 +200,12 @@ rounds-each cs i w t h e =
     ap (λ (v : List ℕ). rounds (drop (i + 1) cs) (part j v)) e
     ∙ ap (rounds (drop (i + 1) cs)) (each-part (round (getD cs i 0)) (round-length (getD cs i 0)) j w l)
     ∙ rounds-more cs i (part j w) (round (getD cs i 0) (part j w)) h refl)
+
+-- ---- four permutations side by side
+
+-- what the contract of `permute_four` says, state by state: state j of the result is the permutation of state j, for each j below 4, and nothing else is
+pub four-permuted : (w r : List ℕ) → (r ≡ each perm w) ↔ ((length r ≡ 48) × ((j : ℕ) → j < 4 → part j r ≡ perm (part j w)))
+four-permuted w r = (
+  λ e. (ap length e ∙ each-length perm w, λ j l. ap (part j) e ∙ each-part perm perm-length j w l),
+  λ h. is-each perm w r (h .0) (h .1),
+)
