@@ -7,22 +7,41 @@ WRAP = [('metadata', 'bytes'), ('message', 'bytes'), ('out', 'buffer'), ('tag', 
 UNWRAP = [('metadata', 'bytes'), ('cryptogram', 'bytes'), ('tag', 'bytes'), ('out', 'buffer')]
 
 
-def session(mode, function, params, core_args, gives, says, uses):
+# Functions of the same names and `_four`, in crates of their own, have the core take full blocks four side by side; `four` is whether it does. The
+# laws and the specs are those of the functions without.
+
+
+def module(crate, four, kind):
+    """A crate's own specs or proofs, where a function's proof finds them: it stands in that crate, or in the crate of the functions by four."""
+    return f'Rattle.{crate}.{kind}' if four else f'Rattle.{crate}.{kind}'
+
+
+def path(crate, function, four):
+    """A function's path."""
+    return f'{crate}4::{function}_four' if four else f'{crate}::{function}'
+
+
+def constant(four):
+    """What the core is handed last."""
+    return 'true' if four else 'false'
+
+
+def session(mode, function, params, core_args, gives, says, uses, four=False):
     """A function over the lent record of a mode: its answer is the number and the count of what the core gives."""
-    crate, record, result, environment = {
-        'sanse': ('session', 'Session', 'CallResult', 'session·proofs.proofs'),
-        'sane': ('sane_session', 'SaneSession', 'SaneResult', 'session.proofs'),
-        'sae': ('sae_session', 'SaeSession', 'SaeResult', 'session.proofs'),
+    crate, record, result = {
+        'sanse': ('session', 'Session', 'CallResult'),
+        'sane': ('sane_session', 'SaneSession', 'SaneResult'),
+        'sae': ('sae_session', 'SaeSession', 'SaeResult'),
     }[mode]
     return Lent(
-        path=f'{crate}::{function}', core=f'{mode}::{function}', record=f'{mode}::{record}', result=f'{mode}::{result}', session=('session', 2),
+        path=path(crate, function, four), core=f'{mode}::{function}', record=f'{mode}::{record}', result=f'{mode}::{result}', session=('session', 2),
         answer='session::Answer', answer_field=None, answer_parts=[('number', 0), ('count', 1)],
         params=[('s', 'record')] + params, core_args=core_args, gives=gives, says=says, proof='e', uses=uses,
-        environment=f'Rattle.{environment}.Env',
+        environment=module('session', four or crate != 'session', 'proofs') + '.Env',
     )
 
 
-def call(mode, crate, rule, says, params, envelope):
+def call(mode, crate, rule, says, params, envelope, four):
     """Wrap or unwrap of a mode, by its rule; for an envelope it is handed the header's bytes too, before the metadata."""
     if envelope:
         params = [('header', 'bytes')] + params
@@ -30,18 +49,18 @@ def call(mode, crate, rule, says, params, envelope):
     tag = 'tag′' if rule == 'wrap' else 'tag'
     handed = 'handedFor header' if envelope else 'handed'
     return session(
-        mode, f'{rule}_envelope' if envelope else rule, params, ['s'] + [name for name, _ in params],
+        mode, f'{rule}_envelope' if envelope else rule, params, ['s'] + [name for name, _ in params] + [constant(four)],
         f'callResult r out′ {tag} ≡ {rule}At {mode} incremental (stateOf h) ({handed} metadata {text} out tag)',
         f'{says} s ({handed} metadata {text} out tag) res s′ out′ {tag}',
         f'''use Rattle.modes.specs.Mode.{{{mode}, incremental}}
 use Rattle.modes.specs.Rules.{{{rule}At}}
 use Rattle.{mode}.specs.Session.{{stateOf, callResult, {handed.split()[0]}}}
-use Rattle.{crate}.specs.Lent.{{{says}}}''')
+use {module(crate, four, 'specs')}.Lent.{{{says}}}''', four)
 
 
-def calls(mode, crate):
+def calls(mode, crate, four=False):
     """Wrap and unwrap of a mode, without an envelope and for one."""
-    return [call(mode, crate, rule, says, params, envelope)
+    return [call(mode, crate, rule, says, params, envelope, four)
             for envelope in (False, True) for rule, says, params in (('wrap', 'Wrapped', WRAP), ('unwrap', 'Unwrapped', UNWRAP))]
 
 
@@ -84,6 +103,8 @@ use Rattle.session.specs.Lent.{Started}'''),
     nonce_start('sae', 'sae_session', 'sae_mode.specs.Sae'),
     letter('unwrap', 'Unwrapped', UNWRAP, 'saeUnwrapAt incremental'),
     letter('wrap', 'Wrapped', WRAP, 'saeWrapAt'),
+    *calls('sanse', 'session', four=True),
+    *calls('sane', 'sane_session', four=True),
 ]
 
 # ---- over one record of a lent table: office
@@ -92,16 +113,17 @@ IN_TABLE = '(unmet e-no-group has)'                 # check 3 is not met
 NO_GROUP = '(met e-no-group none)'                  # it is
 
 
-def office(function, core, params, gives, says, law, uses):
-    """A function of the crate `office`. `law` is what its two laws, LAW-refused and LAW-stored, are cited with."""
+def office(function, core, params, gives, says, law, uses, constants=(), four=False):
+    """A function of the crate `office`. `law` is what its two laws, LAW-refused and LAW-stored, are cited with; `constants` what the core is handed
+    beside the parameters."""
     name, given = law
     return Lent(
-        path=f'office::{function}', core=f'groups::{core}', record='groups::Record', result='groups::GroupResult', session=('left', 2),
+        path=path('office', function, four), core=f'groups::{core}', record='groups::Record', result='groups::GroupResult', session=('left', 2),
         answer='session::Answer', answer_field=None, answer_parts=[('number', 0), ('count', 1)],
-        params=[('table', 'table'), ('g', 'usize'), ('allowance', 'u32')] + params, core_args=['table', 'allowance'] + [one for one, _ in params],
-        gives=gives, says=says, proof=f'({name}-stored {given} ys g {IN_TABLE} r e)',
+        params=[('table', 'table'), ('g', 'usize'), ('allowance', 'u32')] + params,
+        core_args=['table', 'allowance'] + [one for one, _ in params] + list(constants), gives=gives, says=says, proof=f'({name}-stored {given} ys g {IN_TABLE} r e)',
         uses=uses + f'''
-use Rattle.office.proofs.Laws.{{met, unmet, inside, start-fits, {name}-refused, {name}-stored}}''',
+use {module('office', four, 'proofs')}.Laws.{{met, unmet, inside, start-fits, {name}-refused, {name}-stored}}''',
         environment='Rattle.session.proofs.Env',
         small=[Small('office::no_group', 'bool', '{r} ≡ noGroup {0} {1}'), Small('office::refused3', 'session::Answer', '{r} ≡ refused3')],
         table=Table(
@@ -111,6 +133,23 @@ use Rattle.office.proofs.Laws.{{met, unmet, inside, start-fits, {name}-
     )
 
 
+def office_call(rule, params, text, tag, four):
+    """Wrap or unwrap for a group, by its rule; `text` is what is wrapped or unwrapped, `tag` the tag that the call leaves."""
+    return office(
+        f'{rule}_group', rule, params,
+        f'groupResult r out′ {tag} ≡ {rule}OnDay allowance (recordOf h) (handed metadata {text} out tag)',
+        f'tableResult res table′ out′ {tag} ≡ {rule}GroupAt allowance (tableOf table) g (handed metadata {text} out tag)',
+        ('bare', f'({rule}From5 sanse incremental) allowance (handed (x-metadata .now) (x-{text} .now) (x-out .now) (x-tag .now)) refl'),
+        f'''use Rattle.modes.specs.Mode.{{sanse, incremental}}
+use Rattle.modes.specs.Rules.{{{rule}From5}}
+use Rattle.sanse.specs.Session.{{handed}}
+use Rattle.groups.specs.Groups.{{{rule}OnDay, recordOf, groupResult}}
+use {module('office', four, 'specs')}.Table.{{noGroup, refused3, {rule}GroupAt, zeroRecord, tableOf, tableResult}}''', [constant(four)], four)
+
+
+# wrap and unwrap for a group: the rule, the parameters, what is wrapped or unwrapped, the tag that the call leaves
+FOR_GROUP = [('wrap', WRAP, 'message', 'tag′'), ('unwrap', UNWRAP, 'cryptogram', 'tag')]
+
 OFFICE = [
     office(
         'open_group', 'open', [('key', 'bytes')],
@@ -119,41 +158,24 @@ OFFICE = [
         ('open', 'allowance (x-key .now)'),
         '''use Rattle.groups.specs.Groups.{openOnDay, recordOf, groupOpeningResult}
 use Rattle.office.specs.Table.{noGroup, refused3, openGroupAt, zeroRecord, tableOf, openingResult}'''),
-    office(
-        'wrap_group', 'wrap', WRAP,
-        'groupResult r out′ tag′ ≡ wrapOnDay allowance (recordOf h) (handed metadata message out tag)',
-        'tableResult res table′ out′ tag′ ≡ wrapGroupAt allowance (tableOf table) g (handed metadata message out tag)',
-        ('bare', '(wrapFrom5 sanse incremental) allowance (handed (x-metadata .now) (x-message .now) (x-out .now) (x-tag .now)) refl'),
-        '''use Rattle.modes.specs.Mode.{sanse, incremental}
-use Rattle.modes.specs.Rules.{wrapFrom5}
-use Rattle.sanse.specs.Session.{handed}
-use Rattle.groups.specs.Groups.{wrapOnDay, recordOf, groupResult}
-use Rattle.office.specs.Table.{noGroup, refused3, wrapGroupAt, zeroRecord, tableOf, tableResult}'''),
-    office(
-        'unwrap_group', 'unwrap', UNWRAP,
-        'groupResult r out′ tag ≡ unwrapOnDay allowance (recordOf h) (handed metadata cryptogram out tag)',
-        'tableResult res table′ out′ tag ≡ unwrapGroupAt allowance (tableOf table) g (handed metadata cryptogram out tag)',
-        ('bare', '(unwrapFrom5 sanse incremental) allowance (handed (x-metadata .now) (x-cryptogram .now) (x-out .now) (x-tag .now)) refl'),
-        '''use Rattle.modes.specs.Mode.{sanse, incremental}
-use Rattle.modes.specs.Rules.{unwrapFrom5}
-use Rattle.sanse.specs.Session.{handed}
-use Rattle.groups.specs.Groups.{unwrapOnDay, recordOf, groupResult}
-use Rattle.office.specs.Table.{noGroup, refused3, unwrapGroupAt, zeroRecord, tableOf, tableResult}'''),
+    *[office_call(*one, four) for four in (False, True) for one in FOR_GROUP],
 ]
 
 # ---- the same for an envelope, whose header is checked with the group: office_envelope
 
 
-def office_envelope(rule, params, text, tag):
-    """Wrap or unwrap for a group and an envelope, by its rule; `text` is what is wrapped or unwrapped, `tag` the tag that the call leaves."""
+def office_envelope(rule, params, text, tag, four):
+    """Wrap or unwrap for a group and an envelope, as `office_call`."""
     handed = f'(handedFor (x-header .now) (x-metadata .now) (x-{text} .now) (x-out .now) (x-tag .now))'
     first = f'(x-header .now) (length (x-metadata .now)) (length (x-{text} .now)) (length ys) g r-first-check e-first-check has'
     law = f'({rule}From5 sanse incremental) allowance {handed} ys g'
     params = [('header', 'bytes')] + params
     return Lent(
-        path=f'office_envelope::{rule}_envelope_group', core=f'groups::{rule}_string', record='groups::Record', result='groups::GroupResult',
+        path=path('office' if four else 'office_envelope', f'{rule}_envelope_group', four), core=f'groups::{rule}_string',
+        record='groups::Record', result='groups::GroupResult',
         session=('left', 2), answer='session::Answer', answer_field=None, answer_parts=[('number', 0), ('count', 1)],
-        params=[('table', 'table'), ('g', 'usize'), ('allowance', 'u32')] + params, core_args=['table', 'allowance'] + [one for one, _ in params],
+        params=[('table', 'table'), ('g', 'usize'), ('allowance', 'u32')] + params,
+        core_args=['table', 'allowance'] + [one for one, _ in params] + [constant(four)],
         gives=f'groupResult r out′ {tag} ≡ {rule}OnDay allowance (recordOf h) (handedFor header metadata {text} out tag)',
         says=f'tableResult res table′ out′ {tag} ≡ {rule}GroupAt allowance (tableOf table) g (handedFor header metadata {text} out tag)',
         requires='length (x-header .now) ≤ 17', proof=f'(call-stored {law} (goes-on {first}) r e)',
@@ -165,7 +187,7 @@ use Rattle.sanse.specs.Session.{{handedFor}}
 use Rattle.groups.specs.Groups.{{{rule}OnDay, recordOf, groupResult}}
 use Rattle.office.specs.Table.{{noGroup, tableCheck, {rule}GroupAt, zeroRecord, tableOf, tableResult}}
 use Rattle.office.proofs.Laws.{{call-refused, call-stored}}
-use Rattle.office_envelope.proofs.Laws.{{some-met, goes-on, goes-inside, goes-fits, goes-short}}''',
+use {module('office_envelope', four, 'proofs')}.Laws.{{some-met, goes-on, goes-inside, goes-fits, goes-short}}''',
         environment='Rattle.session.proofs.Env',
         small=[Small('office_envelope::first_check', 'u32', '{r} ≡ tableCheck (fitsGroup letterS {1} {3} {4} {2}) (noGroup {0} {1})'),
                Small('office_envelope::refused', 'session::Answer', '{r} ≡ record {{ number = {0}; count = 0 }}')],
@@ -176,7 +198,7 @@ use Rattle.office_envelope.proofs.Laws.{{some-met, goes-on, goes-inside
     )
 
 
-OFFICE_ENVELOPE = [office_envelope('wrap', WRAP, 'message', 'tag′'), office_envelope('unwrap', UNWRAP, 'cryptogram', 'tag')]
+OFFICE_ENVELOPE = [office_envelope(*one, four) for four in (False, True) for one in FOR_GROUP]
 
 # ---- over a record that is lent to be read: codes
 

@@ -7,7 +7,7 @@ The shapes, beside other parameters:
     fn f(table: &mut [S], g: usize, ..) -> R
         { if test(table.len(), g) { return refusal(..); } let r = core(table[g], ..); table[g] = r.session; r.answer }
         { let n = number(table.len(), g, ..); if n != 0 { return refusal(n); } let r = core(table[g], ..); table[g] = r.session; r.answer }
-`core` takes the record by value. R is a plain struct, and in the first two a number or a bool as well. `test`, `number` and `refusal` are small
+`core` takes the record by value, and may be handed constant bools. R is a plain struct, and in the first two a number or a bool as well. `test`, `number` and `refusal` are small
 functions: of numbers, bools, plain structs and slices that are read.
 
 Here are the configuration, `Lent`, and the terms that stand for the function's parameters; `lent_walk.py` has the walk itself, which follows
@@ -21,6 +21,7 @@ from text import last, subscript, tuple_of
 
 WIDTHS = {'u8': 8, 'u16': 16, 'u32': 32, 'u64': 64, 'usize': 64}
 DENOTED = {'bool': 'Bool', **{kind: 'ℕ' for kind in WIDTHS}}      # the values of these
+CONSTANTS = ('false', 'true')                                      # what the core may be handed beside the parameters
 
 
 @dataclass
@@ -56,7 +57,7 @@ class Lent:
     answer_field: Optional[tuple]    # R is this field of the core's result, (name, number) ..
     answer_parts: list               # .. or is made of these, [(name, number)]; neither where R is the core's result itself
     params: list                     # [(name, kind)]; 'record': &mut S, 'read': &S, 'table': &mut [S], 'bytes': &[u8], 'buffer': &mut [u8], 'bool', u8 .. usize, the path of a struct, or & and such a path: another record, &T
-    core_args: list                  # the core's parameters by the names of these; a record that is lent stands for its copy
+    core_args: list                  # the core's parameters by the names of these, or constants, 'false' and 'true'; a record that is lent stands for its copy
     uses: str                        # imports for the clauses and the terms
     gives: str                       # what the core ensures: h is the record, r the result; a buffer's last contents have a prime
     says: str                        # what f ensures: res is the result; what the lent one and the buffers hold last has a prime
@@ -86,7 +87,7 @@ class Terms:
         self.crate = config.path.split('::')[0]
         self.function = mir.Function(program, config.path)
         self.count = len(self.function.locals)                     # the locals, the result and the parameters among them
-        self.kind = dict(config.params)
+        self.kind = dict(config.params) | {constant: 'bool' for constant in CONSTANTS}
         self.names = [name for name, _ in config.params]
         self.lent = next(name for name, kind in config.params if kind in ('record', 'read', 'table'))
         self.reads = self.kind[self.lent] == 'read'

@@ -2,7 +2,7 @@
 import textwrap
 
 from context import Context
-from lent import WIDTHS
+from lent import CONSTANTS, WIDTHS
 from lent_walk import Walk
 from library import LENT
 from text import citation, dashed, last, list_of, only_used, part, product_of, proofs_module, specs_module, subscript, tidy, tuple_of
@@ -280,7 +280,7 @@ mach-{name} d = LL.tuple-val {self.struct_module[name]}.the-type {self.struct_mo
         labels = self.handed_core()
         context = Context(labels)
         steps = context.push('owned', 'nothing !')
-        steps += self.hands(context, [(None, self.owns(self.kind[name], name, self.known(name), name)) if name in self.plain else
+        steps += self.hands(context, [(None, self.owns(self.kind[name], name, self.known(name), name)) if name in self.plain or name in CONSTANTS else
                                       ('own' if name == self.lent else f'own-{name}', None) for name in arguments], self.core_refs)
         items = list_of(self.item(label) for label in labels)
         lifetimes, shares = tuple_of([self.κ(name) for name in self.core_refs]), tuple_of([self.q(name) for name in self.core_refs])

@@ -7,7 +7,7 @@ from typing import Optional
 
 import mir
 from context import Context
-from lent import DENOTED, WIDTHS, Terms
+from lent import CONSTANTS, DENOTED, WIDTHS, Terms
 from text import dashed, last, list_of, part, product_of, subscript, tuple_of, unclosed
 
 
@@ -60,6 +60,8 @@ class Walk(Terms):
 
     def operand(self, term):
         """An operand: its text, and that its value has its type."""
+        if term in CONSTANTS:
+            return f'{term}-lit !', '(tt, tt)'
         if term[0] == 'int':
             return 'lit ! tt', fits('lit< tt')
         number, steps = mir.place(term[1])

@@ -5,7 +5,7 @@ What the walks use of it:
     (seq A B)                                             A, then B; `Function.statements` is the flat list of them
     (assign PLACE RVALUE)   (call (direct (fnRef "crate::g")) OPERANDS PLACE)   (if OPERAND THEN ELSE)   return   skip
     (place N STEPS)         local N, then fields and dereferences
-    (copy PLACE)  (int BITS VALUE)                        operands
+    (copy PLACE)  (int BITS VALUE)  false  true           operands
 Lists are chains: (lcons A (lcons B lnil)).
 """
 import re

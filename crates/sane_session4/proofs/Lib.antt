@@ -1,0 +1,2 @@
+-- The clauses of the crate's functions.
+pub mod Contracts
