@@ -268,12 +268,20 @@ use Rattle.season_lines.specs.Lines.{addInSeason}''',
 
 # ---- that hand all their parameters on: capi
 
+CALLS = ['wrap', 'unwrap', 'wrap_envelope', 'unwrap_envelope']
+GROUP_CALLS = ['wrap_group', 'unwrap_group', 'wrap_envelope_group', 'unwrap_envelope_group']
+
+
+def by_both(functions):
+    """These functions, and those of the same names by four."""
+    return functions + [f'{function}_four' for function in functions]
+
+
 PASSING = (
-    [f'capi::c_session::pevghazo_{function}' for function in ('start', 'wrap', 'unwrap', 'wrap_envelope', 'unwrap_envelope')]
+    [f'capi::c_session::pevghazo_{function}' for function in ['start'] + by_both(CALLS)]
     + ['capi::c_codes::pevghazo_code']
-    + [f'capi::c_sane::pevghazo_sane_{function}' for function in ('start', 'wrap', 'unwrap', 'wrap_envelope', 'unwrap_envelope')]
+    + [f'capi::c_sane::pevghazo_sane_{function}' for function in ['start'] + by_both(CALLS)]
     + [f'capi::c_sae::pevghazo_sae_{function}' for function in ('start', 'unwrap', 'wrap')]
-    + [f'capi::c_table::pevghazo_{function}'
-       for function in ('start_day', 'open_group', 'wrap_group', 'unwrap_group', 'wrap_envelope_group', 'unwrap_envelope_group')]
+    + [f'capi::c_table::pevghazo_{function}' for function in ['start_day', 'open_group'] + by_both(GROUP_CALLS)]
     + [f'capi::c_pool::pevghazo_pool_{function}' for function in ('add', 'holds', 'rings')]
     + [f'capi::c_season::pevghazo_{function}' for function in ('pool_add_in_season', 'first_day')])

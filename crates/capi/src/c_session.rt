@@ -79,3 +79,70 @@ pub extern "C" fn pevghazo_unwrap_envelope(
 {
     session::unwrap_envelope(session, header, metadata, cryptogram, tag, out)
 }
+
+// ---- the same with full blocks taken four side by side (document 02, request 10): each has the contract of the function without `_four`, and alters
+// nothing but the time
+
+// Wraps a message, as `pevghazo_wrap` does.
+#[no_mangle]
+pub extern "C" fn pevghazo_wrap_four(
+    session: &mut Session,
+    metadata: &[u8],
+    message: &[u8],
+    out: &mut [u8],
+    tag: &mut [u8],
+) -> Answer
+    ensures { λ r. ⌜ Wrapped (now (session .entry)) (handed (now (metadata .entry)) (now (message .entry)) (now (out .entry)) (now (tag .entry)))
+        r (now (session .exit)) (now (out .exit)) (now (tag .exit)) ⌝ }
+{
+    session4::wrap_four(session, metadata, message, out, tag)
+}
+
+// Unwraps a cryptogram, as `pevghazo_unwrap` does.
+#[no_mangle]
+pub extern "C" fn pevghazo_unwrap_four(
+    session: &mut Session,
+    metadata: &[u8],
+    cryptogram: &[u8],
+    tag: &[u8],
+    out: &mut [u8],
+) -> Answer
+    ensures { λ r. ⌜ Unwrapped (now (session .entry)) (handed (now (metadata .entry)) (now (cryptogram .entry)) (now (out .entry)) (now (tag .entry)))
+        r (now (session .exit)) (now (out .exit)) (now (tag .entry)) ⌝ }
+{
+    session4::unwrap_four(session, metadata, cryptogram, tag, out)
+}
+
+// Wraps a message for the envelope with this header, as `pevghazo_wrap_envelope` does.
+#[no_mangle]
+pub extern "C" fn pevghazo_wrap_envelope_four(
+    session: &mut Session,
+    header: &[u8],
+    metadata: &[u8],
+    message: &[u8],
+    out: &mut [u8],
+    tag: &mut [u8],
+) -> Answer
+    ensures { λ r. ⌜ Wrapped (now (session .entry))
+        (handedFor (now (header .entry)) (now (metadata .entry)) (now (message .entry)) (now (out .entry)) (now (tag .entry))) r
+        (now (session .exit)) (now (out .exit)) (now (tag .exit)) ⌝ }
+{
+    session4::wrap_envelope_four(session, header, metadata, message, out, tag)
+}
+
+// Unwraps the cryptogram of the envelope with this header, as `pevghazo_unwrap_envelope` does.
+#[no_mangle]
+pub extern "C" fn pevghazo_unwrap_envelope_four(
+    session: &mut Session,
+    header: &[u8],
+    metadata: &[u8],
+    cryptogram: &[u8],
+    tag: &[u8],
+    out: &mut [u8],
+) -> Answer
+    ensures { λ r. ⌜ Unwrapped (now (session .entry))
+        (handedFor (now (header .entry)) (now (metadata .entry)) (now (cryptogram .entry)) (now (out .entry)) (now (tag .entry))) r
+        (now (session .exit)) (now (out .exit)) (now (tag .entry)) ⌝ }
+{
+    session4::unwrap_envelope_four(session, header, metadata, cryptogram, tag, out)
+}

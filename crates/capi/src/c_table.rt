@@ -146,6 +146,119 @@ pub extern "C" fn pevghazo_unwrap_envelope_group(
     )
 }
 
+// ---- the same with full blocks taken four side by side (document 02, request 10): each has the contract of the function without `_four`, and alters
+// nothing but the time
+
+// Wraps a message for a group, as `pevghazo_wrap_group` does.
+#[no_mangle]
+pub extern "C" fn pevghazo_wrap_group_four(
+    table: &mut [Record],
+    group: u32,
+    allowance: u32,
+    metadata: &[u8],
+    message: &[u8],
+    out: &mut [u8],
+    tag: &mut [u8],
+) -> Answer
+    ensures { λ r. ⌜ tableResult r (now (table .exit)) (now (out .exit)) (now (tag .exit))
+        ≡ wrapGroupAt allowance (tableOf (now (table .entry))) group
+        (handed (now (metadata .entry)) (now (message .entry)) (now (out .entry)) (now (tag .entry))) ⌝ }
+{
+    office4::wrap_group_four(
+        table,
+        group as usize,
+        allowance,
+        metadata,
+        message,
+        out,
+        tag,
+    )
+}
+
+// Unwraps a cryptogram for a group, as `pevghazo_unwrap_group` does.
+#[no_mangle]
+pub extern "C" fn pevghazo_unwrap_group_four(
+    table: &mut [Record],
+    group: u32,
+    allowance: u32,
+    metadata: &[u8],
+    cryptogram: &[u8],
+    tag: &[u8],
+    out: &mut [u8],
+) -> Answer
+    ensures { λ r. ⌜ tableResult r (now (table .exit)) (now (out .exit)) (now (tag .entry))
+        ≡ unwrapGroupAt allowance (tableOf (now (table .entry))) group
+        (handed (now (metadata .entry)) (now (cryptogram .entry)) (now (out .entry)) (now (tag .entry))) ⌝ }
+{
+    office4::unwrap_group_four(
+        table,
+        group as usize,
+        allowance,
+        metadata,
+        cryptogram,
+        tag,
+        out,
+    )
+}
+
+// Wraps a message for a group and the envelope with this header, as `pevghazo_wrap_envelope_group` does.
+#[no_mangle]
+pub extern "C" fn pevghazo_wrap_envelope_group_four(
+    table: &mut [Record],
+    group: u32,
+    allowance: u32,
+    header: &[u8],
+    metadata: &[u8],
+    message: &[u8],
+    out: &mut [u8],
+    tag: &mut [u8],
+) -> Answer
+    ensures { λ r. ⌜ tableResult r (now (table .exit)) (now (out .exit)) (now (tag .exit))
+        ≡ wrapGroupAt allowance (tableOf (now (table .entry))) group
+        (handedFor (now (header .entry)) (now (metadata .entry)) (now (message .entry)) (now (out .entry)) (now (tag .entry))) ⌝ }
+{
+    office4::wrap_envelope_group_four(
+        table,
+        group as usize,
+        allowance,
+        header,
+        metadata,
+        message,
+        out,
+        tag,
+    )
+}
+
+// Unwraps the cryptogram of the envelope with this header for a group, as `pevghazo_unwrap_envelope_group` does.
+#[no_mangle]
+pub extern "C" fn pevghazo_unwrap_envelope_group_four(
+    table: &mut [Record],
+    group: u32,
+    allowance: u32,
+    header: &[u8],
+    metadata: &[u8],
+    cryptogram: &[u8],
+    tag: &[u8],
+    out: &mut [u8],
+) -> Answer
+    ensures { λ r. ⌜ tableResult r (now (table .exit)) (now (out .exit)) (now (tag .entry))
+        ≡ unwrapGroupAt allowance (tableOf (now (table .entry))) group
+        (handedFor (now (header .entry)) (now (metadata .entry)) (now (cryptogram .entry)) (now (out .entry)) (now (tag .entry))) ⌝ }
+{
+    office4::unwrap_envelope_group_four(
+        table,
+        group as usize,
+        allowance,
+        header,
+        metadata,
+        cryptogram,
+        tag,
+        out,
+    )
+}
+
+// ---- the nearly-full question
+
 // The table's answer as a number and values, with the group in 32 bits.
 fn narrow(r: NearlyFull) -> Found
     requires { ⌜ nearlyFullResult r .group < 32 ⌝ }

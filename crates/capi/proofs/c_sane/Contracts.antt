@@ -20,6 +20,10 @@ use Rattle.capi.proofs.c_sane.pevghazo_sane_wrap as wrap
 use Rattle.capi.proofs.c_sane.pevghazo_sane_unwrap as unwrap
 use Rattle.capi.proofs.c_sane.pevghazo_sane_wrap_envelope as wrap-envelope
 use Rattle.capi.proofs.c_sane.pevghazo_sane_unwrap_envelope as unwrap-envelope
+use Rattle.capi.proofs.c_sane.pevghazo_sane_wrap_four as wrap-four
+use Rattle.capi.proofs.c_sane.pevghazo_sane_unwrap_four as unwrap-four
+use Rattle.capi.proofs.c_sane.pevghazo_sane_wrap_envelope_four as wrap-envelope-four
+use Rattle.capi.proofs.c_sane.pevghazo_sane_unwrap_envelope_four as unwrap-envelope-four
 
 -- in every model of the program logic
 module _ {M : Type 1} (𝓤 : URA M) (H : Heap 𝓤) (A : Atoms 𝓤) (mem : Memory → SProp 𝓤) (run : Routine → Fun 𝓤) where
@@ -73,3 +77,32 @@ module _ {M : Type 1} (𝓤 : URA M) (H : Heap 𝓤) (A : Atoms 𝓤) (mem : Mem
       (Unwrapped (now (a .0)) (handedFor (now (a .1 .0)) (now (a .1 .1 .0)) (now (a .1 .1 .1 .0)) (now (a .1 .1 .1 .1 .1 .0)) (now (a .1 .1 .1 .1 .0))) r
       (now (z .0)) (now (z .1 .1 .1 .1 .1 .0)) (now (a .1 .1 .1 .1 .0)))
   unwrap-envelope-ensures κs a r z = refl
+
+  -- ---- with full blocks taken four side by side: the clauses of the function without, all of them
+  pub wrap-four-asks : (κs : Lfts 5) (a : Args wrap-four.signature κs)
+      → wrap-four.clauses 𝓤 H A mem run κs a .requires tt ≡ connectives 𝓤 .⊤ₛ
+  wrap-four-asks κs a = refl
+
+  pub wrap-four-same : wrap-four.clauses 𝓤 H A mem run ≡ wrap.clauses 𝓤 H A mem run
+  wrap-four-same = refl
+
+  pub unwrap-four-asks : (κs : Lfts 5) (a : Args unwrap-four.signature κs)
+      → unwrap-four.clauses 𝓤 H A mem run κs a .requires tt ≡ connectives 𝓤 .⊤ₛ
+  unwrap-four-asks κs a = refl
+
+  pub unwrap-four-same : unwrap-four.clauses 𝓤 H A mem run ≡ unwrap.clauses 𝓤 H A mem run
+  unwrap-four-same = refl
+
+  pub wrap-envelope-four-asks : (κs : Lfts 6) (a : Args wrap-envelope-four.signature κs)
+      → wrap-envelope-four.clauses 𝓤 H A mem run κs a .requires tt ≡ connectives 𝓤 .⊤ₛ
+  wrap-envelope-four-asks κs a = refl
+
+  pub wrap-envelope-four-same : wrap-envelope-four.clauses 𝓤 H A mem run ≡ wrap-envelope.clauses 𝓤 H A mem run
+  wrap-envelope-four-same = refl
+
+  pub unwrap-envelope-four-asks : (κs : Lfts 6) (a : Args unwrap-envelope-four.signature κs)
+      → unwrap-envelope-four.clauses 𝓤 H A mem run κs a .requires tt ≡ connectives 𝓤 .⊤ₛ
+  unwrap-envelope-four-asks κs a = refl
+
+  pub unwrap-envelope-four-same : unwrap-envelope-four.clauses 𝓤 H A mem run ≡ unwrap-envelope.clauses 𝓤 H A mem run
+  unwrap-envelope-four-same = refl

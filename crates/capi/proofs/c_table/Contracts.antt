@@ -24,6 +24,10 @@ use Rattle.capi.proofs.c_table.pevghazo_unwrap_group as unwrap-group
 use Rattle.capi.proofs.c_table.pevghazo_wrap_envelope_group as wrap-envelope
 use Rattle.capi.proofs.c_table.pevghazo_unwrap_envelope_group as unwrap-envelope
 use Rattle.capi.proofs.c_table.pevghazo_nearly_full as nearly-full
+use Rattle.capi.proofs.c_table.pevghazo_wrap_group_four as wrap-group-four
+use Rattle.capi.proofs.c_table.pevghazo_unwrap_group_four as unwrap-group-four
+use Rattle.capi.proofs.c_table.pevghazo_wrap_envelope_group_four as wrap-envelope-four
+use Rattle.capi.proofs.c_table.pevghazo_unwrap_envelope_group_four as unwrap-envelope-four
 
 -- in every model of the program logic
 module _ {M : Type 1} (𝓤 : URA M) (H : Heap 𝓤) (A : Atoms 𝓤) (mem : Memory → SProp 𝓤) (run : Routine → Fun 𝓤) where
@@ -101,6 +105,35 @@ module _ {M : Type 1} (𝓤 : URA M) (H : Heap 𝓤) (A : Atoms 𝓤) (mem : Mem
       → nearly-full.clauses 𝓤 H A mem run κs a .ensures tt r z
       ≡ connectives 𝓤 .⌜_⌝ (foundResult r ≡ nearlyFullAt (tableOf (now (a .0))) (a .1 .0))
   nearly-full-ensures κs a r z = refl
+
+  -- ---- with full blocks taken four side by side: the clauses of the function without, all of them
+  pub wrap-group-four-asks : (κs : Lfts 5) (a : Args wrap-group-four.signature κs)
+      → wrap-group-four.clauses 𝓤 H A mem run κs a .requires tt ≡ connectives 𝓤 .⊤ₛ
+  wrap-group-four-asks κs a = refl
+
+  pub wrap-group-four-same : wrap-group-four.clauses 𝓤 H A mem run ≡ wrap-group.clauses 𝓤 H A mem run
+  wrap-group-four-same = refl
+
+  pub unwrap-group-four-asks : (κs : Lfts 5) (a : Args unwrap-group-four.signature κs)
+      → unwrap-group-four.clauses 𝓤 H A mem run κs a .requires tt ≡ connectives 𝓤 .⊤ₛ
+  unwrap-group-four-asks κs a = refl
+
+  pub unwrap-group-four-same : unwrap-group-four.clauses 𝓤 H A mem run ≡ unwrap-group.clauses 𝓤 H A mem run
+  unwrap-group-four-same = refl
+
+  pub wrap-envelope-four-asks : (κs : Lfts 6) (a : Args wrap-envelope-four.signature κs)
+      → wrap-envelope-four.clauses 𝓤 H A mem run κs a .requires tt ≡ connectives 𝓤 .⊤ₛ
+  wrap-envelope-four-asks κs a = refl
+
+  pub wrap-envelope-four-same : wrap-envelope-four.clauses 𝓤 H A mem run ≡ wrap-envelope.clauses 𝓤 H A mem run
+  wrap-envelope-four-same = refl
+
+  pub unwrap-envelope-four-asks : (κs : Lfts 6) (a : Args unwrap-envelope-four.signature κs)
+      → unwrap-envelope-four.clauses 𝓤 H A mem run κs a .requires tt ≡ connectives 𝓤 .⊤ₛ
+  unwrap-envelope-four-asks κs a = refl
+
+  pub unwrap-envelope-four-same : unwrap-envelope-four.clauses 𝓤 H A mem run ≡ unwrap-envelope.clauses 𝓤 H A mem run
+  unwrap-envelope-four-same = refl
 
 -- what the nearly-full question gives is decided by its promise
 pub one-found : (f g : Found) → foundResult f ≡ foundResult g → f ≡ g
