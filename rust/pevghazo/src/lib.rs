@@ -49,6 +49,7 @@
 //! repository that the crate stands in, where `make lib` makes it; then with `pkg-config`, which finds an installed one.
 #![deny(unsafe_code)]
 
+mod by_four;
 mod code;
 pub mod envelope;
 mod pool;

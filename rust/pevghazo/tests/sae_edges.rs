@@ -190,11 +190,11 @@ fn letters_are_no_messages_of_sane() {
             let of_sane = next_in_sane(&mut sane_sender, &metadata, &message);
             refuse(&mut random, &mut old, &of_sane);
             let (before, mut out) = (copy(&sane.library), vec![0xA5; m]);
-            let answer = sane.unwrap(&letter.metadata, &letter.cryptogram, &letter.tag, &mut out);
+            let answer = sane.unwrap_for(None, &letter.metadata, &letter.cryptogram, &letter.tag, &mut out);
             assert_eq!((answer, out), (answered(11, &letter), vec![0; m]), "a letter opens in SANE");
             assert!(same(&sane.library, &before));
             opens(&mut old, &letter);
-            let answer = sane.unwrap(&of_sane.metadata, &of_sane.cryptogram, &of_sane.tag, &mut vec![0; m]);
+            let answer = sane.unwrap_for(None, &of_sane.metadata, &of_sane.cryptogram, &of_sane.tag, &mut vec![0; m]);
             assert_eq!(answer, answered(0, &of_sane));
         }
     }

@@ -39,11 +39,35 @@ pub trait Opening: Sized {
     fn unwrap(&mut self, metadata: &[u8], cryptogram: &[u8], tag: &[u8], out: &mut [u8]) -> Answer;
 }
 
-/// A record of a mode that seals, with the calls for an envelope.
+/// By which of a call's two functions in the library it is made: the one that takes a block at a time, or the one by four.
+#[derive(Clone, Copy, Debug, Default, PartialEq, Eq)]
+pub enum By {
+    #[default]
+    One,
+    Four,
+}
+
+impl By {
+    /// Both.
+    pub const EACH: [By; 2] = [By::One, By::Four];
+
+    /// Either.
+    pub fn any(random: &mut Random) -> By {
+        random.pick(&By::EACH)
+    }
+
+    /// The other one.
+    pub fn other(self) -> By {
+        By::EACH[usize::from(self == By::One)]
+    }
+}
+
+/// A record of a mode that seals, with the calls for an envelope and those by four.
 pub trait Library: Opening<Mode: Mode> {
     /// Wraps, for the envelope with this header or without one.
     fn wrap_for(
         &mut self,
+        by: By,
         header: Header<'_>,
         metadata: &[u8],
         message: &[u8],
@@ -54,6 +78,7 @@ pub trait Library: Opening<Mode: Mode> {
     /// Unwraps, for the envelope with this header or without one.
     fn unwrap_for(
         &mut self,
+        by: By,
         header: Header<'_>,
         metadata: &[u8],
         cryptogram: &[u8],
@@ -114,29 +139,62 @@ opening!(Record, Sanse, raw::wrap, raw::unwrap);
 opening!(SaneRecord, Sane, raw::sane_wrap, raw::sane_unwrap);
 opening!(SaeRecord, Sae, raw::sae_wrap, raw::sae_unwrap);
 
-/// The calls for an envelope, and those without one.
+/// The calls for an envelope, and those without one, each with the one by four.
 macro_rules! library {
-    ($record:ident, $wrap_envelope:path, $unwrap_envelope:path) => {
+    ($record:ident, [$wrap:ident, $wrap_four:ident], [$unwrap:ident, $unwrap_four:ident],
+     [$wrap_envelope:ident, $wrap_envelope_four:ident], [$unwrap_envelope:ident, $unwrap_envelope_four:ident]) => {
         impl Library for $record {
-            fn wrap_for(&mut self, header: Header<'_>, a: &[u8], m: &[u8], out: &mut [u8], tag: &mut [u8]) -> Answer {
-                match header {
-                    Some(header) => $wrap_envelope(self, header, a, m, out, tag),
-                    None => self.wrap(a, m, out, tag),
+            fn wrap_for(
+                &mut self,
+                by: By,
+                header: Header<'_>,
+                a: &[u8],
+                m: &[u8],
+                out: &mut [u8],
+                tag: &mut [u8],
+            ) -> Answer {
+                match (by, header) {
+                    (By::One, Some(header)) => raw::$wrap_envelope(self, header, a, m, out, tag),
+                    (By::One, None) => raw::$wrap(self, a, m, out, tag),
+                    (By::Four, Some(header)) => raw::$wrap_envelope_four(self, header, a, m, out, tag),
+                    (By::Four, None) => raw::$wrap_four(self, a, m, out, tag),
                 }
             }
 
-            fn unwrap_for(&mut self, header: Header<'_>, a: &[u8], c: &[u8], tag: &[u8], out: &mut [u8]) -> Answer {
-                match header {
-                    Some(header) => $unwrap_envelope(self, header, a, c, tag, out),
-                    None => self.unwrap(a, c, tag, out),
+            fn unwrap_for(
+                &mut self,
+                by: By,
+                header: Header<'_>,
+                a: &[u8],
+                c: &[u8],
+                tag: &[u8],
+                out: &mut [u8],
+            ) -> Answer {
+                match (by, header) {
+                    (By::One, Some(header)) => raw::$unwrap_envelope(self, header, a, c, tag, out),
+                    (By::One, None) => raw::$unwrap(self, a, c, tag, out),
+                    (By::Four, Some(header)) => raw::$unwrap_envelope_four(self, header, a, c, tag, out),
+                    (By::Four, None) => raw::$unwrap_four(self, a, c, tag, out),
                 }
             }
         }
     };
 }
 
-library!(Record, raw::wrap_envelope, raw::unwrap_envelope);
-library!(SaneRecord, raw::sane_wrap_envelope, raw::sane_unwrap_envelope);
+library!(
+    Record,
+    [wrap, wrap_four],
+    [unwrap, unwrap_four],
+    [wrap_envelope, wrap_envelope_four],
+    [unwrap_envelope, unwrap_envelope_four]
+);
+library!(
+    SaneRecord,
+    [sane_wrap, sane_wrap_four],
+    [sane_unwrap, sane_unwrap_four],
+    [sane_wrap_envelope, sane_wrap_envelope_four],
+    [sane_unwrap_envelope, sane_unwrap_envelope_four]
+);
 
 /// A second record with the same content. Only tests do this.
 pub fn copy<R: Opening>(record: &R) -> R {
@@ -180,10 +238,12 @@ pub fn any_session<M>(random: &mut Random) -> Reference<M> {
 }
 
 /// A session held twice: by the library, and by the reference. Each call is made on both with buffers of the same content,
-/// and answers, whole buffers and records must be the same.
+/// and answers, whole buffers and records must be the same. The calls that the library has twice are made by each of the two
+/// functions, from the same record and into the same buffers; what goes on and what travels is what the end's own choice gave.
 pub struct BothOf<R: Opening> {
     pub library: R,
     pub reference: Reference<R::Mode>,
+    pub by: By,
 }
 
 /// A session of SANSE, held twice.
@@ -198,7 +258,7 @@ pub type SaeBoth = BothOf<SaeRecord>;
 impl<R: Opening> BothOf<R> {
     /// The same record on both sides.
     pub fn of(reference: Reference<R::Mode>) -> BothOf<R> {
-        BothOf { library: R::of(&reference), reference }
+        BothOf { library: R::of(&reference), reference, by: By::One }
     }
 
     /// Both sides have one record.
@@ -210,18 +270,11 @@ impl<R: Opening> BothOf<R> {
     }
 
     /// The library has given the reference's answer to a call that writes to these buffers, and both sides have one record.
-    fn checked(
-        &self,
-        call: &str,
-        given: Answer,
-        answer: Result<u32, Refusal>,
-        [out, tag]: [(&[u8], &[u8]); 2],
-    ) -> Answer {
-        assert_eq!(given, answer_of(answer), "{call}");
+    fn checked(&self, call: &str, given: Answer, answer: Answer, [out, tag]: [(&[u8], &[u8]); 2]) {
+        assert_eq!(given, answer, "{call}");
         assert!(out.0 == out.1, "{call}: the output buffers differ");
         assert!(tag.0 == tag.1, "{call}: the tag buffers differ");
         self.check();
-        given
     }
 
     /// Wraps into these buffers, without an envelope.
@@ -229,7 +282,8 @@ impl<R: Opening> BothOf<R> {
         let (mut out_too, mut tag_too) = (out.to_vec(), tag.to_vec());
         let given = self.library.wrap(metadata, message, out, tag);
         let answer = R::reference_wrap(&mut self.reference, metadata, message, &mut out_too, &mut tag_too);
-        self.checked("wrap", given, answer, [(out, &out_too), (tag, &tag_too)])
+        self.checked("wrap", given, answer_of(answer), [(out, &out_too), (tag, &tag_too)]);
+        given
     }
 
     /// Unwraps into this buffer, without an envelope.
@@ -237,11 +291,18 @@ impl<R: Opening> BothOf<R> {
         let mut out_too = out.to_vec();
         let given = self.library.unwrap(metadata, cryptogram, tag, out);
         let answer = self.reference.unwrap(metadata, cryptogram, tag, &mut out_too);
-        self.checked("unwrap", given, answer, [(out, &out_too), (&[], &[])])
+        self.checked("unwrap", given, answer_of(answer), [(out, &out_too), (&[], &[])]);
+        given
     }
 }
 
 impl<R: Library> BothOf<R> {
+    /// The end with a choice for its next calls.
+    pub fn by(&mut self, by: By) -> &mut BothOf<R> {
+        self.by = by;
+        self
+    }
+
     /// Wraps into these buffers, for the envelope with this header or without one.
     pub fn wrap_for(
         &mut self,
@@ -251,10 +312,17 @@ impl<R: Library> BothOf<R> {
         out: &mut [u8],
         tag: &mut [u8],
     ) -> Answer {
-        let (mut out_too, mut tag_too) = (out.to_vec(), tag.to_vec());
-        let given = self.library.wrap_for(header, metadata, message, out, tag);
-        let answer = self.reference.wrap_for(header, metadata, message, &mut out_too, &mut tag_too);
-        self.checked("wrap", given, answer, [(out, &out_too), (tag, &tag_too)])
+        let (before, kept) = (self.library.reference(), (out.to_vec(), tag.to_vec()));
+        let (mut out_too, mut tag_too) = kept.clone();
+        let answer = answer_of(self.reference.wrap_for(header, metadata, message, &mut out_too, &mut tag_too));
+        for by in [self.by.other(), self.by] {
+            self.library = R::of(&before);
+            out.copy_from_slice(&kept.0);
+            tag.copy_from_slice(&kept.1);
+            let given = self.library.wrap_for(by, header, metadata, message, out, tag);
+            self.checked(&format!("wrap by {by:?}"), given, answer, [(out, &out_too), (tag, &tag_too)]);
+        }
+        answer
     }
 
     /// Unwraps into this buffer, for the envelope with this header or without one.
@@ -266,10 +334,16 @@ impl<R: Library> BothOf<R> {
         tag: &[u8],
         out: &mut [u8],
     ) -> Answer {
-        let mut out_too = out.to_vec();
-        let given = self.library.unwrap_for(header, metadata, cryptogram, tag, out);
-        let answer = self.reference.unwrap_for(header, metadata, cryptogram, tag, &mut out_too);
-        self.checked("unwrap", given, answer, [(out, &out_too), (&[], &[])])
+        let (before, kept) = (self.library.reference(), out.to_vec());
+        let mut out_too = kept.clone();
+        let answer = answer_of(self.reference.unwrap_for(header, metadata, cryptogram, tag, &mut out_too));
+        for by in [self.by.other(), self.by] {
+            self.library = R::of(&before);
+            out.copy_from_slice(&kept);
+            let given = self.library.unwrap_for(by, header, metadata, cryptogram, tag, out);
+            self.checked(&format!("unwrap by {by:?}"), given, answer, [(out, &out_too), (&[], &[])]);
+        }
+        answer
     }
 }
 
@@ -283,7 +357,7 @@ impl Both {
             Err(number) => (Session::CLOSED, Err(number.into())),
         };
         assert_eq!(given, answer_of(answer));
-        let both = Both { library, reference };
+        let both = Both { library, reference, by: By::One };
         both.check();
         (both, given)
     }
@@ -343,8 +417,8 @@ impl<R: WithNonce> BothOf<R> {
             Ok((session, count)) => (session, Ok(count)),
             Err(number) => (Reference::CLOSED, Err(number.into())),
         };
-        let both = BothOf { library, reference };
-        let given = both.checked("start", given, answer, [(&[], &[]), (tag, &tag_too)]);
+        let both = BothOf { library, reference, by: By::One };
+        both.checked("start", given, answer_of(answer), [(&[], &[]), (tag, &tag_too)]);
         (both, given)
     }
 
