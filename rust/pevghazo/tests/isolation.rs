@@ -8,7 +8,7 @@ mod common;
 use common::headers::{Ways, header, maybe_misfit};
 use common::play::{any_envelope, next_arrival};
 use common::tables::{any_number, any_record, group_record_of, unwrap_group, wrap_group};
-use common::{Arrival, By, Opening, answer_of, any_session, cases, is_whole_run, key, maybe_long, other_length};
+use common::{Arrival, By, Held, answer_of, any_session, cases, is_whole_run, key, maybe_long, other_length};
 use pevghazo::raw::{self, Answer, GroupRecord};
 use pevghazo_reference::random::Random;
 use pevghazo_reference::session::Session;

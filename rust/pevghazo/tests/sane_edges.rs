@@ -3,7 +3,7 @@
 mod common;
 
 use common::edges::{self, Lengths};
-use common::{Opening, SaneBoth, any_session, copy, key, same};
+use common::{Held, SaneBoth, any_session, copy, key, same};
 use pevghazo::raw::{Answer, SaneRecord};
 use pevghazo_reference::random::Random;
 use pevghazo_reference::session::{SaneSession, growth};

@@ -7,7 +7,7 @@ use common::headers::{Ways, all_were_there, header, maybe_misfit};
 use common::play::{Choices, any_envelope, next_arrival};
 use common::tables::{Tables, any_number, any_record, group_record_of, same_group};
 use common::{
-    Arrival, Both, By, Opening, cases, copy, is_whole_run, key, least_times, maybe_long, other_length, record_of, same,
+    Arrival, Both, By, Held, cases, copy, is_whole_run, key, least_times, maybe_long, other_length, record_of, same,
     text,
 };
 use pevghazo::raw::{self, Answer, GroupRecord, Record};

@@ -9,7 +9,7 @@ mod vectors;
 use std::collections::HashMap;
 
 use common::tables::{unwrap_group, wrap_group};
-use common::{By, Library, Opening, answer_of};
+use common::{By, Held, Library, answer_of};
 use pevghazo::raw::{self, Answer, GroupRecord, Record, SaeRecord, SaneRecord};
 use pevghazo_reference::session::{Scheme, Session};
 use vectors::{Record as Vector, records};
@@ -17,7 +17,7 @@ use vectors::{Record as Vector, records};
 /// One end of a session, wherever its record stands.
 trait End {
     /// The kind of record.
-    type Record: Opening;
+    type Record: Held;
 
     /// The record; whatever stands beside it is as it should be.
     fn record(&self) -> &Self::Record;
@@ -71,7 +71,7 @@ impl End for Old {
     }
 
     fn unwrap(&mut self, metadata: &[u8], cryptogram: &[u8], tag: &[u8], out: &mut [u8]) -> Answer {
-        self.0.unwrap(metadata, cryptogram, tag, out)
+        raw::sae_unwrap(&mut self.0, metadata, cryptogram, tag, out)
     }
 }
 
@@ -179,7 +179,7 @@ fn check<E: End>(end: &E, vector: &Vector, answer: Answer, number: u32) {
 fn wrap<E: End>(end: &mut E, vector: &Vector) {
     let (metadata, message) = (vector.bytes("A"), vector.bytes("M"));
     let mut out = buffer(message.len());
-    let mut tag = vec![0; <E::Record as Opening>::Mode::TAG];
+    let mut tag = vec![0; <E::Record as Held>::Mode::TAG];
     let answer = end.wrap(&metadata, &message, &mut out, &mut tag);
     check(end, vector, answer, 0);
     assert_eq!(out, [&vector.bytes("C")[..], &REST].concat(), "C, line {}", vector.line);

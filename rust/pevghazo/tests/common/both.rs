@@ -12,8 +12,8 @@ use pevghazo_reference::session::{Header, Mode, Record as Reference, SaeSession,
 
 use super::{other_length, packet};
 
-/// A record of the C library, with the calls that records of every kind have.
-pub trait Opening: Sized {
+/// A kind of record of the C library, held beside one of the reference.
+pub trait Held: Sized {
     /// The mode in the reference.
     type Mode: Scheme;
 
@@ -22,21 +22,6 @@ pub trait Opening: Sized {
 
     /// The reference's record with the content of this one. Only tests look at it.
     fn reference(&self) -> Reference<Self::Mode>;
-
-    /// Wraps without an envelope.
-    fn wrap(&mut self, metadata: &[u8], message: &[u8], out: &mut [u8], tag: &mut [u8]) -> Answer;
-
-    /// The same with the reference.
-    fn reference_wrap(
-        reference: &mut Reference<Self::Mode>,
-        metadata: &[u8],
-        message: &[u8],
-        out: &mut [u8],
-        tag: &mut [u8],
-    ) -> Result<u32, Refusal>;
-
-    /// Unwraps without an envelope.
-    fn unwrap(&mut self, metadata: &[u8], cryptogram: &[u8], tag: &[u8], out: &mut [u8]) -> Answer;
 }
 
 /// By which of a call's two functions in the library it is made: the one that takes a block at a time, or the one by four.
@@ -63,7 +48,7 @@ impl By {
 }
 
 /// A record of a mode that seals, with the calls for an envelope and those by four.
-pub trait Library: Opening<Mode: Mode> {
+pub trait Library: Held<Mode: Mode> {
     /// Wraps, for the envelope with this header or without one.
     fn wrap_for(
         &mut self,
@@ -88,9 +73,9 @@ pub trait Library: Opening<Mode: Mode> {
 }
 
 /// The kinds of records have the same fields.
-macro_rules! opening {
-    ($record:ident, $mode:ty, $wrap:path, $unwrap:path) => {
-        impl Opening for $record {
+macro_rules! held {
+    ($record:ident, $mode:ty) => {
+        impl Held for $record {
             type Mode = $mode;
 
             fn of(reference: &Reference<$mode>) -> $record {
@@ -113,31 +98,13 @@ macro_rules! opening {
                     mode: PhantomData,
                 }
             }
-
-            fn wrap(&mut self, a: &[u8], m: &[u8], out: &mut [u8], tag: &mut [u8]) -> Answer {
-                $wrap(self, a, m, out, tag)
-            }
-
-            fn reference_wrap(
-                reference: &mut Reference<$mode>,
-                a: &[u8],
-                m: &[u8],
-                out: &mut [u8],
-                tag: &mut [u8],
-            ) -> Result<u32, Refusal> {
-                reference.wrap(a, m, out, tag)
-            }
-
-            fn unwrap(&mut self, a: &[u8], c: &[u8], tag: &[u8], out: &mut [u8]) -> Answer {
-                $unwrap(self, a, c, tag, out)
-            }
         }
     };
 }
 
-opening!(Record, Sanse, raw::wrap, raw::unwrap);
-opening!(SaneRecord, Sane, raw::sane_wrap, raw::sane_unwrap);
-opening!(SaeRecord, Sae, raw::sae_wrap, raw::sae_unwrap);
+held!(Record, Sanse);
+held!(SaneRecord, Sane);
+held!(SaeRecord, Sae);
 
 /// The calls for an envelope, and those without one, each with the one by four.
 macro_rules! library {
@@ -197,17 +164,17 @@ library!(
 );
 
 /// A second record with the same content. Only tests do this.
-pub fn copy<R: Opening>(record: &R) -> R {
+pub fn copy<R: Held>(record: &R) -> R {
     R::of(&record.reference())
 }
 
 /// Whether two records have the same content. Only tests compare them.
-pub fn same<R: Opening>(a: &R, b: &R) -> bool {
+pub fn same<R: Held>(a: &R, b: &R) -> bool {
     a.reference() == b.reference()
 }
 
 /// The library's record for one of the reference.
-pub fn record_of<R: Opening>(session: &Reference<R::Mode>) -> R {
+pub fn record_of<R: Held>(session: &Reference<R::Mode>) -> R {
     R::of(session)
 }
 
@@ -240,7 +207,7 @@ pub fn any_session<M>(random: &mut Random) -> Reference<M> {
 /// A session held twice: by the library, and by the reference. Each call is made on both with buffers of the same content,
 /// and answers, whole buffers and records must be the same. The calls that the library has twice are made by each of the two
 /// functions, from the same record and into the same buffers; what goes on and what travels is what the end's own choice gave.
-pub struct BothOf<R: Opening> {
+pub struct BothOf<R: Held> {
     pub library: R,
     pub reference: Reference<R::Mode>,
     pub by: By,
@@ -255,7 +222,7 @@ pub type SaneBoth = BothOf<SaneRecord>;
 /// A session of old letters, held twice.
 pub type SaeBoth = BothOf<SaeRecord>;
 
-impl<R: Opening> BothOf<R> {
+impl<R: Held> BothOf<R> {
     /// The same record on both sides.
     pub fn of(reference: Reference<R::Mode>) -> BothOf<R> {
         BothOf { library: R::of(&reference), reference, by: By::One }
@@ -276,20 +243,22 @@ impl<R: Opening> BothOf<R> {
         assert!(tag.0 == tag.1, "{call}: the tag buffers differ");
         self.check();
     }
+}
 
-    /// Wraps into these buffers, without an envelope.
+impl SaeBoth {
+    /// Wraps into these buffers.
     pub fn wrap(&mut self, metadata: &[u8], message: &[u8], out: &mut [u8], tag: &mut [u8]) -> Answer {
         let (mut out_too, mut tag_too) = (out.to_vec(), tag.to_vec());
-        let given = self.library.wrap(metadata, message, out, tag);
-        let answer = R::reference_wrap(&mut self.reference, metadata, message, &mut out_too, &mut tag_too);
+        let given = raw::sae_wrap(&mut self.library, metadata, message, out, tag);
+        let answer = self.reference.wrap(metadata, message, &mut out_too, &mut tag_too);
         self.checked("wrap", given, answer_of(answer), [(out, &out_too), (tag, &tag_too)]);
         given
     }
 
-    /// Unwraps into this buffer, without an envelope.
+    /// Unwraps into this buffer.
     pub fn unwrap(&mut self, metadata: &[u8], cryptogram: &[u8], tag: &[u8], out: &mut [u8]) -> Answer {
         let mut out_too = out.to_vec();
-        let given = self.library.unwrap(metadata, cryptogram, tag, out);
+        let given = raw::sae_unwrap(&mut self.library, metadata, cryptogram, tag, out);
         let answer = self.reference.unwrap(metadata, cryptogram, tag, &mut out_too);
         self.checked("unwrap", given, answer_of(answer), [(out, &out_too), (&[], &[])]);
         given
@@ -381,7 +350,7 @@ impl Both {
 }
 
 /// A kind of record whose sessions start with a nonce.
-pub trait WithNonce: Opening {
+pub trait WithNonce: Held {
     /// The library's start.
     fn raw_start(record: &mut Self, key: &[u8], nonce: &[u8], tag: &mut [u8]) -> Answer;
 

@@ -16,7 +16,7 @@ pub mod stored;
 pub mod tables;
 
 pub use both::{
-    Both, BothOf, By, Library, Opening, SaeBoth, SaneBoth, WithNonce, answer_of, any_session, copy, record_of, same,
+    Both, BothOf, By, Held, Library, SaeBoth, SaneBoth, WithNonce, answer_of, any_session, copy, record_of, same,
 };
 use headers::{ADDED, ANOTHER_GROUP, DROPPED, Ways, group_of, header, misfit};
 use pevghazo_reference::random::Random;

@@ -6,7 +6,7 @@ use pevghazo_reference::refusal::Number;
 use pevghazo_reference::session::Header;
 use pevghazo_reference::table::{GroupRecord as Reference, Table};
 
-use super::{By, Opening, answer_of, any_session, other_length, packet, record_of, same};
+use super::{By, Held, answer_of, any_session, other_length, packet, record_of, same};
 
 /// A table held twice. Each call is made on both with buffers of the same content, and answers, whole buffers, all sessions and all
 /// counts must be the same. Wraps and unwraps are made by each of the library's two functions; the office's choice goes on.
