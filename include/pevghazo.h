@@ -33,6 +33,9 @@
  * header, and they put it under the tag. They meet 1 before every other check. Both ends use them, or neither: envelope.h says more. Old letters
  * have no such call.
  *
+ * Each call that wraps or unwraps, but for old letters, is there twice: those whose names end with `_four` work on four blocks at a time, and are
+ * faster for long texts. They give the same in every byte and count, so that each call and each end may use either: session.h says more.
+ *
  * On success the bytes of a buffer beyond the text keep their content. A refused wrap leaves the output buffer as it was, so a program that
  * does not look at the number might send what stood there before: compilers warn of it (PEVGHAZO_MUST_USE).
  *

@@ -1,7 +1,8 @@
 /* The C library that programs link, with each buffer of a call directly beside closed pages and at every address modulo 16 (tests/pages.h), at the
- * lengths where blocks begin and end. Sessions in SANSE, alone and in a table, and those of old letters are compared with the independent
- * implementation; those in SANE, codes, and calls on a pool and with windows, with the same calls on ordinary buffers, which rust/pevghazo/tests
- * compares with it. The other side works on copies elsewhere. tests/buffers.sh builds and runs this. */
+ * lengths where blocks begin and end, and where four of them do. Wraps and unwraps are made a block at a time and by four. Sessions in SANSE, alone
+ * and in a table, and those of old letters are compared with the independent implementation; those in SANE, codes, and calls on a pool and with
+ * windows, with the same calls on ordinary buffers, which rust/pevghazo/tests compares with it. The other side works on copies elsewhere.
+ * tests/buffers.sh builds and runs this. */
 #include "pages.h"
 #include <pevghazo.h>
 #include <stdio.h>
@@ -26,6 +27,10 @@ uint32_t rust_sae_unwrap(pevghazo_sae_session *s, const uint8_t *metadata, size_
  * bytes earlier. A header beside short texts has 10 or 11 bytes, so that the first block of header and metadata ends with 36 or 37 bytes of these. */
 static const size_t lengths[] = {0, 1, 31, 32, 33, 36, 37, 38, 47, 48, 49, 79, 80, 81, 95, 96, 97, PEVGHAZO_TEXT_MAX - 1, PEVGHAZO_TEXT_MAX};
 enum { LENGTHS = sizeof lengths / sizeof lengths[0] };
+
+/* Where four blocks end, and eight. In SANE's keystream four end at 224 bytes, and behind the first block of header and metadata at 227 to 229. */
+static const size_t four_lengths[] = {191, 192, 193, 223, 224, 225, 226, 227, 228, 229, 230, 383, 384, 385};
+enum { FOUR_LENGTHS = sizeof four_lengths / sizeof four_lengths[0] };
 
 /* The buffers of a call: a row each, its length, and the same of the other side. Where they stand between, each kind's addresses go by steps of its
  * own, so that they differ from the others'; a record's are multiples of 4, and a pool's of 8. Windows have the steps of a key, which no call has
@@ -65,6 +70,14 @@ static const char *const names[CALLS] = {"start", "wrap", "unwrap", "wrap for an
                                          "first permitted day", "start of old letters", "wrap of an old letter", "unwrap of an old letter"};
 static const uint32_t group = 17, allowance = UINT32_MAX;
 
+/* Whether there is a second function for a call, by four; whether that one is to be called; and a function, or that one. */
+static bool is_twice(int call) { return call < CODE && call % OF_A_KIND != START; }
+static bool four;
+#define BY(function) (four ? function##_four : function)
+
+/* A buffer as calls take it. */
+#define OF(buffer) b[buffer], n[buffer]
+
 /* Whether a call's records are those of a table, and how many there are then. */
 static bool in_table(int call) { return call / OF_A_KIND == GROUP || call == DAY || call == QUESTION; }
 static size_t table_len(void) { return n[RECORD] / IN_TABLE; }
@@ -75,31 +88,21 @@ static uint32_t called_for_envelope(int call, uint8_t *const b[BUFFERS]) {
     pevghazo_record *table = (void *)b[RECORD];
     pevghazo_sane_session *sane = (void *)b[RECORD];
     switch (call) {
-    case WRAP_ENVELOPE:
-        return pevghazo_wrap_envelope(session, b[HEADER], n[HEADER], b[METADATA], n[METADATA], b[INPUT], n[INPUT], b[OUTPUT], n[OUTPUT], b[TAG],
-                                      n[TAG]).number;
-    case UNWRAP_ENVELOPE:
-        return pevghazo_unwrap_envelope(session, b[HEADER], n[HEADER], b[METADATA], n[METADATA], b[INPUT], n[INPUT], b[TAG], n[TAG], b[OUTPUT],
-                                        n[OUTPUT]).number;
+    case WRAP_ENVELOPE: return BY(pevghazo_wrap_envelope)(session, OF(HEADER), OF(METADATA), OF(INPUT), OF(OUTPUT), OF(TAG)).number;
+    case UNWRAP_ENVELOPE: return BY(pevghazo_unwrap_envelope)(session, OF(HEADER), OF(METADATA), OF(INPUT), OF(TAG), OF(OUTPUT)).number;
     case WRAP_ENVELOPE_GROUP:
-        return pevghazo_wrap_envelope_group(table, table_len(), group, allowance, b[HEADER], n[HEADER], b[METADATA], n[METADATA], b[INPUT],
-                                            n[INPUT], b[OUTPUT], n[OUTPUT], b[TAG], n[TAG]).number;
+        return BY(pevghazo_wrap_envelope_group)(table, table_len(), group, allowance, OF(HEADER), OF(METADATA), OF(INPUT), OF(OUTPUT), OF(TAG)).number;
     case UNWRAP_ENVELOPE_GROUP:
-        return pevghazo_unwrap_envelope_group(table, table_len(), group, allowance, b[HEADER], n[HEADER], b[METADATA], n[METADATA], b[INPUT],
-                                              n[INPUT], b[TAG], n[TAG], b[OUTPUT], n[OUTPUT]).number;
-    case SANE_WRAP_ENVELOPE:
-        return pevghazo_sane_wrap_envelope(sane, b[HEADER], n[HEADER], b[METADATA], n[METADATA], b[INPUT], n[INPUT], b[OUTPUT], n[OUTPUT],
-                                           b[TAG], n[TAG]).number;
-    case SANE_UNWRAP_ENVELOPE:
-        return pevghazo_sane_unwrap_envelope(sane, b[HEADER], n[HEADER], b[METADATA], n[METADATA], b[INPUT], n[INPUT], b[TAG], n[TAG],
-                                             b[OUTPUT], n[OUTPUT]).number;
-    default: return pevghazo_write_header(PEVGHAZO_LETTER_S, group, n[METADATA], n[INPUT], b[OUTPUT], n[OUTPUT]).number;
+        return BY(pevghazo_unwrap_envelope_group)(table, table_len(), group, allowance, OF(HEADER), OF(METADATA), OF(INPUT), OF(TAG), OF(OUTPUT)).number;
+    case SANE_WRAP_ENVELOPE: return BY(pevghazo_sane_wrap_envelope)(sane, OF(HEADER), OF(METADATA), OF(INPUT), OF(OUTPUT), OF(TAG)).number;
+    case SANE_UNWRAP_ENVELOPE: return BY(pevghazo_sane_unwrap_envelope)(sane, OF(HEADER), OF(METADATA), OF(INPUT), OF(TAG), OF(OUTPUT)).number;
+    default: return pevghazo_write_header(PEVGHAZO_LETTER_S, group, n[METADATA], n[INPUT], OF(OUTPUT)).number;
     }
 }
 
 /* What the question for the first permitted day gives: the day, or 0 for none, or the number of a refusal. */
 static uint32_t asked(uint8_t *const b[BUFFERS]) {
-    const pevghazo_first first = pevghazo_first_day((const void *)b[WINDOWS], b[LINE], n[LINE]);
+    const pevghazo_first first = pevghazo_first_day((const void *)b[WINDOWS], OF(LINE));
     return first.number != PEVGHAZO_ACCEPTED ? first.number : first.day;
 }
 
@@ -107,10 +110,10 @@ static uint32_t asked(uint8_t *const b[BUFFERS]) {
 static uint32_t called_on_pool(int call, uint8_t *const b[BUFFERS]) {
     pevghazo_pool *pool = (void *)b[POOL];
     switch (call) {
-    case ADD: return pevghazo_pool_add(pool, b[LINE], n[LINE]);
+    case ADD: return pevghazo_pool_add(pool, OF(LINE));
     case HOLDS: return pevghazo_pool_holds(pool, 'C', 99);
     case RINGS: return (uint32_t)pevghazo_pool_rings(pool);
-    case ADD_IN_SEASON: return pevghazo_pool_add_in_season(pool, (const void *)b[WINDOWS], b[LINE], n[LINE]);
+    case ADD_IN_SEASON: return pevghazo_pool_add_in_season(pool, (const void *)b[WINDOWS], OF(LINE));
     default: return asked(b);
     }
 }
@@ -119,9 +122,9 @@ static uint32_t called_on_pool(int call, uint8_t *const b[BUFFERS]) {
 static uint32_t called_on_old(int call, uint8_t *const b[BUFFERS]) {
     pevghazo_sae_session *old = (void *)b[RECORD];
     switch (call) {
-    case SAE_START: return pevghazo_sae_start(old, b[KEY], n[KEY], b[NONCE], n[NONCE], b[TAG], n[TAG]).number;
-    case SAE_WRAP: return pevghazo_sae_wrap(old, b[METADATA], n[METADATA], b[INPUT], n[INPUT], b[OUTPUT], n[OUTPUT], b[TAG], n[TAG]).number;
-    default: return pevghazo_sae_unwrap(old, b[METADATA], n[METADATA], b[INPUT], n[INPUT], b[TAG], n[TAG], b[OUTPUT], n[OUTPUT]).number;
+    case SAE_START: return pevghazo_sae_start(old, OF(KEY), OF(NONCE), OF(TAG)).number;
+    case SAE_WRAP: return pevghazo_sae_wrap(old, OF(METADATA), OF(INPUT), OF(OUTPUT), OF(TAG)).number;
+    default: return pevghazo_sae_unwrap(old, OF(METADATA), OF(INPUT), OF(TAG), OF(OUTPUT)).number;
     }
 }
 
@@ -131,16 +134,12 @@ static uint32_t called(int call, uint8_t *const b[BUFFERS]) {
     pevghazo_record *table = (void *)b[RECORD];
     pevghazo_sane_session *sane = (void *)b[RECORD];
     switch (call) {
-    case START: return pevghazo_start(session, b[KEY], n[KEY]).number;
-    case WRAP: return pevghazo_wrap(session, b[METADATA], n[METADATA], b[INPUT], n[INPUT], b[OUTPUT], n[OUTPUT], b[TAG], n[TAG]).number;
-    case UNWRAP: return pevghazo_unwrap(session, b[METADATA], n[METADATA], b[INPUT], n[INPUT], b[TAG], n[TAG], b[OUTPUT], n[OUTPUT]).number;
-    case OPEN_GROUP: return pevghazo_open_group(table, table_len(), group, allowance, b[KEY], n[KEY]).number;
-    case WRAP_GROUP:
-        return pevghazo_wrap_group(table, table_len(), group, allowance, b[METADATA], n[METADATA], b[INPUT], n[INPUT], b[OUTPUT], n[OUTPUT],
-                                   b[TAG], n[TAG]).number;
-    case UNWRAP_GROUP:
-        return pevghazo_unwrap_group(table, table_len(), group, allowance, b[METADATA], n[METADATA], b[INPUT], n[INPUT], b[TAG], n[TAG],
-                                     b[OUTPUT], n[OUTPUT]).number;
+    case START: return pevghazo_start(session, OF(KEY)).number;
+    case WRAP: return BY(pevghazo_wrap)(session, OF(METADATA), OF(INPUT), OF(OUTPUT), OF(TAG)).number;
+    case UNWRAP: return BY(pevghazo_unwrap)(session, OF(METADATA), OF(INPUT), OF(TAG), OF(OUTPUT)).number;
+    case OPEN_GROUP: return pevghazo_open_group(table, table_len(), group, allowance, OF(KEY)).number;
+    case WRAP_GROUP: return BY(pevghazo_wrap_group)(table, table_len(), group, allowance, OF(METADATA), OF(INPUT), OF(OUTPUT), OF(TAG)).number;
+    case UNWRAP_GROUP: return BY(pevghazo_unwrap_group)(table, table_len(), group, allowance, OF(METADATA), OF(INPUT), OF(TAG), OF(OUTPUT)).number;
     case DAY: return pevghazo_start_day(table, table_len(), allowance) == allowance ? PEVGHAZO_ACCEPTED : PEVGHAZO_ALLOWANCE;
     case QUESTION: return pevghazo_nearly_full(table, table_len(), UINT32_MAX).number;
     case ADD:
@@ -148,11 +147,10 @@ static uint32_t called(int call, uint8_t *const b[BUFFERS]) {
     case RINGS:
     case ADD_IN_SEASON:
     case FIRST_DAY: return called_on_pool(call, b);
-    case SANE_START: return pevghazo_sane_start(sane, b[KEY], n[KEY], b[NONCE], n[NONCE], b[TAG], n[TAG]).number;
-    case SANE_WRAP: return pevghazo_sane_wrap(sane, b[METADATA], n[METADATA], b[INPUT], n[INPUT], b[OUTPUT], n[OUTPUT], b[TAG], n[TAG]).number;
-    case SANE_UNWRAP:
-        return pevghazo_sane_unwrap(sane, b[METADATA], n[METADATA], b[INPUT], n[INPUT], b[TAG], n[TAG], b[OUTPUT], n[OUTPUT]).number;
-    case CODE: return pevghazo_code(session, packet, b[OUTPUT], n[OUTPUT]).number;
+    case SANE_START: return pevghazo_sane_start(sane, OF(KEY), OF(NONCE), OF(TAG)).number;
+    case SANE_WRAP: return BY(pevghazo_sane_wrap)(sane, OF(METADATA), OF(INPUT), OF(OUTPUT), OF(TAG)).number;
+    case SANE_UNWRAP: return BY(pevghazo_sane_unwrap)(sane, OF(METADATA), OF(INPUT), OF(TAG), OF(OUTPUT)).number;
+    case CODE: return pevghazo_code(session, packet, OF(OUTPUT)).number;
     case SAE_START:
     case SAE_WRAP:
     case SAE_UNWRAP: return called_on_old(call, b);
@@ -170,24 +168,21 @@ static uint32_t expected(int call) {
     pevghazo_session *session = in_table(call) ? &other_record(group)->session : (void *)b[RECORD];
     switch (call) {
     case START:
-    case OPEN_GROUP: return rust_start(session, b[KEY], n[KEY]), PEVGHAZO_ACCEPTED;
+    case OPEN_GROUP: return rust_start(session, OF(KEY)), PEVGHAZO_ACCEPTED;
     case WRAP:
     case WRAP_GROUP:
-        if (!rust_wrap(session, b[METADATA], n[METADATA], b[INPUT], n[INPUT], b[OUTPUT], b[TAG])) fail("the independent implementation refuses");
+        if (!rust_wrap(session, OF(METADATA), OF(INPUT), b[OUTPUT], b[TAG])) fail("the independent implementation refuses");
         return PEVGHAZO_ACCEPTED;
     case UNWRAP:
-    case UNWRAP_GROUP:
-        return rust_unwrap(session, b[METADATA], n[METADATA], b[INPUT], n[INPUT], b[TAG], b[OUTPUT]) ? PEVGHAZO_ACCEPTED : PEVGHAZO_WRONG_TAG;
+    case UNWRAP_GROUP: return rust_unwrap(session, OF(METADATA), OF(INPUT), b[TAG], b[OUTPUT]) ? PEVGHAZO_ACCEPTED : PEVGHAZO_WRONG_TAG;
     case WRAP_ENVELOPE:
-    case WRAP_ENVELOPE_GROUP:
-        return rust_wrap_envelope(session, b[HEADER], n[HEADER], b[METADATA], n[METADATA], b[INPUT], n[INPUT], b[OUTPUT], b[TAG]);
+    case WRAP_ENVELOPE_GROUP: return rust_wrap_envelope(session, OF(HEADER), OF(METADATA), OF(INPUT), b[OUTPUT], b[TAG]);
     case UNWRAP_ENVELOPE:
-    case UNWRAP_ENVELOPE_GROUP:
-        return rust_unwrap_envelope(session, b[HEADER], n[HEADER], b[METADATA], n[METADATA], b[INPUT], n[INPUT], b[TAG], b[OUTPUT]);
+    case UNWRAP_ENVELOPE_GROUP: return rust_unwrap_envelope(session, OF(HEADER), OF(METADATA), OF(INPUT), b[TAG], b[OUTPUT]);
     case DAY: return PEVGHAZO_ACCEPTED;
-    case SAE_START: return rust_sae_start((void *)b[RECORD], b[KEY], n[KEY], b[NONCE], n[NONCE], b[TAG]), PEVGHAZO_ACCEPTED;
+    case SAE_START: return rust_sae_start((void *)b[RECORD], OF(KEY), OF(NONCE), b[TAG]), PEVGHAZO_ACCEPTED;
     case SAE_WRAP: return PEVGHAZO_READ_ONLY;
-    case SAE_UNWRAP: return rust_sae_unwrap((void *)b[RECORD], b[METADATA], n[METADATA], b[INPUT], n[INPUT], b[TAG], b[OUTPUT]);
+    case SAE_UNWRAP: return rust_sae_unwrap((void *)b[RECORD], OF(METADATA), OF(INPUT), b[TAG], b[OUTPUT]);
     default: return called(call, b);
     }
 }
@@ -203,24 +198,38 @@ static void expected_counts(int call, uint32_t number) {
     for (size_t i = 0; call == DAY && i < table_len(); i++) other_record(i)->count = 0;
 }
 
-/* Lays out what stands on the other side, makes the call there and here, and compares number and buffers. */
-static void both(int call, uint32_t number) {
+/* What stood on the other side before a call. */
+static uint8_t before[BUFFERS][PEVGHAZO_TEXT_MAX];
+
+/* Lays out what stood on the other side before the call, makes it here, and compares number and buffers. */
+static void here(int call, uint32_t number) {
     const size_t step = in_table(call) ? IN_TABLE : ONE_SESSION;
     uint8_t *b[BUFFERS];
     snprintf(doing, sizeof doing,
-             "%s, lengths %zu (records), %zu (key), %zu (nonce), %zu (header), %zu (metadata), %zu (message), %zu (line), %s (place %d)",
-             names[call], n[RECORD], n[KEY], n[NONCE], n[HEADER], n[METADATA], n[INPUT], n[LINE], place_name(where), where);
+             "%s%s, lengths %zu (records), %zu (key), %zu (nonce), %zu (header), %zu (metadata), %zu (message), %zu (line), %s (place %d)",
+             names[call], four ? " by four" : "", n[RECORD], n[KEY], n[NONCE], n[HEADER], n[METADATA], n[INPUT], n[LINE], place_name(where), where);
     for (int i = 0; i < BUFFERS; i++) {
-        lay(&rows[i], where, steps[i], other[i], n[i]);
+        lay(&rows[i], where, steps[i], before[i], n[i]);
         b[i] = rows[i].at;
     }
-    if (expected(call) != number) fail("another number on the other side");
-    expected_counts(call, number);
-    for (int i = KEY; i <= INPUT; i++) holds(&rows[i], other[i], otherwise[i]);
     if (called(call, b) != number) fail("another number");
     for (size_t i = FIELDS; i < n[RECORD]; i += step) memcpy(&other[RECORD][i], b[RECORD] + i, ONE_SESSION - FIELDS);
     for (int i = 0; i < BUFFERS; i++) holds(&rows[i], other[i], otherwise[i]);
     calls++;
+}
+
+/* Makes a call on the other side, and here by each function that there is for it. */
+static void both(int call, uint32_t number) {
+    snprintf(doing, sizeof doing, "%s on the other side", names[call]);
+    for (int i = 0; i < BUFFERS; i++) memcpy(before[i], other[i], n[i]);
+    if (expected(call) != number) fail("another number");
+    expected_counts(call, number);
+    for (int i = KEY; i <= INPUT; i++)
+        if (memcmp(before[i], other[i], n[i]) != 0) fail(otherwise[i]);
+    here(call, number);
+    four = is_twice(call);
+    if (four) here(call, number);
+    four = false;
 }
 
 /* ---- sessions */
@@ -254,16 +263,16 @@ static void trial_wrap(void) {
 /* Wraps a message by this call; the end that has the record of before then refuses it with a wrong tag, and takes it with the right one, by that
  * call. An old letter is not wrapped by the library. */
 static void message(int wrap, int unwrap, size_t a, size_t m) {
-    static uint8_t before[PEVGHAZO_TEXT_MAX], sent[PEVGHAZO_TEXT_MAX];
+    static uint8_t session[PEVGHAZO_TEXT_MAX], sent[PEVGHAZO_TEXT_MAX];
     uint8_t *wrong = &other[TAG][calls % n[TAG]];
     fill(METADATA, a);
     fill(INPUT, m);
     fill(OUTPUT, m);
-    memcpy(before, other[RECORD], n[RECORD]);
+    memcpy(session, other[RECORD], n[RECORD]);
     memcpy(sent, other[INPUT], m);
     both(wrap, wrap == SAE_WRAP ? PEVGHAZO_READ_ONLY : PEVGHAZO_ACCEPTED);
     if (wrap == SAE_WRAP) trial_wrap();
-    memcpy(other[RECORD], before, n[RECORD]);
+    memcpy(other[RECORD], session, n[RECORD]);
     memcpy(other[INPUT], other[OUTPUT], m);
     *wrong ^= 1;
     both(unwrap, PEVGHAZO_WRONG_TAG);
@@ -314,14 +323,25 @@ static void code(void) {
     both(CODE, PEVGHAZO_ACCEPTED);
 }
 
+/* A message of these lengths, without an envelope and in one. */
+static void messages(int kind, size_t a, size_t m) {
+    message(OF_A_KIND * kind + WRAP, OF_A_KIND * kind + UNWRAP, a, m);
+    message_in_envelope(kind, a, m);
+    if (kind == LONE) code();
+}
+
 static void session(int kind) {
     starts(OF_A_KIND * kind + START);
     for (int i = 0; i < LENGTHS; i++)
-        for (int j = 0; j < LENGTHS; j++) {
-            message(OF_A_KIND * kind + WRAP, OF_A_KIND * kind + UNWRAP, lengths[i], lengths[j]);
-            message_in_envelope(kind, lengths[i], lengths[j]);
-            if (kind == LONE) code();
+        for (int j = 0; j < LENGTHS; j++) messages(kind, lengths[i], lengths[j]);
+    for (int i = 0; i < FOUR_LENGTHS; i++) {
+        const size_t with[] = {0, 48};
+        messages(kind, four_lengths[i], four_lengths[i]);
+        for (int j = 0; j < 2; j++) {
+            messages(kind, four_lengths[i], with[j]);
+            messages(kind, with[j], four_lengths[i]);
         }
+    }
     refused_headers(kind);
 }
 
@@ -435,7 +455,7 @@ static void everywhere(void) {
 int main(void) {
     make_rows("buffers", rows, BUFFERS, PEVGHAZO_TEXT_MAX);
     beside_closed_pages(everywhere);
-    printf("buffers: %u calls at %d lengths and %d addresses touch no byte beside their buffers, and agree with the other side\n", calls, LENGTHS,
-           ADDRESSES);
+    printf("buffers: %u calls at %d lengths and %d addresses touch no byte beside their buffers, and agree with the other side\n", calls,
+           LENGTHS + FOUR_LENGTHS, ADDRESSES);
     return 0;
 }

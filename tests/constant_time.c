@@ -4,9 +4,10 @@
  * marked so: the key, the lanes of a record, and the message, before they are handed to the library. Start, wrap, codes, the start of a day and
  * the nearly-full question must give no report, and neither must a call that is refused for its header, or a wrap of old letters.
  * Unwrap may give one, once in a call: its verdict on the tag, which everybody may know. tests/constant_time.sh runs this for lone sessions, for a
- * group of a table and for sessions in SANE, without an envelope and for one, and for sessions of old letters, and checks that all these reports
- * come from one branch. Old letters are made by the independent implementation, from a record that is no secret then. The lengths
- * go up to the limit of 16,384 bytes. A second argument N plants a leak in every wrap of a message of more than N bytes, and 'early' and N a
+ * group of a table and for sessions in SANE, without an envelope and for one, with calls that take a block at a time and with those by four, and for
+ * sessions of old letters, and checks that all these reports come from one branch; and for the leaves, which must give none. Old letters are made by
+ * the independent implementation, from a record that is no secret then. The lengths go up to the limit of 16,384 bytes. A second argument N plants a
+ * leak in every wrap of a message of more than N bytes, and 'early' and N a
  * comparison that ends at the first difference in every unwrap of one; they must be seen.
  *
  * A record's index, toggle and openness, a group's count, the allowance and all lengths are no secrets: anybody who sees the messages can count
@@ -33,17 +34,31 @@ static const size_t lengths[] = {0, 1, 16, 32, 33, 47, 48, 49, 95, 96, 97, 200, 
 static const size_t long_lengths[] = {1025, 5000, 16320, LONGEST - 1, LONGEST};
 enum { LENGTHS = sizeof lengths / sizeof lengths[0], LONG_LENGTHS = sizeof long_lengths / sizeof long_lengths[0] };
 
-/* Whose calls are made: those of a lone session, of a group of a table, of a session in SANE, or of one of old letters; and whether for an
- * envelope, which these have not. */
-enum { LONE, GROUP, SANE, SAE, WORDS = 7 };
-static const struct {
-    const char *word;
-    int kind;
-    bool for_envelope;
-} words[WORDS] = {{"lone", LONE, false},         {"group", GROUP, false},         {"sane", SANE, false},        {"sae", SAE, false},
-                  {"lone-envelope", LONE, true}, {"group-envelope", GROUP, true}, {"sane-envelope", SANE, true}};
+/* The same of calls by four: where four blocks end, and eight, with some bytes before or behind. */
+static const size_t four_lengths[] = {0, 48, 191, 192, 193, 384, 400};
+static const size_t four_long_lengths[] = {LONGEST};
+enum { FOUR_LENGTHS = sizeof four_lengths / sizeof four_lengths[0] };
+
+/* Whose calls are made: those of a lone session, of a group of a table, of a session in SANE, or of one of old letters; whether for an envelope, and
+ * whether by four, which these have not. Or the leaves. */
+enum { LONE, GROUP, SANE, SAE, LEAVES, KINDS };
+static const char *const kinds[KINDS] = {"lone", "group", "sane", "sae", "leaves"};
 static int kind;
-static bool for_envelope;
+static bool for_envelope, four;
+
+/* A function, or the one by four. */
+#define BY(function) (four ? function##_four : function)
+
+/* Takes the word for them, as in lone, sane-envelope or group-envelope-four. */
+static bool understood(const char *word) {
+    for (kind = 0; kind < KINDS && strncmp(word, kinds[kind], strlen(kinds[kind])) != 0; kind++) continue;
+    if (kind == KINDS) return false;
+    word += strlen(kinds[kind]);
+    for_envelope = strncmp(word, "-envelope", 9) == 0;
+    if (for_envelope) word += 9;
+    four = strcmp(word, "-four") == 0;
+    return (four || *word == 0) && (kind < SAE || !(for_envelope || four));
+}
 
 /* Whether the sessions start with a nonce, and have shorter tags and no codes. */
 static bool with_nonce(void) { return kind == SANE || kind == SAE; }
@@ -165,43 +180,43 @@ static pevghazo_answer call_start(const uint8_t *key, size_t key_len, size_t non
 static pevghazo_answer wrap_envelope(size_t a, size_t m) {
     switch (kind) {
     case LONE:
-        return pevghazo_wrap_envelope(&table[group].session, header, header_len, metadata, a, message, m, cryptogram, ROOM, tag, tag_len());
+        return BY(pevghazo_wrap_envelope)(&table[group].session, header, header_len, metadata, a, message, m, cryptogram, ROOM, tag, tag_len());
     case GROUP:
-        return pevghazo_wrap_envelope_group(table, PEVGHAZO_GROUPS, group, allowance, header, header_len, metadata, a, message, m, cryptogram,
+        return BY(pevghazo_wrap_envelope_group)(table, PEVGHAZO_GROUPS, group, allowance, header, header_len, metadata, a, message, m, cryptogram,
                                             ROOM, tag, tag_len());
-    default: return pevghazo_sane_wrap_envelope(&sane, header, header_len, metadata, a, message, m, cryptogram, ROOM, tag, tag_len());
+    default: return BY(pevghazo_sane_wrap_envelope)(&sane, header, header_len, metadata, a, message, m, cryptogram, ROOM, tag, tag_len());
     }
 }
 
 static pevghazo_answer unwrap_envelope(size_t a, size_t m, const uint8_t *arrived) {
     switch (kind) {
     case LONE:
-        return pevghazo_unwrap_envelope(&table[group].session, header, header_len, metadata, a, cryptogram, m, arrived, tag_len(), back, ROOM);
+        return BY(pevghazo_unwrap_envelope)(&table[group].session, header, header_len, metadata, a, cryptogram, m, arrived, tag_len(), back, ROOM);
     case GROUP:
-        return pevghazo_unwrap_envelope_group(table, PEVGHAZO_GROUPS, group, allowance, header, header_len, metadata, a, cryptogram, m, arrived,
+        return BY(pevghazo_unwrap_envelope_group)(table, PEVGHAZO_GROUPS, group, allowance, header, header_len, metadata, a, cryptogram, m, arrived,
                                               tag_len(), back, ROOM);
-    default: return pevghazo_sane_unwrap_envelope(&sane, header, header_len, metadata, a, cryptogram, m, arrived, tag_len(), back, ROOM);
+    default: return BY(pevghazo_sane_unwrap_envelope)(&sane, header, header_len, metadata, a, cryptogram, m, arrived, tag_len(), back, ROOM);
     }
 }
 
 static pevghazo_answer call_wrap(size_t a, size_t m) {
     if (for_envelope) return wrap_envelope(a, m);
     switch (kind) {
-    case LONE: return pevghazo_wrap(&table[group].session, metadata, a, message, m, cryptogram, ROOM, tag, tag_len());
+    case LONE: return BY(pevghazo_wrap)(&table[group].session, metadata, a, message, m, cryptogram, ROOM, tag, tag_len());
     case GROUP:
-        return pevghazo_wrap_group(table, PEVGHAZO_GROUPS, group, allowance, metadata, a, message, m, cryptogram, ROOM, tag, tag_len());
-    default: return pevghazo_sane_wrap(&sane, metadata, a, message, m, cryptogram, ROOM, tag, tag_len());
+        return BY(pevghazo_wrap_group)(table, PEVGHAZO_GROUPS, group, allowance, metadata, a, message, m, cryptogram, ROOM, tag, tag_len());
+    default: return BY(pevghazo_sane_wrap)(&sane, metadata, a, message, m, cryptogram, ROOM, tag, tag_len());
     }
 }
 
 static pevghazo_answer call_unwrap(size_t a, size_t m, const uint8_t *arrived) {
     if (for_envelope) return unwrap_envelope(a, m, arrived);
     switch (kind) {
-    case LONE: return pevghazo_unwrap(&table[group].session, metadata, a, cryptogram, m, arrived, tag_len(), back, ROOM);
+    case LONE: return BY(pevghazo_unwrap)(&table[group].session, metadata, a, cryptogram, m, arrived, tag_len(), back, ROOM);
     case GROUP:
-        return pevghazo_unwrap_group(table, PEVGHAZO_GROUPS, group, allowance, metadata, a, cryptogram, m, arrived, tag_len(), back, ROOM);
+        return BY(pevghazo_unwrap_group)(table, PEVGHAZO_GROUPS, group, allowance, metadata, a, cryptogram, m, arrived, tag_len(), back, ROOM);
     case SAE: return pevghazo_sae_unwrap(&sae, metadata, a, cryptogram, m, arrived, tag_len(), back, ROOM);
-    default: return pevghazo_sane_unwrap(&sane, metadata, a, cryptogram, m, arrived, tag_len(), back, ROOM);
+    default: return BY(pevghazo_sane_unwrap)(&sane, metadata, a, cryptogram, m, arrived, tag_len(), back, ROOM);
     }
 }
 
@@ -441,17 +456,23 @@ static void message_of(size_t a, size_t m) {
     unwrap(a, m, RIGHT);
 }
 
-static void messages(void) {
-    for (int i = 0; i < LONG_LENGTHS; i++) {
-        const size_t n = long_lengths[i], with[] = {0, 48};
+/* Of all pairs of short lengths, and of each long one with itself, none and one block. */
+static void messages_of(const size_t *short_ones, int short_count, const size_t *long_ones, int long_count) {
+    for (int i = 0; i < long_count; i++) {
+        const size_t n = long_ones[i], with[] = {0, 48};
         message_of(n, n);
         for (int j = 0; j < 2; j++) {
             message_of(n, with[j]);
             message_of(with[j], n);
         }
     }
-    for (int i = 0; i < LENGTHS; i++)
-        for (int j = 0; j < LENGTHS; j++) message_of(lengths[i], lengths[j]);
+    for (int i = 0; i < short_count; i++)
+        for (int j = 0; j < short_count; j++) message_of(short_ones[i], short_ones[j]);
+}
+
+static void messages(void) {
+    if (four) messages_of(four_lengths, FOUR_LENGTHS, four_long_lengths, 1);
+    else messages_of(lengths, LENGTHS, long_lengths, LONG_LENGTHS);
 }
 
 /* All lengths of a key; in SANE and for old letters with nonces of some lengths, of which the last stays. */
@@ -464,19 +485,48 @@ static void starts(void) {
     }
 }
 
-int main(int argc, char **argv) {
-    const bool early = argc == 4 && strcmp(argv[2], "early") == 0;
-    int word = 0;
-    while (word < WORDS && (argc < 2 || strcmp(argv[1], words[word].word) != 0)) word++;
-    if (word < WORDS) kind = words[word].kind, for_envelope = words[word].for_envelope;
-    if (!RUNNING_ON_VALGRIND || word == WORDS || argc > 4 || (argc == 4 && !early)) {
-        fprintf(stderr, "constant time: run tests/constant_time.sh, which runs this under valgrind for each kind of session\n");
-        return 2;
+/* ---- the leaves */
+
+typedef void compression(uint32_t acc[12], uint32_t mask[12], const uint8_t *s, size_t n);
+typedef uint32_t expansion(const uint32_t y[12], const uint32_t mask[12], uint8_t *out, size_t n);
+compression pevghazo_compress, pevghazo_compress_four;
+expansion pevghazo_expand, pevghazo_expand_four;
+
+/* A string of n bytes, and as much output, where the states and the string are secret. */
+static void leaf(compression *compress, expansion *expand, size_t n) {
+    static uint32_t acc[12], mask[12];
+    static char text[64];
+    snprintf(text, sizeof text, "compress and expand%s, %zu bytes", four ? " by four" : "", n);
+    doing = text;
+    for (uint32_t i = 0; i < 12; i++) acc[i] = i, mask[i] = 7 * i + 1;
+    hide(acc, sizeof acc);
+    hide(mask, sizeof mask);
+    hide(message, n);
+    memset(back, 0, sizeof back);
+    reports();
+    compress(acc, mask, message, n);
+    const uint32_t blocks = expand(acc, mask, back, n);
+    no_report();
+    is_public(&blocks, sizeof blocks, "the count depends on a secret");
+    if (blocks != (n + 47) / 48) fail("the count is not the expected one");
+    is_secret(acc, sizeof acc, "the accumulator does not depend on the string");
+    is_secret(mask, sizeof mask, "the mask does not depend on the one before");
+    is_secret(back, n, "the output does not depend on the state");
+    is_public(back + n, sizeof back - n, "a byte beside the output depends on a secret");
+    reveal(message, n);
+    reveal(back, n);
+}
+
+static void leaves(void) {
+    static const size_t all[] = {0, 1, 47, 48, 49, 191, 192, 193, 239, 240, 241, 383, 384, 385, 400, 1024, LONGEST};
+    for (size_t i = 0; i < 2 * sizeof all / sizeof all[0]; i++) {
+        four = i % 2 == 1;
+        leaf(BY(pevghazo_compress), BY(pevghazo_expand), all[i / 2]);
     }
-    if (argc == 3) planted = (size_t)strtoul(argv[2], NULL, 10);
-    if (early) planted_early = (size_t)strtoul(argv[3], NULL, 10);
-    for (int i = 0; i < ROOM; i++) metadata[i] = (uint8_t)(3 * i), message[i] = (uint8_t)(5 * i + 1);
-    leaks_are_seen();
+}
+
+/* Sessions of a kind, from their starts on. */
+static void sessions(void) {
     starts();
     if (!with_nonce()) code(0, PEVGHAZO_CODE_LENGTH, PEVGHAZO_NO_CODE);
     store_and_load();
@@ -484,6 +534,20 @@ int main(int argc, char **argv) {
     if (for_envelope) refused_headers();
     if (!with_nonce()) codes();
     if (kind == GROUP) runs();
+}
+
+int main(int argc, char **argv) {
+    const bool early = argc == 4 && strcmp(argv[2], "early") == 0;
+    if (!RUNNING_ON_VALGRIND || argc < 2 || !understood(argv[1]) || argc > 4 || (argc == 4 && !early)) {
+        fprintf(stderr, "constant time: run tests/constant_time.sh, which runs this under valgrind for each kind of session\n");
+        return 2;
+    }
+    if (argc == 3) planted = (size_t)strtoul(argv[2], NULL, 10);
+    if (early) planted_early = (size_t)strtoul(argv[3], NULL, 10);
+    for (int i = 0; i < ROOM; i++) metadata[i] = (uint8_t)(3 * i), message[i] = (uint8_t)(5 * i + 1);
+    leaks_are_seen();
+    if (kind == LEAVES) leaves();
+    else sessions();
     printf("constant time, %s: %u calls, %u verdicts on tags seen, nothing else\n", argv[1], calls, verdicts);
     return 0;
 }

@@ -25,6 +25,10 @@ said() { # WORDS ..: runs a command, and shows what it said only where it fails
   }
 }
 
+with_four() { # CALLS ..: each, and the one by four where there is one
+  printf '%s\n' "$@" | sed -nE 'p; /^pevghazo_(sane_)?(un)?wrap/ { s/\(/_four(/; p }'
+}
+
 library=target/staticlib/libcapi.a
 [ -f $library ] || fail "$library is missing: run 'make lib'"
 # It is not made again, whatever its sources' times say; what was made from an older one is.

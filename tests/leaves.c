@@ -1,18 +1,25 @@
-/* The leaves as the machine runs them: compress and expand, beside the independent implementation, at all lengths up to two blocks and a byte and
- * at long ones up to the limit, at every address modulo 16 and directly beside closed pages (tests/pages.h). The independent implementation works
- * on copies elsewhere. tests/leaves.sh builds and runs this. */
+/* The leaves as the machine runs them: compress and expand, a block at a time and by four, beside the independent implementation, at all lengths up
+ * to nine blocks and a byte and at long ones up to the limit, at every address modulo 16 and directly beside closed pages (tests/pages.h). The
+ * independent implementation works on copies elsewhere. tests/leaves.sh builds and runs this. */
 #include "pages.h"
 #include <stdio.h>
 
-/* Both implementations: accumulator and mask after a string; output of the rolled state y, added to a buffer, and the number of its blocks. */
-void pevghazo_compress(uint32_t acc[12], uint32_t mask[12], const uint8_t *s, size_t n);
-uint32_t pevghazo_expand(const uint32_t y[12], const uint32_t mask[12], uint8_t *out, size_t n);
-void rust_compress(uint32_t acc[12], uint32_t mask[12], const uint8_t *s, size_t n);
-uint32_t rust_expand(const uint32_t y[12], const uint32_t mask[12], uint8_t *out, size_t n);
+/* Accumulator and mask after a string; output of the rolled state y, added to a buffer, and the number of its blocks. */
+typedef void compression(uint32_t acc[12], uint32_t mask[12], const uint8_t *s, size_t n);
+typedef uint32_t expansion(const uint32_t y[12], const uint32_t mask[12], uint8_t *out, size_t n);
 
-/* All lengths up to 97, and these: the first is a whole number of blocks, the last the most that compress takes. */
-static const size_t long_lengths[] = {16368, 16383, 16384, 16401};
-enum { SHORT_LENGTHS = 98, LENGTHS = SHORT_LENGTHS + sizeof long_lengths / sizeof long_lengths[0], LONGEST = 16401, LANES = 48, STARTS = 8 };
+/* The leaves, those by four, and the independent implementation's. */
+compression pevghazo_compress, pevghazo_compress_four, rust_compress;
+expansion pevghazo_expand, pevghazo_expand_four, rust_expand;
+
+enum { ONE, FOUR, WAYS };
+static compression *const compressions[WAYS] = {pevghazo_compress, pevghazo_compress_four};
+static expansion *const expansions[WAYS] = {pevghazo_expand, pevghazo_expand_four};
+static const char *const names[WAYS][2] = {{"compress", "expand"}, {"compress by four", "expand by four"}};
+
+/* All lengths up to 433, and these: 85 groups of four blocks, a block more, and the most that compress takes. */
+static const size_t long_lengths[] = {16319, 16320, 16321, 16368, 16383, 16384, 16401};
+enum { SHORT_LENGTHS = 434, LENGTHS = SHORT_LENGTHS + sizeof long_lengths / sizeof long_lengths[0], LONGEST = 16401, LANES = 48, STARTS = 8 };
 
 static size_t length(int i) { return i < SHORT_LENGTHS ? (size_t)i : long_lengths[i - SHORT_LENGTHS]; }
 
@@ -44,34 +51,35 @@ static void compare(const char *of_text, const char *of_state, const char *of_ma
 }
 
 /* One more string; accumulator and mask go on from here. */
-static void compress(int where, size_t n) {
-    lay_out("compress", where, n);
-    pevghazo_compress((void *)rows[STATE].at, (void *)rows[MASK].at, rows[TEXT].at, n);
+static void compress(int way, int where, size_t n) {
+    lay_out(names[way][0], where, n);
+    compressions[way]((void *)rows[STATE].at, (void *)rows[MASK].at, rows[TEXT].at, n);
     rust_compress(state, mask, text, n);
     compare("the string was altered", "another accumulator", "another mask");
 }
 
 /* The output that the accumulator would give as a rolled state: any state is one. */
-static void expand(int where, size_t n) {
-    lay_out("expand", where, n);
-    const uint32_t count = pevghazo_expand((void *)rows[STATE].at, (void *)rows[MASK].at, rows[TEXT].at, n);
+static void expand(int way, int where, size_t n) {
+    lay_out(names[way][1], where, n);
+    const uint32_t count = expansions[way]((void *)rows[STATE].at, (void *)rows[MASK].at, rows[TEXT].at, n);
     if (count != rust_expand(state, mask, text, n)) fail("another count");
     compare("another output", "the rolled state was altered", "the mask was altered");
 }
 
 /* From any state, strings of all lengths one after another, each time from another length on, with output of all lengths in between. */
-static void strings(int start, int where) {
+static void strings(int way, int start, int where) {
     random_bytes(state, sizeof state);
     random_bytes(mask, sizeof mask);
     for (int i = 0; i < LENGTHS; i++) {
-        compress(where, length((i + start * LENGTHS / STARTS) % LENGTHS));
-        expand(where, length(i));
+        compress(way, where, length((i + start * LENGTHS / STARTS) % LENGTHS));
+        expand(way, where, length(i));
     }
 }
 
 static void everywhere(void) {
-    for (int start = 0; start < STARTS; start++)
-        for (int where = 0; where < PLACES; where++) strings(start, where);
+    for (int way = 0; way < WAYS; way++)
+        for (int start = 0; start < STARTS; start++)
+            for (int where = 0; where < PLACES; where++) strings(way, start, where);
 }
 
 int main(void) {

@@ -1,6 +1,6 @@
 #!/usr/bin/env bash
-# Makes the library of the leaves (crates/bench_exports; what is proved already is not proved again), and compares them with the independent
-# implementation (rust/bench) by tests/leaves.c: at short and long lengths, at every address modulo 16, and beside pages that are closed.
+# Makes the library of the leaves (crates/bench_exports; what is proved already is not proved again), and compares them, a block at a time and by four,
+# with the independent implementation (rust/bench) by tests/leaves.c: at short and long lengths, at every address modulo 16, and beside closed pages.
 set -eu
 cd "$(dirname "$0")/.."
 out=target/leaves

@@ -15,7 +15,11 @@ static pevghazo_session lone;
 static pevghazo_sane_session sane;
 static pevghazo_sae_session sae;
 static const uint8_t key[] = "a key for the memory's test", metadata[] = "size C";
-static uint8_t message[300], out[300], tag[PEVGHAZO_TAG_LENGTH], sane_tag[PEVGHAZO_SANE_TAG_LENGTH], header[PEVGHAZO_HEADER_MAX];
+
+/* Whether wraps and unwraps are made by four; and a function, or the one by four. */
+static int four;
+#define BY(function) (four ? function##_four : function)
+static uint8_t message[500], out[500], tag[PEVGHAZO_TAG_LENGTH], sane_tag[PEVGHAZO_SANE_TAG_LENGTH], header[PEVGHAZO_HEADER_MAX];
 
 static void fail(const char *what, const char *when) {
     fprintf(stderr, "memory: %s: %s\n", when, what);
@@ -54,15 +58,15 @@ static uint32_t call_for_envelope(int which, size_t n) {
     const uint8_t letter = which < SANE_START ? PEVGHAZO_LETTER_S : PEVGHAZO_LETTER_N;
     const size_t h = pevghazo_write_header(letter, 7, sizeof metadata, n, header, sizeof header).len, a = sizeof metadata;
     switch (which) {
-    case WRAP_ENVELOPE: return pevghazo_wrap_envelope(&lone, header, h, metadata, a, message, n, out, n, tag, sizeof tag).number;
-    case UNWRAP_ENVELOPE: return pevghazo_unwrap_envelope(&lone, header, h, metadata, a, out, n, tag, sizeof tag, message, n).number;
+    case WRAP_ENVELOPE: return BY(pevghazo_wrap_envelope)(&lone, header, h, metadata, a, message, n, out, n, tag, sizeof tag).number;
+    case UNWRAP_ENVELOPE: return BY(pevghazo_unwrap_envelope)(&lone, header, h, metadata, a, out, n, tag, sizeof tag, message, n).number;
     case WRAP_ENVELOPE_GROUP:
-        return pevghazo_wrap_envelope_group(office, PEVGHAZO_GROUPS, 7, allowance, header, h, metadata, a, message, n, out, n, tag, sizeof tag).number;
+        return BY(pevghazo_wrap_envelope_group)(office, PEVGHAZO_GROUPS, 7, allowance, header, h, metadata, a, message, n, out, n, tag, sizeof tag).number;
     case UNWRAP_ENVELOPE_GROUP:
-        return pevghazo_unwrap_envelope_group(office, PEVGHAZO_GROUPS, 7, allowance, header, h, metadata, a, out, n, tag, sizeof tag, message, n).number;
+        return BY(pevghazo_unwrap_envelope_group)(office, PEVGHAZO_GROUPS, 7, allowance, header, h, metadata, a, out, n, tag, sizeof tag, message, n).number;
     case SANE_WRAP_ENVELOPE:
-        return pevghazo_sane_wrap_envelope(&sane, header, h, metadata, a, message, n, out, n, sane_tag, sizeof sane_tag).number;
-    default: return pevghazo_sane_unwrap_envelope(&sane, header, h, metadata, a, out, n, sane_tag, sizeof sane_tag, message, n).number;
+        return BY(pevghazo_sane_wrap_envelope)(&sane, header, h, metadata, a, message, n, out, n, sane_tag, sizeof sane_tag).number;
+    default: return BY(pevghazo_sane_unwrap_envelope)(&sane, header, h, metadata, a, out, n, sane_tag, sizeof sane_tag, message, n).number;
     }
 }
 
@@ -70,18 +74,18 @@ static uint32_t call(int which, size_t n) {
     const uint32_t allowance = UINT32_MAX;
     switch (which) {
     case START: return pevghazo_start(&lone, key, sizeof key).number;
-    case WRAP: return pevghazo_wrap(&lone, metadata, sizeof metadata, message, n, out, n, tag, sizeof tag).number;
-    case UNWRAP: return pevghazo_unwrap(&lone, metadata, sizeof metadata, out, n, tag, sizeof tag, message, n).number;
+    case WRAP: return BY(pevghazo_wrap)(&lone, metadata, sizeof metadata, message, n, out, n, tag, sizeof tag).number;
+    case UNWRAP: return BY(pevghazo_unwrap)(&lone, metadata, sizeof metadata, out, n, tag, sizeof tag, message, n).number;
     case CODE: return pevghazo_code(&lone, (uint32_t)n, out, sizeof out).number;
     case OPEN_GROUP: return pevghazo_open_group(office, PEVGHAZO_GROUPS, 7, allowance, key, sizeof key).number;
     case WRAP_GROUP:
-        return pevghazo_wrap_group(office, PEVGHAZO_GROUPS, 7, allowance, metadata, sizeof metadata, message, n, out, n, tag, sizeof tag).number;
+        return BY(pevghazo_wrap_group)(office, PEVGHAZO_GROUPS, 7, allowance, metadata, sizeof metadata, message, n, out, n, tag, sizeof tag).number;
     case UNWRAP_GROUP:
-        return pevghazo_unwrap_group(office, PEVGHAZO_GROUPS, 7, allowance, metadata, sizeof metadata, out, n, tag, sizeof tag, message, n).number;
+        return BY(pevghazo_unwrap_group)(office, PEVGHAZO_GROUPS, 7, allowance, metadata, sizeof metadata, out, n, tag, sizeof tag, message, n).number;
     case SANE_START: return pevghazo_sane_start(&sane, key, sizeof key, message, n, sane_tag, sizeof sane_tag).number;
-    case SANE_WRAP: return pevghazo_sane_wrap(&sane, metadata, sizeof metadata, message, n, out, n, sane_tag, sizeof sane_tag).number;
+    case SANE_WRAP: return BY(pevghazo_sane_wrap)(&sane, metadata, sizeof metadata, message, n, out, n, sane_tag, sizeof sane_tag).number;
     case DAY: return pevghazo_start_day(office, PEVGHAZO_GROUPS, 0);
-    case SANE_UNWRAP: return pevghazo_sane_unwrap(&sane, metadata, sizeof metadata, out, n, sane_tag, sizeof sane_tag, message, n).number;
+    case SANE_UNWRAP: return BY(pevghazo_sane_unwrap)(&sane, metadata, sizeof metadata, out, n, sane_tag, sizeof sane_tag, message, n).number;
     case SAE_START: return pevghazo_sae_start(&sae, key, sizeof key, message, n, sane_tag, sizeof sane_tag).number;
     case SAE_WRAP: return pevghazo_sae_wrap(&sae, metadata, sizeof metadata, message, n, out, n, sane_tag, sizeof sane_tag).number;
     case SAE_UNWRAP: return pevghazo_sae_unwrap(&sae, metadata, sizeof metadata, out, n, sane_tag, sizeof sane_tag, message, n).number;
@@ -140,8 +144,9 @@ int main(void) {
     memory = open("/proc/self/mem", O_RDONLY);
     if (memory < 0) fail("/proc/self/mem cannot be opened", "start");
     for (unsigned i = 0; i < sizeof message; i++) message[i] = (uint8_t)(7 * i + 1);
-    for (int which = 0; which < CALLS; which++)
-        for (size_t n = 0; n <= sizeof message; n += 100) on_the_stack(which, n);
+    for (four = 0; four < 2; four++)
+        for (int which = 0; which < CALLS; which++)
+            for (size_t n = 0; n <= sizeof message; n += 100) on_the_stack(which, n);
     for (size_t n = 0; n <= sizeof message; n += 100) {
         wiped_after(DAY, WRAP_GROUP, n);
         wiped_after(SAE_WRAP, SAE_UNWRAP, n);

@@ -78,6 +78,23 @@ PEVGHAZO_MUST_USE pevghazo_answer pevghazo_sane_unwrap_envelope(pevghazo_sane_se
                                                                 size_t cryptogram_len, const uint8_t *tag, size_t tag_len, uint8_t *out,
                                                                 size_t out_len);
 
+/* By four: the same four calls, faster from PEVGHAZO_FOUR_MIN bytes of metadata or text on, with the same number, count, record and buffers for all
+ * bytes and lengths. A session may use either at each call, and each end its own choice: session.h says more. */
+PEVGHAZO_MUST_USE pevghazo_answer pevghazo_sane_wrap_four(pevghazo_sane_session *session, const uint8_t *metadata, size_t metadata_len,
+                                                          const uint8_t *message, size_t message_len, uint8_t *out, size_t out_len,
+                                                          uint8_t *tag, size_t tag_len);
+PEVGHAZO_MUST_USE pevghazo_answer pevghazo_sane_unwrap_four(pevghazo_sane_session *session, const uint8_t *metadata, size_t metadata_len,
+                                                            const uint8_t *cryptogram, size_t cryptogram_len, const uint8_t *tag,
+                                                            size_t tag_len, uint8_t *out, size_t out_len);
+PEVGHAZO_MUST_USE pevghazo_answer pevghazo_sane_wrap_envelope_four(pevghazo_sane_session *session, const uint8_t *header, size_t header_len,
+                                                                   const uint8_t *metadata, size_t metadata_len, const uint8_t *message,
+                                                                   size_t message_len, uint8_t *out, size_t out_len, uint8_t *tag,
+                                                                   size_t tag_len);
+PEVGHAZO_MUST_USE pevghazo_answer pevghazo_sane_unwrap_envelope_four(pevghazo_sane_session *session, const uint8_t *header,
+                                                                     size_t header_len, const uint8_t *metadata, size_t metadata_len,
+                                                                     const uint8_t *cryptogram, size_t cryptogram_len, const uint8_t *tag,
+                                                                     size_t tag_len, uint8_t *out, size_t out_len);
+
 #ifdef __cplusplus
 }
 #endif

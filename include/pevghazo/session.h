@@ -67,6 +67,29 @@ PEVGHAZO_MUST_USE pevghazo_answer pevghazo_unwrap_envelope(pevghazo_session *ses
                                                            size_t cryptogram_len, const uint8_t *tag, size_t tag_len, uint8_t *out,
                                                            size_t out_len);
 
+/* By four: the same four calls, which take four blocks of a string side by side wherever it still has four full ones, and blocks of keystream
+ * likewise. For long texts they take about half the time. Each gives what the one above does, for all bytes and lengths: number, count, record and
+ * buffers, refusals included. So a session may use either at each call, and each end its own choice: no byte tells which it was.
+ *
+ * They are faster from PEVGHAZO_FOUR_MIN bytes of metadata or text on, which are four full blocks; below that the calls above do as well. A
+ * program may choose by length, which is no secret, as the Rust crate does. */
+enum { PEVGHAZO_FOUR_MIN = 192 };
+
+PEVGHAZO_MUST_USE pevghazo_answer pevghazo_wrap_four(pevghazo_session *session, const uint8_t *metadata, size_t metadata_len,
+                                                     const uint8_t *message, size_t message_len, uint8_t *out, size_t out_len, uint8_t *tag,
+                                                     size_t tag_len);
+PEVGHAZO_MUST_USE pevghazo_answer pevghazo_unwrap_four(pevghazo_session *session, const uint8_t *metadata, size_t metadata_len,
+                                                       const uint8_t *cryptogram, size_t cryptogram_len, const uint8_t *tag, size_t tag_len,
+                                                       uint8_t *out, size_t out_len);
+PEVGHAZO_MUST_USE pevghazo_answer pevghazo_wrap_envelope_four(pevghazo_session *session, const uint8_t *header, size_t header_len,
+                                                              const uint8_t *metadata, size_t metadata_len, const uint8_t *message,
+                                                              size_t message_len, uint8_t *out, size_t out_len, uint8_t *tag,
+                                                              size_t tag_len);
+PEVGHAZO_MUST_USE pevghazo_answer pevghazo_unwrap_envelope_four(pevghazo_session *session, const uint8_t *header, size_t header_len,
+                                                                const uint8_t *metadata, size_t metadata_len, const uint8_t *cryptogram,
+                                                                size_t cryptogram_len, const uint8_t *tag, size_t tag_len, uint8_t *out,
+                                                                size_t out_len);
+
 #ifdef __cplusplus
 }
 #endif

@@ -88,6 +88,27 @@ PEVGHAZO_MUST_USE pevghazo_answer pevghazo_unwrap_envelope_group(pevghazo_record
                                                                  size_t metadata_len, const uint8_t *cryptogram, size_t cryptogram_len,
                                                                  const uint8_t *tag, size_t tag_len, uint8_t *out, size_t out_len);
 
+/* By four: the same four calls, faster from PEVGHAZO_FOUR_MIN bytes of metadata or text on, with the same number, count, records and buffers for all
+ * bytes and lengths, and with the same addition to the group's count. Each call may be either, and so may those of the group at its end: session.h
+ * says more. */
+PEVGHAZO_MUST_USE pevghazo_answer pevghazo_wrap_group_four(pevghazo_record *table, size_t table_len, uint32_t group, uint32_t allowance,
+                                                           const uint8_t *metadata, size_t metadata_len, const uint8_t *message,
+                                                           size_t message_len, uint8_t *out, size_t out_len, uint8_t *tag, size_t tag_len);
+PEVGHAZO_MUST_USE pevghazo_answer pevghazo_unwrap_group_four(pevghazo_record *table, size_t table_len, uint32_t group, uint32_t allowance,
+                                                             const uint8_t *metadata, size_t metadata_len, const uint8_t *cryptogram,
+                                                             size_t cryptogram_len, const uint8_t *tag, size_t tag_len, uint8_t *out,
+                                                             size_t out_len);
+PEVGHAZO_MUST_USE pevghazo_answer pevghazo_wrap_envelope_group_four(pevghazo_record *table, size_t table_len, uint32_t group,
+                                                                    uint32_t allowance, const uint8_t *header, size_t header_len,
+                                                                    const uint8_t *metadata, size_t metadata_len, const uint8_t *message,
+                                                                    size_t message_len, uint8_t *out, size_t out_len, uint8_t *tag,
+                                                                    size_t tag_len);
+PEVGHAZO_MUST_USE pevghazo_answer pevghazo_unwrap_envelope_group_four(pevghazo_record *table, size_t table_len, uint32_t group,
+                                                                      uint32_t allowance, const uint8_t *header, size_t header_len,
+                                                                      const uint8_t *metadata, size_t metadata_len,
+                                                                      const uint8_t *cryptogram, size_t cryptogram_len, const uint8_t *tag,
+                                                                      size_t tag_len, uint8_t *out, size_t out_len);
+
 /* Check 3, exactly where the table does not hold 32 records; it then names no group. Otherwise it names the lowest group that is open with an
  * index above the mark, and none exactly where there is no such group. An index that equals the mark is not above it, and a closed group is never
  * named, whatever its index. A group that is opened again has index 0: the same question then names the next. */

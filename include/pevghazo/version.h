@@ -9,7 +9,7 @@ extern "C" {
 #endif
 
 #define PEVGHAZO_VERSION_MAJOR 0
-#define PEVGHAZO_VERSION_MINOR 10
+#define PEVGHAZO_VERSION_MINOR 11
 #define PEVGHAZO_VERSION_PATCH 0
 
 /* The three as a text. */

@@ -1,5 +1,5 @@
-// A message from an office to a group, as it is and in an envelope, a packet's code at both ends, a pool, seasons, and old letters, in C++ with the
-// installed library.
+// Messages from an office to a group, as they are, a long one by four, and in an envelope, a packet's code at both ends, a pool, seasons, and old
+// letters, in C++ with the installed library.
 #include "letters.h"
 #include <cstring>
 #include <iostream>
@@ -26,8 +26,9 @@ class session {
     bytes wrap(const bytes &metadata, const bytes &message, bytes &tag) {
         bytes out(message.size() + 1);
         tag.assign(PEVGHAZO_TAG_LENGTH, 0);
-        const auto answer = pevghazo_wrap(&record, metadata.data(), metadata.size(), message.data(), message.size(), out.data(), out.size(),
-                                          tag.data(), tag.size());
+        const auto call = is_long(metadata, message) ? pevghazo_wrap_four : pevghazo_wrap;
+        const auto answer = call(&record, metadata.data(), metadata.size(), message.data(), message.size(), out.data(), out.size(), tag.data(),
+                                 tag.size());
         pevghazo_wipe_stack();
         if (answer.number != PEVGHAZO_ACCEPTED) throw answer.number;
         out.resize(message.size());
@@ -36,8 +37,9 @@ class session {
 
     bytes unwrap(const bytes &metadata, const bytes &cryptogram, const bytes &tag) {
         bytes out(cryptogram.size() + 1);
-        const auto answer = pevghazo_unwrap(&record, metadata.data(), metadata.size(), cryptogram.data(), cryptogram.size(), tag.data(), tag.size(),
-                                            out.data(), out.size());
+        const auto call = is_long(metadata, cryptogram) ? pevghazo_unwrap_four : pevghazo_unwrap;
+        const auto answer = call(&record, metadata.data(), metadata.size(), cryptogram.data(), cryptogram.size(), tag.data(), tag.size(), out.data(),
+                                 out.size());
         pevghazo_wipe_stack();
         if (answer.number != PEVGHAZO_ACCEPTED) throw answer.number;
         out.resize(cryptogram.size());
@@ -84,6 +86,9 @@ class session {
     }
 
   private:
+    // Whether a call is faster by four.
+    static bool is_long(const bytes &metadata, const bytes &text) { return metadata.size() >= PEVGHAZO_FOUR_MIN || text.size() >= PEVGHAZO_FOUR_MIN; }
+
     pevghazo_session record{};
 };
 
@@ -152,6 +157,9 @@ int main() {
     const bytes cryptogram = office.wrap(metadata, message, tag);
     if (group.unwrap(metadata, cryptogram, tag) != message) return 1;
     if (group.code(12) != office.code(12) || group.code(12) == group.code(13)) return 1;
+    const bytes page(1000, 'C');
+    const bytes sealed_page = office.wrap(metadata, page, tag);
+    if (group.unwrap(metadata, sealed_page, tag) != page) return 1;
     const bytes envelope = office.seal(7, metadata, message);
     bytes readdressed = envelope;
     readdressed.at(2) = '8';
@@ -164,7 +172,7 @@ int main() {
     if (pevghazo_pool_rings(&pool) != 100 || !pevghazo_pool_holds(&pool, 'C', 12100)) return 1;
     if (!seasons() || !old_letters()) return 1;
     try {
-        (void)group.unwrap(metadata, cryptogram, tag);
+        (void)group.unwrap(metadata, sealed_page, tag);
         return 1;
     } catch (std::uint32_t number) {
         if (number != PEVGHAZO_WRONG_TAG) return 1;

@@ -2,8 +2,8 @@
 //! sessions of every mode, which must be those that the C functions give.
 
 use pevghazo::{
-    BadBytes, Letter, Number, PACKET_MAX, Plain, Pool, Refusal, SaeSession, SaneSession, Secret, Session, Size, Table, Window, Windows,
-    envelope,
+    BadBytes, Letter, Number, PACKET_MAX, Plain, Pool, Refusal, SaeSession, SaneSession, Secret, Session, Size, TEXT_MAX, Table, Window,
+    Windows, envelope,
 };
 
 fn digits(bytes: &Secret) -> String {
@@ -37,6 +37,19 @@ fn only_opens(key: &[u8], plain: &Plain<'_>, of_sane: &[u8]) -> Result<SaeSessio
     Ok(old)
 }
 
+/// A message of the greatest length, from an office to a group and back, in sessions of its own.
+fn long_message(key: &[u8]) -> Result<(), Refusal> {
+    let plain = Plain { metadata: &[b'C'; 400], message: &[7; TEXT_MAX] };
+    let (mut office, (mut group, _)) = (Table::new(), Session::start(key)?);
+    office.start_day(10_000);
+    office.open_group(7, key)?;
+    let sealed = office.seal(7, &plain)?;
+    assert_eq!(group.open(&sealed.envelope)?.message, plain.message);
+    let back = group.seal(7, &plain)?;
+    assert_eq!((&office.open(&back.envelope)?.message[..], back.count), (plain.message, sealed.count));
+    Ok(())
+}
+
 /// A pool of rings, and windows in which some may be issued.
 fn rings() -> Result<(), Refusal> {
     let mut pool = Pool::new();
@@ -64,6 +77,7 @@ fn main() -> Result<(), Refusal> {
     let arrived = envelope::read(&sealed.envelope)?;
     assert_eq!(arrived.header, envelope::write_header(Letter::S, 7, &plain)?);
     assert_eq!(session.unwrap_envelope(&arrived)?.message, plain.message);
+    long_message(key)?;
     let (mut here, tag, _) = SaneSession::start(key, b"size C")?;
     let (mut there, same_tag, _) = SaneSession::start(key, b"size C")?;
     let sealed = here.seal(7, &plain)?;

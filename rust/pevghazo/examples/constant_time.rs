@@ -131,13 +131,15 @@ fn sessions<S>(
     wrap: fn(&mut S, &Plain<'_>) -> Vec<u8>,
     store_and_load: fn(S) -> S,
 ) {
-    let (key, message) = (black_box([0x35_u8; 32]), black_box([0x36_u8; 100]));
+    let (key, message) = (black_box([0x35_u8; 32]), black_box([0x36_u8; 400]));
     ask_of(request::MAKE_MEM_UNDEFINED, &key);
     ask_of(request::MAKE_MEM_UNDEFINED, &message);
     let mut before = errors();
     let mut session = start(&key);
-    for length in [0, 1, 48, 100] {
-        let cryptogram = wrap(&mut session, &Plain { metadata: b"size C", message: &message[..length] });
+    // The last two are wrapped by four.
+    for (metadata, length) in [(6, 0), (6, 1), (6, 48), (6, 100), (6, 400), (400, 400)] {
+        let plain = Plain { metadata: &[b'C'; 400][..metadata], message: &message[..length] };
+        let cryptogram = wrap(&mut session, &plain);
         session = store_and_load(session);
         check(errors() == before, doing, "a branch or an address depends on a secret");
         let followed = ask(request::CHECK_MEM_IS_DEFINED, cryptogram.as_ptr() as usize, length) != 0;

@@ -2,6 +2,7 @@
 
 use std::fmt;
 
+use crate::by_four::by_four;
 use crate::envelope::{self, Envelope, Letter, header_for, sealed};
 use crate::raw::{self, SaneRecord};
 use crate::record;
@@ -100,7 +101,9 @@ impl SaneSession {
     /// [`SaneSession::wrap`] into buffers: the cryptogram goes to the start of `out`, whose other bytes keep their content, and
     /// the tag to `tag`. Gives the permutations done. Checks 5, 6, 8 and 9.
     pub fn wrap_to(&mut self, plain: &Plain<'_>, out: &mut [u8], tag: &mut SaneTag) -> Result<u32, Refusal> {
-        let given = raw::sane_wrap(&mut self.record, plain.metadata, plain.message, out, tag);
+        let Plain { metadata, message } = *plain;
+        let wrap = if by_four(metadata, message) { raw::sane_wrap_four } else { raw::sane_wrap };
+        let given = wrap(&mut self.record, metadata, message, out, tag);
         answer(given.number, given.count)
     }
 
@@ -113,7 +116,9 @@ impl SaneSession {
     /// Gives the permutations done. Checks 5, 6, 8, 9 and 11; after 11 the part of `out` that the message would have taken is
     /// zero.
     pub fn unwrap_to(&mut self, arrival: &Arrival<'_, SANE_TAG_LENGTH>, out: &mut [u8]) -> Result<u32, Refusal> {
-        let given = raw::sane_unwrap(&mut self.record, arrival.metadata, arrival.cryptogram, arrival.tag, out);
+        let Arrival { metadata, cryptogram, tag } = *arrival;
+        let unwrap = if by_four(metadata, cryptogram) { raw::sane_unwrap_four } else { raw::sane_unwrap };
+        let given = unwrap(&mut self.record, metadata, cryptogram, tag, out);
         answer(given.number, given.count)
     }
 
@@ -132,7 +137,9 @@ impl SaneSession {
         out: &mut [u8],
         tag: &mut SaneTag,
     ) -> Result<u32, Refusal> {
-        let given = raw::sane_wrap_envelope(&mut self.record, header, plain.metadata, plain.message, out, tag);
+        let Plain { metadata, message } = *plain;
+        let wrap = if by_four(metadata, message) { raw::sane_wrap_envelope_four } else { raw::sane_wrap_envelope };
+        let given = wrap(&mut self.record, header, metadata, message, out, tag);
         answer(given.number, given.count)
     }
 
@@ -145,7 +152,9 @@ impl SaneSession {
     /// [`SaneSession::unwrap_envelope`] into a buffer, as [`SaneSession::unwrap_to`]. Checks 1, 5, 8, 9 and 11.
     pub fn unwrap_envelope_to(&mut self, envelope: &Envelope<'_>, out: &mut [u8]) -> Result<u32, Refusal> {
         let Envelope { header, metadata, cryptogram, tag, .. } = *envelope;
-        let given = raw::sane_unwrap_envelope(&mut self.record, header, metadata, cryptogram, tag, out);
+        let unwrap =
+            if by_four(metadata, cryptogram) { raw::sane_unwrap_envelope_four } else { raw::sane_unwrap_envelope };
+        let given = unwrap(&mut self.record, header, metadata, cryptogram, tag, out);
         answer(given.number, given.count)
     }
 

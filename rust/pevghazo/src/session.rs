@@ -3,6 +3,7 @@
 use std::fmt;
 
 use crate::Tag;
+use crate::by_four::by_four;
 use crate::code::Code;
 use crate::envelope::{self, Envelope, Letter, header_for, sealed};
 use crate::raw::{self, Record};
@@ -103,7 +104,9 @@ impl Session {
     /// # }
     /// ```
     pub fn wrap_to(&mut self, plain: &Plain<'_>, out: &mut [u8], tag: &mut Tag) -> Result<u32, Refusal> {
-        let given = raw::wrap(&mut self.record, plain.metadata, plain.message, out, tag);
+        let Plain { metadata, message } = *plain;
+        let wrap = if by_four(metadata, message) { raw::wrap_four } else { raw::wrap };
+        let given = wrap(&mut self.record, metadata, message, out, tag);
         answer(given.number, given.count)
     }
 
@@ -115,7 +118,9 @@ impl Session {
     /// [`Session::unwrap`] into a buffer: the message goes to the start of `out`, whose other bytes keep their content. Gives
     /// the permutations done. Checks 5, 6, 8, 9 and 11; after 11 the part of `out` that the message would have taken is zero.
     pub fn unwrap_to(&mut self, arrival: &Arrival<'_>, out: &mut [u8]) -> Result<u32, Refusal> {
-        let given = raw::unwrap(&mut self.record, arrival.metadata, arrival.cryptogram, arrival.tag, out);
+        let Arrival { metadata, cryptogram, tag } = *arrival;
+        let unwrap = if by_four(metadata, cryptogram) { raw::unwrap_four } else { raw::unwrap };
+        let given = unwrap(&mut self.record, metadata, cryptogram, tag, out);
         answer(given.number, given.count)
     }
 
@@ -134,7 +139,9 @@ impl Session {
         out: &mut [u8],
         tag: &mut Tag,
     ) -> Result<u32, Refusal> {
-        let given = raw::wrap_envelope(&mut self.record, header, plain.metadata, plain.message, out, tag);
+        let Plain { metadata, message } = *plain;
+        let wrap = if by_four(metadata, message) { raw::wrap_envelope_four } else { raw::wrap_envelope };
+        let given = wrap(&mut self.record, header, metadata, message, out, tag);
         answer(given.number, given.count)
     }
 
@@ -147,7 +154,8 @@ impl Session {
     /// [`Session::unwrap_envelope`] into a buffer, as [`Session::unwrap_to`]. Checks 1, 5, 8, 9 and 11.
     pub fn unwrap_envelope_to(&mut self, envelope: &Envelope<'_>, out: &mut [u8]) -> Result<u32, Refusal> {
         let Envelope { header, metadata, cryptogram, tag, .. } = *envelope;
-        let given = raw::unwrap_envelope(&mut self.record, header, metadata, cryptogram, tag, out);
+        let unwrap = if by_four(metadata, cryptogram) { raw::unwrap_envelope_four } else { raw::unwrap_envelope };
+        let given = unwrap(&mut self.record, header, metadata, cryptogram, tag, out);
         answer(given.number, given.count)
     }
 

@@ -2,6 +2,7 @@
 
 use std::fmt;
 
+use crate::by_four::by_four;
 use crate::code::Code;
 use crate::envelope::{self, Envelope, Letter, header_for, sealed};
 use crate::raw::{self, Answer, GroupRecord};
@@ -142,7 +143,8 @@ impl Table {
     /// [`Session::wrap_to`](crate::Session::wrap_to) for a group. Checks 3, 5, 6 and 8 to 10.
     pub fn wrap_to(&mut self, group: u32, plain: &Plain<'_>, out: &mut [u8], tag: &mut Tag) -> Result<u32, Refusal> {
         let Plain { metadata, message } = *plain;
-        given(raw::wrap_group(&mut self.records[..], group, self.allowance, metadata, message, out, tag))
+        let wrap = if by_four(metadata, message) { raw::wrap_group_four } else { raw::wrap_group };
+        given(wrap(&mut self.records[..], group, self.allowance, metadata, message, out, tag))
     }
 
     /// [`Session::unwrap`](crate::Session::unwrap) for a group. Checks 3, 5, 6 and 9 to 11; 11 adds its count to the group's.
@@ -154,7 +156,8 @@ impl Table {
     /// group's.
     pub fn unwrap_to(&mut self, group: u32, arrival: &Arrival<'_>, out: &mut [u8]) -> Result<u32, Refusal> {
         let Arrival { metadata, cryptogram, tag } = *arrival;
-        given(raw::unwrap_group(&mut self.records[..], group, self.allowance, metadata, cryptogram, tag, out))
+        let unwrap = if by_four(metadata, cryptogram) { raw::unwrap_group_four } else { raw::unwrap_group };
+        given(unwrap(&mut self.records[..], group, self.allowance, metadata, cryptogram, tag, out))
     }
 
     /// [`Session::wrap_envelope`](crate::Session::wrap_envelope) for a group. Checks 1, 5, 9 and 10; a header of another group
@@ -173,8 +176,8 @@ impl Table {
         tag: &mut Tag,
     ) -> Result<u32, Refusal> {
         let Plain { metadata, message } = *plain;
-        let records = &mut self.records[..];
-        given(raw::wrap_envelope_group(records, group, self.allowance, header, metadata, message, out, tag))
+        let wrap = if by_four(metadata, message) { raw::wrap_envelope_group_four } else { raw::wrap_envelope_group };
+        given(wrap(&mut self.records[..], group, self.allowance, header, metadata, message, out, tag))
     }
 
     /// [`Session::unwrap_envelope`](crate::Session::unwrap_envelope) for a group. Checks 1, 5 and 9 to 11; an envelope of another
@@ -187,8 +190,9 @@ impl Table {
     /// to the group's.
     pub fn unwrap_envelope_to(&mut self, group: u32, envelope: &Envelope<'_>, out: &mut [u8]) -> Result<u32, Refusal> {
         let Envelope { header, metadata, cryptogram, tag, .. } = *envelope;
-        let records = &mut self.records[..];
-        given(raw::unwrap_envelope_group(records, group, self.allowance, header, metadata, cryptogram, tag, out))
+        let four = by_four(metadata, cryptogram);
+        let unwrap = if four { raw::unwrap_envelope_group_four } else { raw::unwrap_envelope_group };
+        given(unwrap(&mut self.records[..], group, self.allowance, header, metadata, cryptogram, tag, out))
     }
 
     /// Seals a message into an envelope for a group. Checks 3, 5, 6, 9 and 10.

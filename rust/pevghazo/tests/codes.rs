@@ -7,8 +7,8 @@ mod common;
 use common::headers::all_were_there;
 use common::play::{self, Tally};
 use common::{
-    Arrival, Both, Library, PACKETS, answer_of, any_session, cases, copy, is_whole_run, key, least_times, maybe_long,
-    other_length, packet, record_of, same, text,
+    Arrival, Both, By, Library, PACKETS, answer_of, any_session, cases, copy, is_whole_run, key, least_times,
+    maybe_long, other_length, packet, record_of, same, text,
 };
 use pevghazo::raw::{self, Answer, Record};
 use pevghazo_reference::deck::xoofff;
@@ -17,7 +17,8 @@ use pevghazo_reference::random::Random;
 use pevghazo_reference::session::{Header, Session};
 
 /// One end of a session, to which each call is made four times: by the library and the reference, with codes asked for in
-/// between; by the library on a record of which no code is asked; and on the key and the full history.
+/// between; by the library on a record of which no code is asked, which goes on by the other one of the call's two functions; and
+/// on the key and the full history.
 struct End {
     asked: Both,
     unasked: Record,
@@ -34,8 +35,9 @@ impl End {
     fn wrap(&mut self, header: Header<'_>, metadata: &[u8], message: &[u8], out: &mut [u8], tag: &mut [u8]) -> Answer {
         let mut outs = [out.to_vec(), out.to_vec()];
         let mut tags = [tag.to_vec(), tag.to_vec()];
+        let by = self.asked.by.other();
         let answer = self.asked.wrap_for(header, metadata, message, out, tag);
-        assert_eq!(self.unasked.wrap_for(header, metadata, message, &mut outs[0], &mut tags[0]), answer);
+        assert_eq!(self.unasked.wrap_for(by, header, metadata, message, &mut outs[0], &mut tags[0]), answer);
         assert_eq!(answer_of(self.ledger.wrap_for(header, metadata, message, &mut outs[1], &mut tags[1])), answer);
         assert!(outs.iter().all(|other| other == out) && tags.iter().all(|other| other == tag), "the buffers differ");
         self.check();
@@ -46,8 +48,9 @@ impl End {
         let Arrival { header, metadata, cryptogram, tag, .. } = arrival;
         let header = header.as_deref();
         let mut outs = [out.to_vec(), out.to_vec()];
+        let by = self.asked.by.other();
         let answer = self.asked.unwrap_for(header, metadata, cryptogram, tag, out);
-        assert_eq!(self.unasked.unwrap_for(header, metadata, cryptogram, tag, &mut outs[0]), answer);
+        assert_eq!(self.unasked.unwrap_for(by, header, metadata, cryptogram, tag, &mut outs[0]), answer);
         assert_eq!(answer_of(self.ledger.unwrap_for(header, metadata, cryptogram, tag, &mut outs[1])), answer);
         assert!(outs.iter().all(|other| other == out), "the buffers differ");
         self.check();
@@ -98,6 +101,7 @@ fn wrap(random: &mut Random, end: &mut End, tally: &mut Tally) -> Option<Arrival
     let header = play::any_header::<Record>(random, envelope, &metadata, &message, &mut tally.ways);
     let (room, tag_length) = (other_length(random, message.len(), 8), other_length(random, 32, 12));
     let (mut out, mut tag) = (random.bytes(room), random.bytes(tag_length));
+    end.asked.by = By::any(random);
     let answer = end.wrap(header.as_deref(), &metadata, &message, &mut out, &mut tag);
     out.truncate(message.len());
     let accepted = tally.take(header.as_deref(), answer);
@@ -110,6 +114,7 @@ fn unwrap(random: &mut Random, end: &mut End, arrival: &Arrival, tally: &mut Tal
     let handed = if is_damaged { arrival.damaged(random, b'S', &mut tally.ways) } else { arrival.clone() };
     let room = other_length(random, handed.cryptogram.len(), 8);
     let mut out = random.bytes(room);
+    end.asked.by = By::any(random);
     let answer = end.unwrap(&handed, &mut out);
     tally.take(handed.header.as_deref(), answer)
 }

@@ -179,7 +179,10 @@ fn string_of<R: Start>(end: &mut BothOf<R>, length: usize, m: usize) -> bool {
 /// Header and metadata together up to a block's end, over it, and at the longest; and the shortest, of 8 bytes.
 fn strings<R: Start>() {
     let mut end = R::start();
-    for length in [8, 47, 48, 49, 95, 96, 97, 143, 144, 145, 16_384, 16_385, 16_400, 16_401] {
+    // By four the first block is taken alone, then four at a time: up to 240 and 432 bytes.
+    let of_four = [191, 192, 193, 239, 240, 241, 383, 384, 385, 431, 432, 433];
+    for length in [8, 47, 48, 49, 95, 96, 97, 143, 144, 145, 16_384, 16_385, 16_400, 16_401].into_iter().chain(of_four)
+    {
         let found =
             [0, 1, 9, 47, 48, 49, 96, 10_000, 16_384].iter().filter(|m| string_of(&mut end, length, **m)).count();
         // Strings above 16,384 bytes need a long message: its length takes digits.

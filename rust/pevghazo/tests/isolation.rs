@@ -8,7 +8,7 @@ mod common;
 use common::headers::{Ways, header, maybe_misfit};
 use common::play::{any_envelope, next_arrival};
 use common::tables::{any_number, any_record, group_record_of, unwrap_group, wrap_group};
-use common::{Arrival, Opening, answer_of, any_session, cases, is_whole_run, key, maybe_long, other_length};
+use common::{Arrival, By, Held, answer_of, any_session, cases, is_whole_run, key, maybe_long, other_length};
 use pevghazo::raw::{self, Answer, GroupRecord};
 use pevghazo_reference::random::Random;
 use pevghazo_reference::session::Session;
@@ -37,21 +37,21 @@ struct Given {
 }
 
 impl Call {
-    /// The call on the library's records.
-    fn on_library(&self, table: &mut [GroupRecord], allowance: u32) -> Given {
-        let group = self.group;
+    /// The call on the library's records, by either of its functions where there are two.
+    fn on_library(&self, random: &mut Random, table: &mut [GroupRecord], allowance: u32) -> Given {
+        let (by, at) = (By::any(random), (self.group, allowance));
         match self.kind.clone() {
             Kind::Open { key } => {
-                Given { answer: raw::open_group(table, group, allowance, &key), out: vec![], tag: vec![] }
+                Given { answer: raw::open_group(table, self.group, allowance, &key), out: vec![], tag: vec![] }
             }
             Kind::Wrap { header, metadata, message, mut out, mut tag } => {
                 let (texts, buffers) = ([&metadata[..], &message], [&mut out[..], &mut tag]);
-                let answer = wrap_group(table, group, allowance, header.as_deref(), texts, buffers);
+                let answer = wrap_group(by, table, at, header.as_deref(), texts, buffers);
                 Given { answer, out, tag }
             }
             Kind::Unwrap { header, metadata, cryptogram, tag, mut out } => {
                 let arrived = [&metadata[..], &cryptogram, &tag];
-                let answer = unwrap_group(table, group, allowance, header.as_deref(), arrived, &mut out);
+                let answer = unwrap_group(by, table, at, header.as_deref(), arrived, &mut out);
                 Given { answer, out, tag }
             }
         }
@@ -75,9 +75,9 @@ impl Call {
     }
 }
 
-/// Some bytes, now and then more than a call takes.
+/// Some bytes, now and then four blocks or more than a call takes.
 fn some_bytes(random: &mut Random) -> Vec<u8> {
-    let length = if random.once_in(6) { random.pick(&[0, 47, 48, 49, 96]) } else { random.below(120) };
+    let length = if random.once_in(6) { random.pick(&[0, 47, 48, 49, 96, 192, 400]) } else { random.below(120) };
     let bytes = random.bytes(length);
     maybe_long(random, &bytes, 40)
 }
@@ -172,7 +172,7 @@ impl Day {
     fn calls_beside(&self, random: &mut Random, table: &mut [GroupRecord]) {
         for _ in 0..random.below(4) {
             let beside = call_beside(random, self.group, table);
-            beside.on_library(table, self.allowance);
+            beside.on_library(random, table, self.allowance);
         }
     }
 
@@ -180,7 +180,7 @@ impl Day {
     fn check(&self, random: &mut Random, mut table: Vec<GroupRecord>) {
         for (call, expected) in self.calls.iter().zip(&self.given) {
             self.calls_beside(random, &mut table);
-            let given = call.on_library(&mut table, self.allowance);
+            let given = call.on_library(random, &mut table, self.allowance);
             assert!(given == *expected, "group {}: another answer or buffer, {:?}", self.group, given.answer);
         }
         self.calls_beside(random, &mut table);

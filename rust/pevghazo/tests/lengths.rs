@@ -1,7 +1,7 @@
 //! Wraps and unwraps of both modes, and unwraps of old letters, through the C library, beside the independent implementation, at all
 //! short lengths and at those where blocks begin and end, with all buffers at addresses that are not aligned: answers, buffers,
 //! counts and records are the same, the message comes back, and the bytes around the buffers stay. Those of the modes are made
-//! without an envelope, and for one.
+//! without an envelope, and for one, a block at a time and by four.
 
 mod common;
 
@@ -10,12 +10,18 @@ use std::ops::Range;
 
 use common::headers::header;
 use common::letters::{answered, next};
-use common::{Arrival, Both, BothOf, EDGES, Library, SaeBoth, SaneBoth, answer_of, record_of, same};
+use common::{Arrival, Both, BothOf, By, EDGES, Library, SaeBoth, SaneBoth, answer_of, record_of, same};
 use pevghazo_reference::random::Random;
 use pevghazo_reference::session::{Mode, SaeSession, Scheme};
 
-/// How far behind a multiple of 16 the buffers stand.
-const OFFSETS: [usize; 5] = [1, 2, 3, 5, 7];
+/// How far behind a multiple of 16 the buffers stand: each the next one's place, from one that the turn says.
+const OFFSETS: [usize; 16] = [1, 2, 3, 5, 7, 9, 11, 13, 15, 6, 10, 14, 4, 12, 8, 0];
+
+/// Turns in which no buffer stands at a multiple of 4.
+const TURNS: Range<usize> = 0..5;
+
+/// Lengths at which a call by four has a group of four blocks, or one more, just not, just so and with a byte behind it; and the longest.
+const FOUR_EDGES: [usize; 7] = [191, 192, 193, 383, 384, 385, 16_384];
 
 /// The lengths at which blocks of SANE's and of old letters' keystream begin and end: it is the output from byte 16 on.
 const STREAM_EDGES: [usize; 6] = [31, 32, 33, 79, 80, 81];
@@ -95,9 +101,11 @@ fn message<R: Library>(random: &mut Random, [here, there]: &mut [BothOf<R>; 2], 
     header.put(&whole);
     let of_envelope = group.map(|_| header.get());
     let accepted = answer_of(Ok(R::Mode::count(whole.len() + a, m)));
-    let answer = here.wrap_for(of_envelope, metadata.get(), message.get(), out.get_mut(), tag.get_mut());
+    let answer =
+        here.by(By::any(random)).wrap_for(of_envelope, metadata.get(), message.get(), out.get_mut(), tag.get_mut());
     assert_eq!(answer, accepted, "wrap");
-    let answer = there.unwrap_for(of_envelope, metadata.get(), out.get(), tag.get(), back.get_mut());
+    let answer =
+        there.by(By::any(random)).unwrap_for(of_envelope, metadata.get(), out.get(), tag.get(), back.get_mut());
     assert_eq!(answer, accepted, "unwrap");
     assert!(back.get() == message.get(), "another message comes back");
     assert!(same(&here.library, &there.library), "the ends' records differ");
@@ -105,17 +113,27 @@ fn message<R: Library>(random: &mut Random, [here, there]: &mut [BothOf<R>; 2], 
     assert!([out, tag, back].iter().all(Placed::is_kept_around), "bytes beside the output were altered");
 }
 
-/// Lengths of metadata and message: all pairs of edges, and every length up to three blocks and a byte; so header and metadata
+/// Lengths of metadata and message: all pairs of edges, and every length up to nine blocks and a byte; so header and metadata
 /// together have every length from 10 to that, too.
 fn lengths() -> impl Iterator<Item = (usize, usize)> {
-    let edges = || EDGES.into_iter().chain(STREAM_EDGES);
-    edges().flat_map(move |a| edges().map(move |m| (a, m))).chain((0..=145).map(|m| (145 - m, m)))
+    let edges = [&EDGES[..], &STREAM_EDGES].concat();
+    pairs(&edges).collect::<Vec<_>>().into_iter().chain((0..=433).map(|m| (433 - m, m)))
 }
 
-/// Messages of all these lengths and at all turns, without an envelope and for one, from these ends on, which take turns in sealing.
-fn messages<R: Library>(random: &mut Random, mut ends: [BothOf<R>; 2]) {
-    for (a, m) in lengths() {
-        for turn in 0..OFFSETS.len() {
+/// All pairs of some lengths.
+fn pairs(lengths: &[usize]) -> impl Iterator<Item = (usize, usize)> {
+    lengths.iter().flat_map(|a| lengths.iter().map(|m| (*a, *m)))
+}
+
+/// Messages of these lengths and at these turns, without an envelope and for one, from these ends on, which take turns in sealing.
+fn messages_of<R: Library>(
+    random: &mut Random,
+    mut ends: [BothOf<R>; 2],
+    lengths: impl Iterator<Item = (usize, usize)>,
+    turns: Range<usize>,
+) {
+    for (a, m) in lengths {
+        for turn in turns.clone() {
             for group in [None, Some(random.below(32) as u32)] {
                 message(random, &mut ends, &Case { a, m, turn, group });
             }
@@ -124,18 +142,22 @@ fn messages<R: Library>(random: &mut Random, mut ends: [BothOf<R>; 2]) {
     }
 }
 
+/// Messages of all lengths, and those of a call by four with every buffer at every address modulo 16.
+fn messages<R: Library>(random: &mut Random, start: impl Fn(&mut Random) -> BothOf<R>) {
+    let ends = [start(random), start(random)];
+    messages_of(random, ends, lengths(), TURNS);
+    let ends = [start(random), start(random)];
+    messages_of(random, ends, pairs(&FOUR_EDGES), 0..OFFSETS.len());
+}
+
 #[test]
 fn messages_in_sanse() {
-    let mut random = Random::new(1);
-    let ends = [(); 2].map(|()| Both::start(&mut random, &[9; 47]).0);
-    messages(&mut random, ends);
+    messages(&mut Random::new(1), |random| Both::start(random, &[9; 47]).0);
 }
 
 #[test]
 fn messages_in_sane() {
-    let mut random = Random::new(1);
-    let ends = [(); 2].map(|()| SaneBoth::started(&mut random, &[9; 47], b"1"));
-    messages(&mut random, ends);
+    messages(&mut Random::new(1), |random| SaneBoth::started(random, &[9; 47], b"1"));
 }
 
 /// The next old letter of these lengths is opened.
@@ -159,7 +181,7 @@ fn old_letters() {
     let mut end = SaeBoth::started(&mut random, &[9; 47], b"1");
     let mut sender = end.reference.clone();
     for (a, m) in lengths() {
-        for turn in 0..OFFSETS.len() {
+        for turn in TURNS {
             letter(&mut random, &mut sender, &mut end, &Case { a, m, turn, group: None });
         }
     }
@@ -170,7 +192,7 @@ fn starts() {
     let mut random = Random::new(1);
     for key in 16..=47 {
         for nonce in EDGES {
-            for turn in 0..OFFSETS.len() {
+            for turn in TURNS {
                 let [key, nonce, mut tag] = placed(&mut random, turn, [key, nonce, 16]);
                 let answer = SaneBoth::start(&mut random, key.get(), nonce.get(), tag.get_mut()).1;
                 let old = SaeBoth::start(&mut random, key.get(), nonce.get(), tag.get_mut()).1;

@@ -5,7 +5,7 @@ mod common;
 
 use common::edges::{self, Lengths};
 use common::letters::{answered, next, next_in_sane, refuse};
-use common::{Arrival, Opening, SaeBoth, SaneBoth, any_session, copy, key, record_of, same};
+use common::{Arrival, Held, SaeBoth, SaneBoth, any_session, copy, key, record_of, same};
 use pevghazo::raw::{self, Answer, SaeRecord};
 use pevghazo_reference::random::Random;
 use pevghazo_reference::session::{SaeSession, growth};
@@ -167,7 +167,7 @@ fn one_message_of_sane_is_not_two() {
     let mut sender = end.reference.clone();
     next_in_sane(&mut sender, b"size C", b"");
     let second = next_in_sane(&mut sender, b"", b"12001");
-    let answer = end.unwrap(b"size C", &second.cryptogram, &second.tag, &mut [0; 5]);
+    let answer = end.unwrap_for(None, b"size C", &second.cryptogram, &second.tag, &mut [0; 5]);
     assert_eq!(answer.number, 11);
 }
 
@@ -190,11 +190,11 @@ fn letters_are_no_messages_of_sane() {
             let of_sane = next_in_sane(&mut sane_sender, &metadata, &message);
             refuse(&mut random, &mut old, &of_sane);
             let (before, mut out) = (copy(&sane.library), vec![0xA5; m]);
-            let answer = sane.unwrap(&letter.metadata, &letter.cryptogram, &letter.tag, &mut out);
+            let answer = sane.unwrap_for(None, &letter.metadata, &letter.cryptogram, &letter.tag, &mut out);
             assert_eq!((answer, out), (answered(11, &letter), vec![0; m]), "a letter opens in SANE");
             assert!(same(&sane.library, &before));
             opens(&mut old, &letter);
-            let answer = sane.unwrap(&of_sane.metadata, &of_sane.cryptogram, &of_sane.tag, &mut vec![0; m]);
+            let answer = sane.unwrap_for(None, &of_sane.metadata, &of_sane.cryptogram, &of_sane.tag, &mut vec![0; m]);
             assert_eq!(answer, answered(0, &of_sane));
         }
     }

@@ -1,5 +1,6 @@
 //! Sessions of SANE through the C library, beside the independent implementation: every answer, buffer and record is the
-//! same, in random sessions and of any record, and equals what the full history gives.
+//! same, in random sessions and of any record, and equals what the full history gives. Each call may be made by four, and each end
+//! has its own choice.
 
 mod common;
 
@@ -7,7 +8,7 @@ use common::edges;
 use common::headers::{Ways, all_were_there};
 use common::play::{self, Ends, Tally};
 use common::{
-    Arrival, SaneBoth, answer_of, cases, is_whole_run, key, least_times, maybe_long, other_length, record_of, same,
+    Arrival, By, SaneBoth, answer_of, cases, is_whole_run, key, least_times, maybe_long, other_length, record_of, same,
     text,
 };
 use pevghazo::raw::{Answer, SaneRecord};
@@ -37,10 +38,11 @@ fn messages_both_ways() {
         }
     });
     if is_whole_run() {
-        let Tally { numbers, forged, ways, accepted } = tally;
+        let Tally { numbers, forged, ways, accepted, choices } = tally;
         assert!(forged > 10_000, "{forged} forged arrivals");
         assert!(accepted.iter().all(|sort| *sort > 10 * least_times()), "without and for an envelope: {accepted:?}");
         all_were_there(&ways, least_times());
+        choices.all_were_there(10 * least_times());
         assert!(numbers[0] > 5_000 && [1, 6, 7, 8].iter().all(|number| numbers[*number] > 100), "{numbers:?}");
     }
 }
@@ -112,7 +114,7 @@ impl End {
         let (room, tag_length) = (other_length(random, message.len(), 8), other_length(random, 16, 12));
         let (mut out, mut tag) = (random.bytes(room), random.bytes(tag_length));
         let (mut out_too, mut tag_too) = (out.clone(), tag.clone());
-        let answer = self.both.wrap_for(header.as_deref(), &metadata, &message, &mut out, &mut tag);
+        let answer = self.both.by(By::any(random)).wrap_for(header.as_deref(), &metadata, &message, &mut out, &mut tag);
         let by_history = self.ledger.wrap_for(header.as_deref(), &metadata, &message, &mut out_too, &mut tag_too);
         assert_eq!(answer, answer_of(by_history));
         assert!(out == out_too && tag == tag_too, "the history gives other buffers");
@@ -130,7 +132,7 @@ impl End {
         let mut out = random.bytes(room);
         let mut out_too = out.clone();
         let Arrival { header, metadata, cryptogram, tag, .. } = &handed;
-        let answer = self.both.unwrap_for(header.as_deref(), metadata, cryptogram, tag, &mut out);
+        let answer = self.both.by(By::any(random)).unwrap_for(header.as_deref(), metadata, cryptogram, tag, &mut out);
         let by_history = self.ledger.unwrap_for(header.as_deref(), metadata, cryptogram, tag, &mut out_too);
         assert_eq!(answer, answer_of(by_history));
         assert!(out == out_too, "the history gives another buffer");

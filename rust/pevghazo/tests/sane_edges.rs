@@ -3,7 +3,7 @@
 mod common;
 
 use common::edges::{self, Lengths};
-use common::{Opening, SaneBoth, any_session, copy, key, same};
+use common::{Held, SaneBoth, any_session, copy, key, same};
 use pevghazo::raw::{Answer, SaneRecord};
 use pevghazo_reference::random::Random;
 use pevghazo_reference::session::{SaneSession, growth};
@@ -23,8 +23,16 @@ fn counts_at_the_edges() {
         for (a, m, count) in edges::COUNTS {
             let (metadata, message, index) = (random.bytes(a), random.bytes(m), here.library.index);
             let (mut out, mut tag, mut back) = (random.bytes(m), [0; 16], random.bytes(m));
-            assert_eq!(here.wrap(&metadata, &message, &mut out, &mut tag), Answer { number: 0, count }, "{a} {m}");
-            assert_eq!(there.unwrap(&metadata, &out, &tag, &mut back), Answer { number: 0, count }, "{a} {m}");
+            assert_eq!(
+                here.wrap_for(None, &metadata, &message, &mut out, &mut tag),
+                Answer { number: 0, count },
+                "{a} {m}"
+            );
+            assert_eq!(
+                there.unwrap_for(None, &metadata, &out, &tag, &mut back),
+                Answer { number: 0, count },
+                "{a} {m}"
+            );
             assert!(back == message && same(&here.library, &there.library), "{a} {m}");
             assert_eq!(here.library.index, index + growth(a, m), "{a} {m}");
         }
@@ -38,8 +46,8 @@ fn refused(random: &mut Random, session: &SaneSession, (a, m, tag, room): Length
     let before = (random.bytes(room), random.bytes(tag));
     let (mut out, mut tag) = before.clone();
     let expected = Answer { number, count: 0 };
-    assert_eq!(both.wrap(&metadata, &text, &mut out, &mut tag), expected);
-    assert_eq!(both.unwrap(&metadata, &text, &tag, &mut out), expected);
+    assert_eq!(both.wrap_for(None, &metadata, &text, &mut out, &mut tag), expected);
+    assert_eq!(both.unwrap_for(None, &metadata, &text, &tag, &mut out), expected);
     assert!((out, tag) == before, "number {number} has altered a buffer");
     assert!(both.library.reference() == *session, "number {number} has altered the record");
 }
@@ -50,16 +58,16 @@ fn accepted(random: &mut Random, session: &SaneSession, (a, m, tag, room): Lengt
     let (mut here, mut there) = (SaneBoth::of(session.clone()), SaneBoth::of(session.clone()));
     let (metadata, message) = (random.bytes(a), random.bytes(m));
     let (mut out, mut tag, before) = (random.bytes(room), random.bytes(tag), random.bytes(room));
-    assert_eq!(here.wrap(&metadata, &message, &mut out, &mut tag), Answer { number: 0, count });
+    assert_eq!(here.wrap_for(None, &metadata, &message, &mut out, &mut tag), Answer { number: 0, count });
     for place in 0..tag.len() {
         let mut back = before.clone();
         let mut wrong = tag.clone();
         wrong[place] ^= 1 << random.below(8);
-        assert_eq!(there.unwrap(&metadata, &out[..m], &wrong, &mut back), Answer { number: 11, count });
+        assert_eq!(there.unwrap_for(None, &metadata, &out[..m], &wrong, &mut back), Answer { number: 11, count });
         assert!(back == [&vec![0; m][..], &before[m..]].concat() && there.library.reference() == *session);
     }
     let mut back = before.clone();
-    assert_eq!(there.unwrap(&metadata, &out[..m], &tag, &mut back), Answer { number: 0, count });
+    assert_eq!(there.unwrap_for(None, &metadata, &out[..m], &tag, &mut back), Answer { number: 0, count });
     assert!(back == [&message[..], &before[m..]].concat() && same(&here.library, &there.library));
 }
 
@@ -78,8 +86,8 @@ fn closed_records() {
     for session in [SaneSession::CLOSED, SaneSession { open: false, ..any_session(&mut random) }] {
         let mut both = SaneBoth::of(session);
         let before = copy(&both.library);
-        assert_eq!(both.wrap(&[], &[], &mut [], &mut []), Answer { number: 5, count: 0 });
-        assert_eq!(both.unwrap(&[], &[], &[], &mut []), Answer { number: 5, count: 0 });
+        assert_eq!(both.wrap_for(None, &[], &[], &mut [], &mut []), Answer { number: 5, count: 0 });
+        assert_eq!(both.unwrap_for(None, &[], &[], &[], &mut []), Answer { number: 5, count: 0 });
         assert!(same(&both.library, &before));
     }
 }

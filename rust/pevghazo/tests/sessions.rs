@@ -1,5 +1,6 @@
 //! Sessions of SANSE through the C library, beside the independent implementation: every answer, buffer and record is the same,
-//! and no arrival is accepted but the one that the other end sealed next. Codes are asked for in between.
+//! and no arrival is accepted but the one that the other end sealed next. Each call may be made by four, and each end has its own
+//! choice. Codes are asked for in between.
 
 mod common;
 
@@ -34,10 +35,11 @@ fn messages_both_ways() {
         }
     });
     if is_whole_run() {
-        let Tally { numbers, forged, ways, accepted } = tally;
+        let Tally { numbers, forged, ways, accepted, choices } = tally;
         assert!(forged > 10_000, "{forged} forged arrivals");
         assert!(accepted.iter().all(|sort| *sort > 10 * least_times()), "without and for an envelope: {accepted:?}");
         all_were_there(&ways, least_times());
+        choices.all_were_there(10 * least_times());
         assert!(numbers[0] > 5_000 && [1, 6, 7, 8].iter().all(|number| numbers[*number] > 100), "{numbers:?}");
         assert!([0, 8, 12].iter().all(|number| codes[*number] > 1_000), "codes: {codes:?}");
     }

@@ -4,10 +4,10 @@
 mod common;
 
 use common::headers::{Ways, all_were_there, header, maybe_misfit};
-use common::play::{any_envelope, next_arrival};
+use common::play::{Choices, any_envelope, next_arrival};
 use common::tables::{Tables, any_number, any_record, group_record_of, same_group};
 use common::{
-    Arrival, Both, Opening, cases, copy, is_whole_run, key, least_times, maybe_long, other_length, record_of, same,
+    Arrival, Both, By, Held, cases, copy, is_whole_run, key, least_times, maybe_long, other_length, record_of, same,
     text,
 };
 use pevghazo::raw::{self, Answer, GroupRecord, Record};
@@ -73,7 +73,7 @@ fn any_wrap(random: &mut Random, tables: &mut Tables, group: u32, ways: &mut Way
     set_numbers(random, tables, group, count(string, message.len()));
     let (room, tag_length) = (other_length(random, m.len(), 10), other_length(random, 32, 12));
     let (mut out, mut tag) = (random.bytes(room), random.bytes(tag_length));
-    let answer = tables.wrap_for(group, header.as_deref(), &a, &m, &mut out, &mut tag);
+    let answer = tables.by(By::any(random)).wrap_for(group, header.as_deref(), &a, &m, &mut out, &mut tag);
     (header, answer)
 }
 
@@ -91,7 +91,7 @@ fn any_unwrap(random: &mut Random, tables: &mut Tables, group: u32, ways: &mut W
     let room = other_length(random, arrival.message.len(), 10);
     let Arrival { header, metadata, cryptogram, tag, .. } = &bad;
     let mut out = random.bytes(room);
-    let answer = tables.unwrap_for(group, header.as_deref(), metadata, cryptogram, tag, &mut out);
+    let answer = tables.by(By::any(random)).unwrap_for(group, header.as_deref(), metadata, cryptogram, tag, &mut out);
     assert!(answer.number != 0 || bad.travels_as(&arrival));
     (bad.header, answer)
 }
@@ -277,23 +277,30 @@ fn counts_near_the_highest_number() {
     assert_eq!((wrap_nothing(&mut tables, 3), tables.records[3].count), (accepted(3), 3));
 }
 
-/// The office and its groups, each group with a lone session at its own end; and what has happened.
-struct Season {
-    office: Tables,
-    groups: Vec<Option<Both>>,
+/// What has happened.
+#[derive(Default)]
+struct Happened {
     accepted: u32,
     refused: u32,
     poor: u32,
     ways: Ways,
+    choices: Choices,
 }
 
-/// Up to 199 bytes.
+/// The office and its groups, each group with a lone session at its own end; and what has happened.
+struct Season<'a> {
+    office: Tables,
+    groups: Vec<Option<Both>>,
+    happened: &'a mut Happened,
+}
+
+/// Up to 199 bytes, now and then up to nine blocks.
 fn short(random: &mut Random) -> Vec<u8> {
-    let length = random.below(200);
+    let length = if random.once_in(4) { random.below(433) } else { random.below(200) };
     random.bytes(length)
 }
 
-impl Season {
+impl Season<'_> {
     /// Something happens to a group: its session is opened, or a message goes one way or the other.
     fn turn(&mut self, random: &mut Random, group: u32) {
         let place = group as usize;
@@ -320,24 +327,26 @@ impl Season {
         let (metadata, message) = (short(random), short(random));
         let header = any_envelope(random).map(|_| header(b'S', group, metadata.len(), message.len()));
         let (mut out, mut tag) = (random.bytes(message.len()), random.bytes(32));
-        let answer = self.office.wrap_for(group, header.as_deref(), &metadata, &message, &mut out, &mut tag);
+        let office = self.office.by(By::any(random));
+        let answer = office.wrap_for(group, header.as_deref(), &metadata, &message, &mut out, &mut tag);
         if answer.number == 10 {
-            self.poor += 1;
+            self.happened.poor += 1;
             return false;
         }
         assert_eq!(answer.number, 0);
         let sent = Arrival { header, metadata, cryptogram: out, tag, message };
-        let forged = sent.damaged(random, b'S', &mut self.ways);
+        let forged = sent.damaged(random, b'S', &mut self.happened.ways);
         if !forged.travels_as(&sent) {
             let expected = if forged.header_fits(b'S') { 11 } else { 1 };
             let mut out = random.bytes(forged.cryptogram.len());
-            assert_eq!(unwrap_at(lone, &forged, &mut out).number, expected);
-            self.refused += 1;
+            assert_eq!(unwrap_at(lone.by(By::any(random)), &forged, &mut out).number, expected);
+            self.happened.refused += 1;
         }
         let mut back = random.bytes(sent.message.len());
-        assert_eq!(unwrap_at(lone, &sent, &mut back).number, 0);
+        assert_eq!(unwrap_at(lone.by(By::any(random)), &sent, &mut back).number, 0);
         assert!(back == sent.message);
-        self.accepted += 1;
+        self.happened.choices.take(self.office.by, lone.by, &sent.metadata, &sent.message);
+        self.happened.accepted += 1;
         true
     }
 
@@ -349,22 +358,24 @@ impl Season {
         let header = any_envelope(random).map(|_| header(b'S', group, metadata.len(), message.len()));
         let header = header.as_deref();
         let (mut out, mut tag) = (random.bytes(message.len()), random.bytes(32));
-        assert_eq!(lone.wrap_for(header, &metadata, &message, &mut out, &mut tag).number, 0);
+        let sent = lone.by(By::any(random)).wrap_for(header, &metadata, &message, &mut out, &mut tag);
+        assert_eq!(sent.number, 0);
         self.damaged_header(random, group, header.is_some(), [&metadata, &out, &tag]);
         let mut back = random.bytes(message.len());
-        let answer = self.office.unwrap_for(group, header, &metadata, &out, &tag, &mut back);
+        let answer = self.office.by(By::any(random)).unwrap_for(group, header, &metadata, &out, &tag, &mut back);
         if answer.number == 10 {
             // The group takes it back, as nobody has opened it: tests may.
             lone.reference = before.reference();
             lone.library = before;
-            self.poor += 1;
+            self.happened.poor += 1;
             return false;
         }
         assert!(answer.number == 0 && back == message);
-        self.accepted += 1;
+        self.happened.choices.take(lone.by, self.office.by, &metadata, &message);
+        self.happened.accepted += 1;
         let repeated = self.office.unwrap_for(group, header, &metadata, &out, &tag, &mut back);
         assert!([10, 11].contains(&repeated.number));
-        self.refused += 1;
+        self.happened.refused += 1;
         true
     }
 
@@ -394,7 +405,7 @@ impl Season {
             _ => &[5, 10, 11],
         };
         assert!(expected.contains(&answer.number), "{answer:?}");
-        self.refused += 1;
+        self.happened.refused += 1;
     }
 }
 
@@ -407,10 +418,10 @@ fn unwrap_at(lone: &mut Both, arrival: &Arrival, out: &mut [u8]) -> Answer {
 /// The office and its groups, for some days.
 #[test]
 fn an_office_and_its_groups() {
-    let (mut accepted, mut refused, mut poor) = (0, 0, 0);
+    let mut happened = Happened::default();
     cases("an_office_and_its_groups", |random| {
-        let (groups, ways) = ((0..32).map(|_| None).collect(), Ways::default());
-        let mut season = Season { office: Tables::of(Table::new()), groups, accepted: 0, refused: 0, poor: 0, ways };
+        let groups = (0..32).map(|_| None).collect();
+        let mut season = Season { office: Tables::of(Table::new()), groups, happened: &mut happened };
         for _ in 0..12 {
             let group = if random.once_in(3) { random.below(32) } else { random.below(4) };
             if random.once_in(8) {
@@ -418,11 +429,10 @@ fn an_office_and_its_groups() {
             }
             season.turn(random, group as u32);
         }
-        accepted += season.accepted;
-        refused += season.refused;
-        poor += season.poor;
     });
     if is_whole_run() {
+        let Happened { accepted, refused, poor, choices, .. } = happened;
         assert!(accepted > 1_000 && refused > 1_000 && poor > 100, "{accepted} {refused} {poor}");
+        choices.all_were_there(least_times());
     }
 }

@@ -1,5 +1,6 @@
 //! The sessions and codes of the repository's vectors through the C library: each end of SANSE as a lone session, and as a
-//! group's session in a table; each end of SANE as a lone session; and old letters, whose wraps are the first version's.
+//! group's session in a table; each end of SANE as a lone session; all of these with calls that take a block at a time, with calls by
+//! four, and with each end by its own choice; and old letters, whose wraps are the first version's.
 
 mod common;
 #[path = "../../reference/tests/common/mod.rs"]
@@ -7,7 +8,8 @@ mod vectors;
 
 use std::collections::HashMap;
 
-use common::{Opening, answer_of};
+use common::tables::{unwrap_group, wrap_group};
+use common::{By, Held, Library, answer_of};
 use pevghazo::raw::{self, Answer, GroupRecord, Record, SaeRecord, SaneRecord};
 use pevghazo_reference::session::{Scheme, Session};
 use vectors::{Record as Vector, records};
@@ -15,7 +17,7 @@ use vectors::{Record as Vector, records};
 /// One end of a session, wherever its record stands.
 trait End {
     /// The kind of record.
-    type Record: Opening;
+    type Record: Held;
 
     /// The record; whatever stands beside it is as it should be.
     fn record(&self) -> &Self::Record;
@@ -27,10 +29,10 @@ trait End {
     fn unwrap(&mut self, metadata: &[u8], cryptogram: &[u8], tag: &[u8], out: &mut [u8]) -> Answer;
 }
 
-/// A lone session.
-struct Lone<R>(R);
+/// A lone session, and by which of the library's functions it wraps and unwraps.
+struct Lone<R>(R, By);
 
-impl<R: Opening> End for Lone<R> {
+impl<R: Library> End for Lone<R> {
     type Record = R;
 
     fn record(&self) -> &R {
@@ -38,11 +40,11 @@ impl<R: Opening> End for Lone<R> {
     }
 
     fn wrap(&mut self, metadata: &[u8], message: &[u8], out: &mut [u8], tag: &mut [u8]) -> Answer {
-        self.0.wrap(metadata, message, out, tag)
+        self.0.wrap_for(self.1, None, metadata, message, out, tag)
     }
 
     fn unwrap(&mut self, metadata: &[u8], cryptogram: &[u8], tag: &[u8], out: &mut [u8]) -> Answer {
-        self.0.unwrap(metadata, cryptogram, tag, out)
+        self.0.unwrap_for(self.1, None, metadata, cryptogram, tag, out)
     }
 }
 
@@ -69,12 +71,14 @@ impl End for Old {
     }
 
     fn unwrap(&mut self, metadata: &[u8], cryptogram: &[u8], tag: &[u8], out: &mut [u8]) -> Answer {
-        self.0.unwrap(metadata, cryptogram, tag, out)
+        raw::sae_unwrap(&mut self.0, metadata, cryptogram, tag, out)
     }
 }
 
-/// A group's session in a table, the allowance, and what the group has counted so far.
+/// A group's session in a table, by which of the library's functions it wraps and unwraps, the allowance, and what the group has
+/// counted so far.
 struct InTable {
+    by: By,
     table: Vec<GroupRecord>,
     group: u32,
     allowance: u32,
@@ -101,43 +105,45 @@ impl End for InTable {
     }
 
     fn wrap(&mut self, metadata: &[u8], message: &[u8], out: &mut [u8], tag: &mut [u8]) -> Answer {
-        let given = raw::wrap_group(&mut self.table, self.group, self.allowance, metadata, message, out, tag);
+        let at = (self.group, self.allowance);
+        let given = wrap_group(self.by, &mut self.table, at, None, [metadata, message], [out, tag]);
         self.take(given)
     }
 
     fn unwrap(&mut self, metadata: &[u8], cryptogram: &[u8], tag: &[u8], out: &mut [u8]) -> Answer {
-        let given = raw::unwrap_group(&mut self.table, self.group, self.allowance, metadata, cryptogram, tag, out);
+        let at = (self.group, self.allowance);
+        let given = unwrap_group(self.by, &mut self.table, at, None, [metadata, cryptogram, tag], out);
         self.take(given)
     }
 }
 
 /// Starts a lone session.
-fn lone(vector: &Vector) -> (Lone<Record>, Answer) {
+fn lone(vector: &Vector, by: By) -> (Lone<Record>, Answer) {
     let mut record = Record::closed();
     let answer = raw::start(&mut record, &vector.bytes("key"));
-    (Lone(record), answer)
+    (Lone(record, by), answer)
 }
 
 /// Opens a group.
-fn in_table(vector: &Vector) -> (InTable, Answer) {
+fn in_table(vector: &Vector, by: By) -> (InTable, Answer) {
     let mut table: Vec<GroupRecord> = (0..32).map(|_| GroupRecord::closed()).collect();
     let allowance = raw::start_day(&mut table, 1_000_000);
-    let mut end = InTable { table, group: vector.number("session") as u32 % 32, allowance, counted: 0 };
+    let mut end = InTable { by, table, group: vector.number("session") as u32 % 32, allowance, counted: 0 };
     let given = raw::open_group(&mut end.table, end.group, allowance, &vector.bytes("key"));
     let answer = end.take(given);
     (end, answer)
 }
 
 /// Starts a lone session of SANE.
-fn sane(vector: &Vector) -> (Lone<SaneRecord>, Answer) {
+fn sane(vector: &Vector, by: By) -> (Lone<SaneRecord>, Answer) {
     let (mut record, mut tag) = (SaneRecord::closed(), [0; 16]);
     let answer = raw::sane_start(&mut record, &vector.bytes("key"), &vector.bytes("nonce"), &mut tag);
     assert_eq!(tag[..], vector.bytes("T"), "T, line {}", vector.line);
-    (Lone(record), answer)
+    (Lone(record, by), answer)
 }
 
-/// Starts a session of old letters.
-fn old(vector: &Vector) -> (Old, Answer) {
+/// Starts a session of old letters, which has no calls by four.
+fn old(vector: &Vector, _: By) -> (Old, Answer) {
     let (mut record, mut tag) = (SaeRecord::closed(), [0; 16]);
     let answer = raw::sae_start(&mut record, &vector.bytes("key"), &vector.bytes("nonce"), &mut tag);
     assert_eq!(tag[..], vector.bytes("T"), "T, line {}", vector.line);
@@ -173,7 +179,7 @@ fn check<E: End>(end: &E, vector: &Vector, answer: Answer, number: u32) {
 fn wrap<E: End>(end: &mut E, vector: &Vector) {
     let (metadata, message) = (vector.bytes("A"), vector.bytes("M"));
     let mut out = buffer(message.len());
-    let mut tag = vec![0; <E::Record as Opening>::Mode::TAG];
+    let mut tag = vec![0; <E::Record as Held>::Mode::TAG];
     let answer = end.wrap(&metadata, &message, &mut out, &mut tag);
     check(end, vector, answer, 0);
     assert_eq!(out, [&vector.bytes("C")[..], &REST].concat(), "C, line {}", vector.line);
@@ -209,15 +215,15 @@ struct Played<E> {
     refused: u32,
 }
 
-/// Plays the sessions of a file at both ends, with every field of every record checked.
-fn play<E: End>(file: &str, start: impl Fn(&Vector) -> (E, Answer)) -> Played<E> {
+/// Plays the sessions of a file at both ends, which have these choices, with every field of every record checked.
+fn play<E: End>(file: &str, choices: [By; 2], start: impl Fn(&Vector, By) -> (E, Answer)) -> Played<E> {
     let mut played = Played { ends: HashMap::new(), wraps: 0, accepted: 0, refused: 0 };
     let mut end_b = None;
     for vector in &records(file) {
         let session = vector.number("session");
         if vector.text("op") == "start" {
-            let [end_a, other] = [(); 2].map(|()| {
-                let (end, answer) = start(vector);
+            let [end_a, other] = choices.map(|by| {
+                let (end, answer) = start(vector, by);
                 check(&end, vector, answer, 0);
                 end
             });
@@ -260,20 +266,27 @@ impl<E> Played<E> {
     }
 }
 
+/// The choices of the two ends: the same, and each its own.
+const CHOICES: [[By; 2]; 4] = [[By::One, By::One], [By::Four, By::Four], [By::One, By::Four], [By::Four, By::One]];
+
 #[test]
 fn sessions() {
-    play("sanse.txt", lone).check("sanse.txt");
-    play("sanse.txt", in_table).check("sanse.txt");
+    for choices in CHOICES {
+        play("sanse.txt", choices, lone).check("sanse.txt");
+        play("sanse.txt", choices, in_table).check("sanse.txt");
+    }
 }
 
 #[test]
 fn sane_sessions() {
-    play("sane.txt", sane).check("sane.txt");
+    for choices in CHOICES {
+        play("sane.txt", choices, sane).check("sane.txt");
+    }
 }
 
 #[test]
 fn old_letters() {
-    play("sae.txt", old).check("sae.txt");
+    play("sae.txt", CHOICES[0], old).check("sae.txt");
 }
 
 /// The codes of sessions that were played.
@@ -293,6 +306,8 @@ fn check_codes<E: End<Record = Record>>(played: &Played<E>) {
 
 #[test]
 fn codes() {
-    check_codes(&play("sanse.txt", lone));
-    check_codes(&play("sanse.txt", in_table));
+    for by in By::EACH {
+        check_codes(&play("sanse.txt", [by; 2], lone));
+        check_codes(&play("sanse.txt", [by; 2], in_table));
+    }
 }

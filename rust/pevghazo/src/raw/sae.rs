@@ -2,9 +2,8 @@
 
 use std::mem::{offset_of, size_of};
 
-use super::Answer;
+use super::bind::bind;
 use super::session::overwrite;
-use super::stack::clear_stack;
 
 /// The record of a session of old letters, with the fields of a [`Record`](super::Record). It is as secret, and its memory is set to
 /// zero when it is dropped; one that is moved leaves its old memory as it was, so [`SaeSession`](crate::SaeSession) keeps its own
@@ -37,89 +36,15 @@ const _: () = assert!(size_of::<SaeRecord>() == 104 && offset_of!(SaeRecord, mas
 const _: () = assert!(offset_of!(SaeRecord, index) == 96 && offset_of!(SaeRecord, toggle) == 100);
 const _: () = assert!(offset_of!(SaeRecord, opened) == 101);
 
-unsafe extern "C" {
-    pub(super) fn pevghazo_sae_start(
-        session: *mut SaeRecord,
-        key: *const u8,
-        key_len: usize,
-        nonce: *const u8,
-        nonce_len: usize,
-        tag: *mut u8,
-        tag_len: usize,
-    ) -> Answer;
-    pub(super) fn pevghazo_sae_unwrap(
-        session: *mut SaeRecord,
-        metadata: *const u8,
-        metadata_len: usize,
-        cryptogram: *const u8,
-        cryptogram_len: usize,
-        tag: *const u8,
-        tag_len: usize,
-        out: *mut u8,
-        out_len: usize,
-    ) -> Answer;
-    pub(super) fn pevghazo_sae_wrap(
-        session: *mut SaeRecord,
-        metadata: *const u8,
-        metadata_len: usize,
-        message: *const u8,
-        message_len: usize,
-        out: *mut u8,
-        out_len: usize,
-        tag: *mut u8,
-        tag_len: usize,
-    ) -> Answer;
-}
-
-/// Starts a session in this record, and fills `tag` with the start's tag. Checks 4, 6 (for the nonce) and 7; a refused start
-/// closes the record, and the session that it held is lost, but `tag` stays as it was.
-pub fn sae_start(session: &mut SaeRecord, key: &[u8], nonce: &[u8], tag: &mut [u8]) -> Answer {
-    // SAFETY: see the module's head.
-    let answer = unsafe {
-        pevghazo_sae_start(session, key.as_ptr(), key.len(), nonce.as_ptr(), nonce.len(), tag.as_mut_ptr(), tag.len())
-    };
-    clear_stack();
-    answer
-}
-
-/// Unwraps an old letter. Checks 5 to 9 and 11.
-pub fn sae_unwrap(session: &mut SaeRecord, metadata: &[u8], cryptogram: &[u8], tag: &[u8], out: &mut [u8]) -> Answer {
-    // SAFETY: see the module's head.
-    let answer = unsafe {
-        pevghazo_sae_unwrap(
-            session,
-            metadata.as_ptr(),
-            metadata.len(),
-            cryptogram.as_ptr(),
-            cryptogram.len(),
-            tag.as_ptr(),
-            tag.len(),
-            out.as_mut_ptr(),
-            out.len(),
-        )
-    };
-    clear_stack();
-    answer
-}
-
-/// Always 18, before every other check, and nothing is altered.
-pub fn sae_wrap(session: &mut SaeRecord, metadata: &[u8], message: &[u8], out: &mut [u8], tag: &mut [u8]) -> Answer {
-    // SAFETY: see the module's head.
-    let answer = unsafe {
-        pevghazo_sae_wrap(
-            session,
-            metadata.as_ptr(),
-            metadata.len(),
-            message.as_ptr(),
-            message.len(),
-            out.as_mut_ptr(),
-            out.len(),
-            tag.as_mut_ptr(),
-            tag.len(),
-        )
-    };
-    clear_stack();
-    answer
+bind! {
+    (session: &mut SaeRecord; session => *mut SaeRecord);
+    /// Starts a session in this record, and fills `tag` with the start's tag. Checks 4, 6 (for the nonce) and 7; a refused start
+    /// closes the record, and the session that it held is lost, but `tag` stays as it was.
+    sae_start = pevghazo_sae_start [key, nonce] -> [tag];
+    /// Unwraps an old letter. Checks 5 to 9 and 11.
+    sae_unwrap = pevghazo_sae_unwrap [metadata, cryptogram, tag] -> [out];
+    /// Always 18, before every other check, and nothing is altered.
+    sae_wrap = pevghazo_sae_wrap [metadata, message] -> [out, tag];
 }
 
 impl SaeRecord {

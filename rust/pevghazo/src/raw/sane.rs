@@ -2,9 +2,8 @@
 
 use std::mem::{offset_of, size_of};
 
-use super::Answer;
+use super::bind::bind;
 use super::session::overwrite;
-use super::stack::clear_stack;
 
 /// The record of a session in SANE, with the fields of a [`Record`](super::Record). It is as secret, and its memory is set to
 /// zero when it is dropped; one that is moved leaves its old memory as it was, so [`SaneSession`](crate::SaneSession) keeps its
@@ -37,173 +36,27 @@ const _: () = assert!(size_of::<SaneRecord>() == 104 && offset_of!(SaneRecord, m
 const _: () = assert!(offset_of!(SaneRecord, index) == 96 && offset_of!(SaneRecord, toggle) == 100);
 const _: () = assert!(offset_of!(SaneRecord, opened) == 101);
 
-unsafe extern "C" {
-    pub(super) fn pevghazo_sane_start(
-        session: *mut SaneRecord,
-        key: *const u8,
-        key_len: usize,
-        nonce: *const u8,
-        nonce_len: usize,
-        tag: *mut u8,
-        tag_len: usize,
-    ) -> Answer;
-    pub(super) fn pevghazo_sane_wrap(
-        session: *mut SaneRecord,
-        metadata: *const u8,
-        metadata_len: usize,
-        message: *const u8,
-        message_len: usize,
-        out: *mut u8,
-        out_len: usize,
-        tag: *mut u8,
-        tag_len: usize,
-    ) -> Answer;
-    pub(super) fn pevghazo_sane_unwrap(
-        session: *mut SaneRecord,
-        metadata: *const u8,
-        metadata_len: usize,
-        cryptogram: *const u8,
-        cryptogram_len: usize,
-        tag: *const u8,
-        tag_len: usize,
-        out: *mut u8,
-        out_len: usize,
-    ) -> Answer;
-    pub(super) fn pevghazo_sane_wrap_envelope(
-        session: *mut SaneRecord,
-        header: *const u8,
-        header_len: usize,
-        metadata: *const u8,
-        metadata_len: usize,
-        message: *const u8,
-        message_len: usize,
-        out: *mut u8,
-        out_len: usize,
-        tag: *mut u8,
-        tag_len: usize,
-    ) -> Answer;
-    pub(super) fn pevghazo_sane_unwrap_envelope(
-        session: *mut SaneRecord,
-        header: *const u8,
-        header_len: usize,
-        metadata: *const u8,
-        metadata_len: usize,
-        cryptogram: *const u8,
-        cryptogram_len: usize,
-        tag: *const u8,
-        tag_len: usize,
-        out: *mut u8,
-        out_len: usize,
-    ) -> Answer;
-}
-
-/// Starts a session in this record, and fills `tag` with the start's tag. Checks 4, 6 (for the nonce) and 7; a refused start
-/// closes the record, and the session that it held is lost, but `tag` stays as it was.
-pub fn sane_start(session: &mut SaneRecord, key: &[u8], nonce: &[u8], tag: &mut [u8]) -> Answer {
-    // SAFETY: see the module's head.
-    let answer = unsafe {
-        pevghazo_sane_start(session, key.as_ptr(), key.len(), nonce.as_ptr(), nonce.len(), tag.as_mut_ptr(), tag.len())
-    };
-    clear_stack();
-    answer
-}
-
-/// Wraps. Checks 5 to 9.
-pub fn sane_wrap(session: &mut SaneRecord, metadata: &[u8], message: &[u8], out: &mut [u8], tag: &mut [u8]) -> Answer {
-    // SAFETY: see the module's head.
-    let answer = unsafe {
-        pevghazo_sane_wrap(
-            session,
-            metadata.as_ptr(),
-            metadata.len(),
-            message.as_ptr(),
-            message.len(),
-            out.as_mut_ptr(),
-            out.len(),
-            tag.as_mut_ptr(),
-            tag.len(),
-        )
-    };
-    clear_stack();
-    answer
-}
-
-/// Unwraps. Checks 5 to 9 and 11.
-pub fn sane_unwrap(session: &mut SaneRecord, metadata: &[u8], cryptogram: &[u8], tag: &[u8], out: &mut [u8]) -> Answer {
-    // SAFETY: see the module's head.
-    let answer = unsafe {
-        pevghazo_sane_unwrap(
-            session,
-            metadata.as_ptr(),
-            metadata.len(),
-            cryptogram.as_ptr(),
-            cryptogram.len(),
-            tag.as_ptr(),
-            tag.len(),
-            out.as_mut_ptr(),
-            out.len(),
-        )
-    };
-    clear_stack();
-    answer
-}
-
-/// Wraps for the envelope with this header. Check 1, for a header that is not the call's, then 5 to 9.
-pub fn sane_wrap_envelope(
-    session: &mut SaneRecord,
-    header: &[u8],
-    metadata: &[u8],
-    message: &[u8],
-    out: &mut [u8],
-    tag: &mut [u8],
-) -> Answer {
-    // SAFETY: see the module's head.
-    let answer = unsafe {
-        pevghazo_sane_wrap_envelope(
-            session,
-            header.as_ptr(),
-            header.len(),
-            metadata.as_ptr(),
-            metadata.len(),
-            message.as_ptr(),
-            message.len(),
-            out.as_mut_ptr(),
-            out.len(),
-            tag.as_mut_ptr(),
-            tag.len(),
-        )
-    };
-    clear_stack();
-    answer
-}
-
-/// Unwraps what arrived in the envelope with this header. Check 1, for a header that is not the call's, then 5 to 9 and 11.
-pub fn sane_unwrap_envelope(
-    session: &mut SaneRecord,
-    header: &[u8],
-    metadata: &[u8],
-    cryptogram: &[u8],
-    tag: &[u8],
-    out: &mut [u8],
-) -> Answer {
-    // SAFETY: see the module's head.
-    let answer = unsafe {
-        pevghazo_sane_unwrap_envelope(
-            session,
-            header.as_ptr(),
-            header.len(),
-            metadata.as_ptr(),
-            metadata.len(),
-            cryptogram.as_ptr(),
-            cryptogram.len(),
-            tag.as_ptr(),
-            tag.len(),
-            out.as_mut_ptr(),
-            out.len(),
-        )
-    };
-    clear_stack();
-    answer
+bind! {
+    (session: &mut SaneRecord; session => *mut SaneRecord);
+    /// Starts a session in this record, and fills `tag` with the start's tag. Checks 4, 6 (for the nonce) and 7; a refused start
+    /// closes the record, and the session that it held is lost, but `tag` stays as it was.
+    sane_start = pevghazo_sane_start [key, nonce] -> [tag];
+    /// Wraps. Checks 5 to 9.
+    sane_wrap = pevghazo_sane_wrap [metadata, message] -> [out, tag];
+    /// Unwraps. Checks 5 to 9 and 11.
+    sane_unwrap = pevghazo_sane_unwrap [metadata, cryptogram, tag] -> [out];
+    /// Wraps for the envelope with this header. Check 1, for a header that is not the call's, then 5 to 9.
+    sane_wrap_envelope = pevghazo_sane_wrap_envelope [header, metadata, message] -> [out, tag];
+    /// Unwraps what arrived in the envelope with this header. Check 1, for a header that is not the call's, then 5 to 9 and 11.
+    sane_unwrap_envelope = pevghazo_sane_unwrap_envelope [header, metadata, cryptogram, tag] -> [out];
+    /// [`sane_wrap`] by four.
+    sane_wrap_four = pevghazo_sane_wrap_four [metadata, message] -> [out, tag];
+    /// [`sane_unwrap`] by four.
+    sane_unwrap_four = pevghazo_sane_unwrap_four [metadata, cryptogram, tag] -> [out];
+    /// [`sane_wrap_envelope`] by four.
+    sane_wrap_envelope_four = pevghazo_sane_wrap_envelope_four [header, metadata, message] -> [out, tag];
+    /// [`sane_unwrap_envelope`] by four.
+    sane_unwrap_envelope_four = pevghazo_sane_unwrap_envelope_four [header, metadata, cryptogram, tag] -> [out];
 }
 
 impl SaneRecord {

@@ -3,7 +3,7 @@
 use std::mem::{offset_of, size_of};
 use std::sync::atomic::{Ordering, compiler_fence};
 
-use super::stack::clear_stack;
+use super::bind::bind;
 
 /// A session's record. It is secret, and its memory is set to zero when it is dropped; one that is moved leaves its old memory as it was,
 /// so [`Session`](crate::Session) and [`Table`](crate::Table) keep theirs in boxes.
@@ -45,162 +45,26 @@ const _: () = assert!(size_of::<Record>() == 104 && offset_of!(Record, mask) == 
 const _: () = assert!(offset_of!(Record, toggle) == 100 && offset_of!(Record, opened) == 101);
 const _: () = assert!(size_of::<Answer>() == 8);
 
-unsafe extern "C" {
-    pub(super) fn pevghazo_start(session: *mut Record, key: *const u8, key_len: usize) -> Answer;
-    pub(super) fn pevghazo_wrap(
-        session: *mut Record,
-        metadata: *const u8,
-        metadata_len: usize,
-        message: *const u8,
-        message_len: usize,
-        out: *mut u8,
-        out_len: usize,
-        tag: *mut u8,
-        tag_len: usize,
-    ) -> Answer;
-    pub(super) fn pevghazo_unwrap(
-        session: *mut Record,
-        metadata: *const u8,
-        metadata_len: usize,
-        cryptogram: *const u8,
-        cryptogram_len: usize,
-        tag: *const u8,
-        tag_len: usize,
-        out: *mut u8,
-        out_len: usize,
-    ) -> Answer;
-    pub(super) fn pevghazo_wrap_envelope(
-        session: *mut Record,
-        header: *const u8,
-        header_len: usize,
-        metadata: *const u8,
-        metadata_len: usize,
-        message: *const u8,
-        message_len: usize,
-        out: *mut u8,
-        out_len: usize,
-        tag: *mut u8,
-        tag_len: usize,
-    ) -> Answer;
-    pub(super) fn pevghazo_unwrap_envelope(
-        session: *mut Record,
-        header: *const u8,
-        header_len: usize,
-        metadata: *const u8,
-        metadata_len: usize,
-        cryptogram: *const u8,
-        cryptogram_len: usize,
-        tag: *const u8,
-        tag_len: usize,
-        out: *mut u8,
-        out_len: usize,
-    ) -> Answer;
-}
-
-/// Starts a session in this record. Check 4; a refused start closes the record, and the session that it held is lost.
-pub fn start(session: &mut Record, key: &[u8]) -> Answer {
-    // SAFETY: see the module's head.
-    let answer = unsafe { pevghazo_start(session, key.as_ptr(), key.len()) };
-    clear_stack();
-    answer
-}
-
-/// Wraps. Checks 5 to 9.
-pub fn wrap(session: &mut Record, metadata: &[u8], message: &[u8], out: &mut [u8], tag: &mut [u8]) -> Answer {
-    // SAFETY: see the module's head.
-    let answer = unsafe {
-        pevghazo_wrap(
-            session,
-            metadata.as_ptr(),
-            metadata.len(),
-            message.as_ptr(),
-            message.len(),
-            out.as_mut_ptr(),
-            out.len(),
-            tag.as_mut_ptr(),
-            tag.len(),
-        )
-    };
-    clear_stack();
-    answer
-}
-
-/// Unwraps. Checks 5 to 9 and 11.
-pub fn unwrap(session: &mut Record, metadata: &[u8], cryptogram: &[u8], tag: &[u8], out: &mut [u8]) -> Answer {
-    // SAFETY: see the module's head.
-    let answer = unsafe {
-        pevghazo_unwrap(
-            session,
-            metadata.as_ptr(),
-            metadata.len(),
-            cryptogram.as_ptr(),
-            cryptogram.len(),
-            tag.as_ptr(),
-            tag.len(),
-            out.as_mut_ptr(),
-            out.len(),
-        )
-    };
-    clear_stack();
-    answer
-}
-
-/// Wraps for the envelope with this header. Check 1, for a header that is not the call's, then 5 to 9.
-pub fn wrap_envelope(
-    session: &mut Record,
-    header: &[u8],
-    metadata: &[u8],
-    message: &[u8],
-    out: &mut [u8],
-    tag: &mut [u8],
-) -> Answer {
-    // SAFETY: see the module's head.
-    let answer = unsafe {
-        pevghazo_wrap_envelope(
-            session,
-            header.as_ptr(),
-            header.len(),
-            metadata.as_ptr(),
-            metadata.len(),
-            message.as_ptr(),
-            message.len(),
-            out.as_mut_ptr(),
-            out.len(),
-            tag.as_mut_ptr(),
-            tag.len(),
-        )
-    };
-    clear_stack();
-    answer
-}
-
-/// Unwraps what arrived in the envelope with this header. Check 1, for a header that is not the call's, then 5 to 9 and 11.
-pub fn unwrap_envelope(
-    session: &mut Record,
-    header: &[u8],
-    metadata: &[u8],
-    cryptogram: &[u8],
-    tag: &[u8],
-    out: &mut [u8],
-) -> Answer {
-    // SAFETY: see the module's head.
-    let answer = unsafe {
-        pevghazo_unwrap_envelope(
-            session,
-            header.as_ptr(),
-            header.len(),
-            metadata.as_ptr(),
-            metadata.len(),
-            cryptogram.as_ptr(),
-            cryptogram.len(),
-            tag.as_ptr(),
-            tag.len(),
-            out.as_mut_ptr(),
-            out.len(),
-        )
-    };
-    clear_stack();
-    answer
+bind! {
+    (session: &mut Record; session => *mut Record);
+    /// Starts a session in this record. Check 4; a refused start closes the record, and the session that it held is lost.
+    start = pevghazo_start [key] -> [];
+    /// Wraps. Checks 5 to 9.
+    wrap = pevghazo_wrap [metadata, message] -> [out, tag];
+    /// Unwraps. Checks 5 to 9 and 11.
+    unwrap = pevghazo_unwrap [metadata, cryptogram, tag] -> [out];
+    /// Wraps for the envelope with this header. Check 1, for a header that is not the call's, then 5 to 9.
+    wrap_envelope = pevghazo_wrap_envelope [header, metadata, message] -> [out, tag];
+    /// Unwraps what arrived in the envelope with this header. Check 1, for a header that is not the call's, then 5 to 9 and 11.
+    unwrap_envelope = pevghazo_unwrap_envelope [header, metadata, cryptogram, tag] -> [out];
+    /// [`wrap`] by four.
+    wrap_four = pevghazo_wrap_four [metadata, message] -> [out, tag];
+    /// [`unwrap`] by four.
+    unwrap_four = pevghazo_unwrap_four [metadata, cryptogram, tag] -> [out];
+    /// [`wrap_envelope`] by four.
+    wrap_envelope_four = pevghazo_wrap_envelope_four [header, metadata, message] -> [out, tag];
+    /// [`unwrap_envelope`] by four.
+    unwrap_envelope_four = pevghazo_unwrap_envelope_four [header, metadata, cryptogram, tag] -> [out];
 }
 
 impl Record {

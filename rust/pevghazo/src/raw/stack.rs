@@ -49,10 +49,9 @@ fn clear_registers() {}
 #[cfg(test)]
 mod tests {
     use super::*;
-    use crate::raw::{GroupRecord, Record, SaeRecord, SaneRecord, codes, envelope, sae, sane, session, table};
+    use crate::raw::{codes::*, envelope::*, sae::*, sane::*, session::*, table::*};
     use crate::{
-        CODE_LENGTH, GROUPS, HEADER_MAX, KEY_MAX, NONCE_MAX, PACKET_MAX, SAE_TAG_LENGTH, SANE_TAG_LENGTH, TAG_LENGTH,
-        TEXT_MAX,
+        CODE_LENGTH, GROUPS, HEADER_MAX, KEY_MAX, NONCE_MAX, PACKET_MAX, SANE_TAG_LENGTH, TAG_LENGTH, TEXT_MAX,
     };
     use std::fs::File;
     use std::os::unix::fs::FileExt;
@@ -89,7 +88,11 @@ mod tests {
     }
 
     const N: usize = TEXT_MAX;
+    const H: usize = HEADER_MAX;
+    const T: usize = TAG_LENGTH;
+    const SHORT: usize = SANE_TAG_LENGTH;
     const GROUP: u32 = 31;
+    const ALL: u32 = u32::MAX;
     const CALLS: usize = 21;
 
     /// What the calls work on, at its longest.
@@ -118,66 +121,64 @@ mod tests {
             }
         }
 
-        /// One of the library's functions itself, without the clearing, and its number. Each third call unwraps what was not
-        /// wrapped so; the start of a day is never refused, and gives the allowance; old letters are not wrapped.
-        fn call(&mut self, call: usize) -> u32 {
+        /// One of the library's functions itself, without the clearing, and its number; the one by four, where there are two. Each
+        /// third call unwraps what was not wrapped so; the start of a day is never refused, and gives the allowance; old letters are
+        /// not wrapped.
+        fn call(&mut self, call: usize, four: bool) -> u32 {
             let (k, t, s, a) = (self.key.as_ptr(), self.text.as_ptr(), &mut self.lone, self.table.as_mut_ptr());
             let (out, tag, n, o) = (self.out.as_mut_ptr(), self.tag.as_mut_ptr(), &mut self.sane, &mut self.sae);
-            const T: usize = TAG_LENGTH;
-            const ALL: u32 = u32::MAX;
             // SAFETY: pointers and lengths are those of the fields.
             unsafe {
                 match call {
-                    0 => session::pevghazo_start(s, k, KEY_MAX).number,
-                    1 => session::pevghazo_wrap(s, t, N, t, N, out, N, tag, T).number,
-                    2 => session::pevghazo_unwrap(s, t, N, t, N, tag, T, out, N).number,
-                    3 => table::pevghazo_open_group(a, GROUPS, GROUP, ALL, k, KEY_MAX).number,
-                    4 => table::pevghazo_wrap_group(a, GROUPS, GROUP, ALL, t, N, t, N, out, N, tag, T).number,
-                    5 => table::pevghazo_unwrap_group(a, GROUPS, GROUP, ALL, t, N, t, N, tag, T, out, N).number,
-                    6 => sane::pevghazo_sane_start(n, k, KEY_MAX, t, NONCE_MAX, tag, SANE_TAG_LENGTH).number,
-                    7 => sane::pevghazo_sane_wrap(n, t, N, t, N, out, N, tag, SANE_TAG_LENGTH).number,
-                    8 => sane::pevghazo_sane_unwrap(n, t, N, t, N, tag, SANE_TAG_LENGTH, out, N).number,
-                    9 => codes::pevghazo_code(s, PACKET_MAX, out, CODE_LENGTH).number,
-                    12 => table::pevghazo_start_day(a, GROUPS, 0),
-                    18 => sae::pevghazo_sae_start(o, k, KEY_MAX, t, NONCE_MAX, tag, SAE_TAG_LENGTH).number,
-                    19 => sae::pevghazo_sae_wrap(o, t, N, t, N, out, N, tag, SAE_TAG_LENGTH).number,
-                    20 => sae::pevghazo_sae_unwrap(o, t, N, t, N, tag, SAE_TAG_LENGTH, out, N).number,
-                    _ => self.call_for_envelope(call),
+                    0 => pevghazo_start(s, k, KEY_MAX).number,
+                    3 => pevghazo_open_group(a, GROUPS, GROUP, ALL, k, KEY_MAX).number,
+                    6 => pevghazo_sane_start(n, k, KEY_MAX, t, NONCE_MAX, tag, SHORT).number,
+                    9 => pevghazo_code(s, PACKET_MAX, out, CODE_LENGTH).number,
+                    12 => pevghazo_start_day(a, GROUPS, 0),
+                    15 => pevghazo_write_header(b'S', GROUP, N, N, out, H).number,
+                    18 => pevghazo_sae_start(o, k, KEY_MAX, t, NONCE_MAX, tag, SHORT).number,
+                    19 => pevghazo_sae_wrap(o, t, N, t, N, out, N, tag, SHORT).number,
+                    20 => pevghazo_sae_unwrap(o, t, N, t, N, tag, SHORT, out, N).number,
+                    _ => self.call_of_two(call, usize::from(four)),
                 }
             }
         }
 
-        /// The same of the calls for an envelope with the longest header.
-        fn call_for_envelope(&mut self, call: usize) -> u32 {
+        /// The same of the calls that there are twice, those for an envelope with the longest header.
+        fn call_of_two(&mut self, call: usize, i: usize) -> u32 {
             let (t, s, a) = (self.text.as_ptr(), &mut self.lone, self.table.as_mut_ptr());
             let (out, tag, n) = (self.out.as_mut_ptr(), self.tag.as_mut_ptr(), &mut self.sane);
-            let [h, sane_h] = [b"S,31,16384,16384,", b"N,31,16384,16384,"].map(|header| header.as_ptr());
-            const H: usize = HEADER_MAX;
-            const T: usize = TAG_LENGTH;
-            const ALL: u32 = u32::MAX;
+            let (h, nh) = (b"S,31,16384,16384,".as_ptr(), b"N,31,16384,16384,".as_ptr());
+            let wraps = [pevghazo_wrap, pevghazo_wrap_four];
+            let unwraps = [pevghazo_unwrap, pevghazo_unwrap_four];
+            let wraps_group = [pevghazo_wrap_group, pevghazo_wrap_group_four];
+            let unwraps_group = [pevghazo_unwrap_group, pevghazo_unwrap_group_four];
+            let sane_wraps = [pevghazo_sane_wrap, pevghazo_sane_wrap_four];
+            let sane_unwraps = [pevghazo_sane_unwrap, pevghazo_sane_unwrap_four];
+            let seals = [pevghazo_wrap_envelope, pevghazo_wrap_envelope_four];
+            let opens = [pevghazo_unwrap_envelope, pevghazo_unwrap_envelope_four];
+            let seals_group = [pevghazo_wrap_envelope_group, pevghazo_wrap_envelope_group_four];
+            let opens_group = [pevghazo_unwrap_envelope_group, pevghazo_unwrap_envelope_group_four];
+            let sane_seals = [pevghazo_sane_wrap_envelope, pevghazo_sane_wrap_envelope_four];
+            let sane_opens = [pevghazo_sane_unwrap_envelope, pevghazo_sane_unwrap_envelope_four];
             // SAFETY: as above.
-            unsafe {
+            let answer = unsafe {
                 match call {
-                    10 => session::pevghazo_wrap_envelope(s, h, H, t, N, t, N, out, N, tag, T).number,
-                    11 => session::pevghazo_unwrap_envelope(s, h, H, t, N, t, N, tag, T, out, N).number,
-                    13 => {
-                        table::pevghazo_wrap_envelope_group(a, GROUPS, GROUP, ALL, h, H, t, N, t, N, out, N, tag, T)
-                            .number
-                    }
-                    14 => {
-                        table::pevghazo_unwrap_envelope_group(a, GROUPS, GROUP, ALL, h, H, t, N, t, N, tag, T, out, N)
-                            .number
-                    }
-                    16 => {
-                        sane::pevghazo_sane_wrap_envelope(n, sane_h, H, t, N, t, N, out, N, tag, SANE_TAG_LENGTH).number
-                    }
-                    17 => {
-                        sane::pevghazo_sane_unwrap_envelope(n, sane_h, H, t, N, t, N, tag, SANE_TAG_LENGTH, out, N)
-                            .number
-                    }
-                    _ => envelope::pevghazo_write_header(b'S', GROUP, N, N, out, H).number,
+                    1 => wraps[i](s, t, N, t, N, out, N, tag, T),
+                    2 => unwraps[i](s, t, N, t, N, tag, T, out, N),
+                    4 => wraps_group[i](a, GROUPS, GROUP, ALL, t, N, t, N, out, N, tag, T),
+                    5 => unwraps_group[i](a, GROUPS, GROUP, ALL, t, N, t, N, tag, T, out, N),
+                    7 => sane_wraps[i](n, t, N, t, N, out, N, tag, SHORT),
+                    8 => sane_unwraps[i](n, t, N, t, N, tag, SHORT, out, N),
+                    10 => seals[i](s, h, H, t, N, t, N, out, N, tag, T),
+                    11 => opens[i](s, h, H, t, N, t, N, tag, T, out, N),
+                    13 => seals_group[i](a, GROUPS, GROUP, ALL, h, H, t, N, t, N, out, N, tag, T),
+                    14 => opens_group[i](a, GROUPS, GROUP, ALL, h, H, t, N, t, N, tag, T, out, N),
+                    16 => sane_seals[i](n, nh, H, t, N, t, N, out, N, tag, SHORT),
+                    _ => sane_opens[i](n, nh, H, t, N, t, N, tag, SHORT, out, N),
                 }
-            }
+            };
+            answer.number
         }
     }
 
@@ -185,15 +186,15 @@ mod tests {
     fn the_deepest_call_is_covered() {
         let mut arguments = Arguments::new();
         let mut deepest = 0;
-        // The first turn may look up functions of the C library.
-        for call in (0..CALLS).chain(0..CALLS) {
+        // In the first turn of each, functions of the C library may be looked up.
+        for (four, call) in [false, true, false, true].into_iter().flat_map(|four| (0..CALLS).map(move |c| (four, c))) {
             let expected = match call {
                 19 => 18,
                 _ if call % 3 == 2 => 11,
                 _ => 0,
             };
-            let depth = depth(&mut || assert_eq!(arguments.call(call), expected));
-            println!("call {call}: {depth} bytes of stack");
+            let depth = depth(&mut || assert_eq!(arguments.call(call, four), expected));
+            println!("call {call}, by four: {four}: {depth} bytes of stack");
             deepest = deepest.max(depth);
         }
         assert!(deepest > 200 && deepest * 3 < STACK_BYTES, "{deepest} of {STACK_BYTES}: too little margin");

@@ -2,8 +2,9 @@
 
 use std::mem::{offset_of, size_of};
 
+use super::Record;
+use super::bind::bind;
 use super::stack::clear_stack;
-use super::{Answer, Record};
 
 /// A group's record: its session, and beside it the group's own count of the day. The session is set to zero when it is dropped,
 /// as a lone one is.
@@ -34,74 +35,6 @@ const _: () = assert!(size_of::<Found>() == 12 && offset_of!(Found, group) == 8)
 
 unsafe extern "C" {
     pub(super) fn pevghazo_start_day(records: *mut GroupRecord, length: usize, allowance: u32) -> u32;
-    pub(super) fn pevghazo_open_group(
-        table: *mut GroupRecord,
-        table_len: usize,
-        group: u32,
-        allowance: u32,
-        key: *const u8,
-        key_len: usize,
-    ) -> Answer;
-    pub(super) fn pevghazo_wrap_group(
-        table: *mut GroupRecord,
-        table_len: usize,
-        group: u32,
-        allowance: u32,
-        metadata: *const u8,
-        metadata_len: usize,
-        message: *const u8,
-        message_len: usize,
-        out: *mut u8,
-        out_len: usize,
-        tag: *mut u8,
-        tag_len: usize,
-    ) -> Answer;
-    pub(super) fn pevghazo_unwrap_group(
-        table: *mut GroupRecord,
-        table_len: usize,
-        group: u32,
-        allowance: u32,
-        metadata: *const u8,
-        metadata_len: usize,
-        cryptogram: *const u8,
-        cryptogram_len: usize,
-        tag: *const u8,
-        tag_len: usize,
-        out: *mut u8,
-        out_len: usize,
-    ) -> Answer;
-    pub(super) fn pevghazo_wrap_envelope_group(
-        table: *mut GroupRecord,
-        table_len: usize,
-        group: u32,
-        allowance: u32,
-        header: *const u8,
-        header_len: usize,
-        metadata: *const u8,
-        metadata_len: usize,
-        message: *const u8,
-        message_len: usize,
-        out: *mut u8,
-        out_len: usize,
-        tag: *mut u8,
-        tag_len: usize,
-    ) -> Answer;
-    pub(super) fn pevghazo_unwrap_envelope_group(
-        table: *mut GroupRecord,
-        table_len: usize,
-        group: u32,
-        allowance: u32,
-        header: *const u8,
-        header_len: usize,
-        metadata: *const u8,
-        metadata_len: usize,
-        cryptogram: *const u8,
-        cryptogram_len: usize,
-        tag: *const u8,
-        tag_len: usize,
-        out: *mut u8,
-        out_len: usize,
-    ) -> Answer;
     fn pevghazo_nearly_full(table: *const GroupRecord, table_len: usize, mark: u32) -> Found;
 }
 
@@ -120,146 +53,28 @@ pub fn start_day(records: &mut [GroupRecord], allowance: u32) -> u32 {
     allowance
 }
 
-/// Opens a group. Checks 3, 4 and 10; a refusal leaves the record.
-pub fn open_group(table: &mut [GroupRecord], group: u32, allowance: u32, key: &[u8]) -> Answer {
-    // SAFETY: see the module's head.
-    let answer =
-        unsafe { pevghazo_open_group(table.as_mut_ptr(), table.len(), group, allowance, key.as_ptr(), key.len()) };
-    clear_stack();
-    answer
-}
-
-/// Wraps for a group. Checks 3 and 5 to 10.
-pub fn wrap_group(
-    table: &mut [GroupRecord],
-    group: u32,
-    allowance: u32,
-    metadata: &[u8],
-    message: &[u8],
-    out: &mut [u8],
-    tag: &mut [u8],
-) -> Answer {
-    // SAFETY: see the module's head.
-    let answer = unsafe {
-        pevghazo_wrap_group(
-            table.as_mut_ptr(),
-            table.len(),
-            group,
-            allowance,
-            metadata.as_ptr(),
-            metadata.len(),
-            message.as_ptr(),
-            message.len(),
-            out.as_mut_ptr(),
-            out.len(),
-            tag.as_mut_ptr(),
-            tag.len(),
-        )
-    };
-    clear_stack();
-    answer
-}
-
-/// Unwraps for a group. Checks 3 and 5 to 11; 11 adds its count to the group's, and alters nothing else in the record.
-pub fn unwrap_group(
-    table: &mut [GroupRecord],
-    group: u32,
-    allowance: u32,
-    metadata: &[u8],
-    cryptogram: &[u8],
-    tag: &[u8],
-    out: &mut [u8],
-) -> Answer {
-    // SAFETY: see the module's head.
-    let answer = unsafe {
-        pevghazo_unwrap_group(
-            table.as_mut_ptr(),
-            table.len(),
-            group,
-            allowance,
-            metadata.as_ptr(),
-            metadata.len(),
-            cryptogram.as_ptr(),
-            cryptogram.len(),
-            tag.as_ptr(),
-            tag.len(),
-            out.as_mut_ptr(),
-            out.len(),
-        )
-    };
-    clear_stack();
-    answer
-}
-
-/// Wraps for a group, for the envelope with this header. Check 1, for a header that is not the call's, then 3 and 5 to 10.
-#[allow(clippy::too_many_arguments)] // Those of the C function.
-pub fn wrap_envelope_group(
-    table: &mut [GroupRecord],
-    group: u32,
-    allowance: u32,
-    header: &[u8],
-    metadata: &[u8],
-    message: &[u8],
-    out: &mut [u8],
-    tag: &mut [u8],
-) -> Answer {
-    // SAFETY: see the module's head.
-    let answer = unsafe {
-        pevghazo_wrap_envelope_group(
-            table.as_mut_ptr(),
-            table.len(),
-            group,
-            allowance,
-            header.as_ptr(),
-            header.len(),
-            metadata.as_ptr(),
-            metadata.len(),
-            message.as_ptr(),
-            message.len(),
-            out.as_mut_ptr(),
-            out.len(),
-            tag.as_mut_ptr(),
-            tag.len(),
-        )
-    };
-    clear_stack();
-    answer
-}
-
-/// Unwraps for a group what arrived in the envelope with this header. Check 1, for a header that is not the call's, then 3 and 5 to
-/// 11; 11 adds its count to the group's, and alters nothing else in the record.
-#[allow(clippy::too_many_arguments)] // Those of the C function.
-pub fn unwrap_envelope_group(
-    table: &mut [GroupRecord],
-    group: u32,
-    allowance: u32,
-    header: &[u8],
-    metadata: &[u8],
-    cryptogram: &[u8],
-    tag: &[u8],
-    out: &mut [u8],
-) -> Answer {
-    // SAFETY: see the module's head.
-    let answer = unsafe {
-        pevghazo_unwrap_envelope_group(
-            table.as_mut_ptr(),
-            table.len(),
-            group,
-            allowance,
-            header.as_ptr(),
-            header.len(),
-            metadata.as_ptr(),
-            metadata.len(),
-            cryptogram.as_ptr(),
-            cryptogram.len(),
-            tag.as_ptr(),
-            tag.len(),
-            out.as_mut_ptr(),
-            out.len(),
-        )
-    };
-    clear_stack();
-    answer
+bind! {
+    (table: &mut [GroupRecord], group: u32, allowance: u32;
+     table.as_mut_ptr() => *mut GroupRecord, table.len() => usize, group => u32, allowance => u32);
+    /// Opens a group. Checks 3, 4 and 10; a refusal leaves the record.
+    open_group = pevghazo_open_group [key] -> [];
+    /// Wraps for a group. Checks 3 and 5 to 10.
+    wrap_group = pevghazo_wrap_group [metadata, message] -> [out, tag];
+    /// Unwraps for a group. Checks 3 and 5 to 11; 11 adds its count to the group's, and alters nothing else in the record.
+    unwrap_group = pevghazo_unwrap_group [metadata, cryptogram, tag] -> [out];
+    /// Wraps for a group, for the envelope with this header. Check 1, for a header that is not the call's, then 3 and 5 to 10.
+    wrap_envelope_group = pevghazo_wrap_envelope_group [header, metadata, message] -> [out, tag];
+    /// Unwraps for a group what arrived in the envelope with this header. Check 1, for a header that is not the call's, then 3 and 5
+    /// to 11; 11 adds its count to the group's, and alters nothing else in the record.
+    unwrap_envelope_group = pevghazo_unwrap_envelope_group [header, metadata, cryptogram, tag] -> [out];
+    /// [`wrap_group`] by four.
+    wrap_group_four = pevghazo_wrap_group_four [metadata, message] -> [out, tag];
+    /// [`unwrap_group`] by four.
+    unwrap_group_four = pevghazo_unwrap_group_four [metadata, cryptogram, tag] -> [out];
+    /// [`wrap_envelope_group`] by four.
+    wrap_envelope_group_four = pevghazo_wrap_envelope_group_four [header, metadata, message] -> [out, tag];
+    /// [`unwrap_envelope_group`] by four.
+    unwrap_envelope_group_four = pevghazo_unwrap_envelope_group_four [header, metadata, cryptogram, tag] -> [out];
 }
 
 /// The lowest group that is open with an index above the mark; none exactly where there is none. Check 3, exactly where the table

@@ -12,8 +12,8 @@ use pevghazo_reference::session::{Header, Mode, Record as Reference, SaeSession,
 
 use super::{other_length, packet};
 
-/// A record of the C library, with the calls that records of every kind have.
-pub trait Opening: Sized {
+/// A kind of record of the C library, held beside one of the reference.
+pub trait Held: Sized {
     /// The mode in the reference.
     type Mode: Scheme;
 
@@ -22,28 +22,37 @@ pub trait Opening: Sized {
 
     /// The reference's record with the content of this one. Only tests look at it.
     fn reference(&self) -> Reference<Self::Mode>;
-
-    /// Wraps without an envelope.
-    fn wrap(&mut self, metadata: &[u8], message: &[u8], out: &mut [u8], tag: &mut [u8]) -> Answer;
-
-    /// The same with the reference.
-    fn reference_wrap(
-        reference: &mut Reference<Self::Mode>,
-        metadata: &[u8],
-        message: &[u8],
-        out: &mut [u8],
-        tag: &mut [u8],
-    ) -> Result<u32, Refusal>;
-
-    /// Unwraps without an envelope.
-    fn unwrap(&mut self, metadata: &[u8], cryptogram: &[u8], tag: &[u8], out: &mut [u8]) -> Answer;
 }
 
-/// A record of a mode that seals, with the calls for an envelope.
-pub trait Library: Opening<Mode: Mode> {
+/// By which of a call's two functions in the library it is made: the one that takes a block at a time, or the one by four.
+#[derive(Clone, Copy, Debug, Default, PartialEq, Eq)]
+pub enum By {
+    #[default]
+    One,
+    Four,
+}
+
+impl By {
+    /// Both.
+    pub const EACH: [By; 2] = [By::One, By::Four];
+
+    /// Either.
+    pub fn any(random: &mut Random) -> By {
+        random.pick(&By::EACH)
+    }
+
+    /// The other one.
+    pub fn other(self) -> By {
+        By::EACH[usize::from(self == By::One)]
+    }
+}
+
+/// A record of a mode that seals, with the calls for an envelope and those by four.
+pub trait Library: Held<Mode: Mode> {
     /// Wraps, for the envelope with this header or without one.
     fn wrap_for(
         &mut self,
+        by: By,
         header: Header<'_>,
         metadata: &[u8],
         message: &[u8],
@@ -54,6 +63,7 @@ pub trait Library: Opening<Mode: Mode> {
     /// Unwraps, for the envelope with this header or without one.
     fn unwrap_for(
         &mut self,
+        by: By,
         header: Header<'_>,
         metadata: &[u8],
         cryptogram: &[u8],
@@ -63,9 +73,9 @@ pub trait Library: Opening<Mode: Mode> {
 }
 
 /// The kinds of records have the same fields.
-macro_rules! opening {
-    ($record:ident, $mode:ty, $wrap:path, $unwrap:path) => {
-        impl Opening for $record {
+macro_rules! held {
+    ($record:ident, $mode:ty) => {
+        impl Held for $record {
             type Mode = $mode;
 
             fn of(reference: &Reference<$mode>) -> $record {
@@ -88,68 +98,83 @@ macro_rules! opening {
                     mode: PhantomData,
                 }
             }
+        }
+    };
+}
 
-            fn wrap(&mut self, a: &[u8], m: &[u8], out: &mut [u8], tag: &mut [u8]) -> Answer {
-                $wrap(self, a, m, out, tag)
-            }
+held!(Record, Sanse);
+held!(SaneRecord, Sane);
+held!(SaeRecord, Sae);
 
-            fn reference_wrap(
-                reference: &mut Reference<$mode>,
+/// The calls for an envelope, and those without one, each with the one by four.
+macro_rules! library {
+    ($record:ident, [$wrap:ident, $wrap_four:ident], [$unwrap:ident, $unwrap_four:ident],
+     [$wrap_envelope:ident, $wrap_envelope_four:ident], [$unwrap_envelope:ident, $unwrap_envelope_four:ident]) => {
+        impl Library for $record {
+            fn wrap_for(
+                &mut self,
+                by: By,
+                header: Header<'_>,
                 a: &[u8],
                 m: &[u8],
                 out: &mut [u8],
                 tag: &mut [u8],
-            ) -> Result<u32, Refusal> {
-                reference.wrap(a, m, out, tag)
-            }
-
-            fn unwrap(&mut self, a: &[u8], c: &[u8], tag: &[u8], out: &mut [u8]) -> Answer {
-                $unwrap(self, a, c, tag, out)
-            }
-        }
-    };
-}
-
-opening!(Record, Sanse, raw::wrap, raw::unwrap);
-opening!(SaneRecord, Sane, raw::sane_wrap, raw::sane_unwrap);
-opening!(SaeRecord, Sae, raw::sae_wrap, raw::sae_unwrap);
-
-/// The calls for an envelope, and those without one.
-macro_rules! library {
-    ($record:ident, $wrap_envelope:path, $unwrap_envelope:path) => {
-        impl Library for $record {
-            fn wrap_for(&mut self, header: Header<'_>, a: &[u8], m: &[u8], out: &mut [u8], tag: &mut [u8]) -> Answer {
-                match header {
-                    Some(header) => $wrap_envelope(self, header, a, m, out, tag),
-                    None => self.wrap(a, m, out, tag),
+            ) -> Answer {
+                match (by, header) {
+                    (By::One, Some(header)) => raw::$wrap_envelope(self, header, a, m, out, tag),
+                    (By::One, None) => raw::$wrap(self, a, m, out, tag),
+                    (By::Four, Some(header)) => raw::$wrap_envelope_four(self, header, a, m, out, tag),
+                    (By::Four, None) => raw::$wrap_four(self, a, m, out, tag),
                 }
             }
 
-            fn unwrap_for(&mut self, header: Header<'_>, a: &[u8], c: &[u8], tag: &[u8], out: &mut [u8]) -> Answer {
-                match header {
-                    Some(header) => $unwrap_envelope(self, header, a, c, tag, out),
-                    None => self.unwrap(a, c, tag, out),
+            fn unwrap_for(
+                &mut self,
+                by: By,
+                header: Header<'_>,
+                a: &[u8],
+                c: &[u8],
+                tag: &[u8],
+                out: &mut [u8],
+            ) -> Answer {
+                match (by, header) {
+                    (By::One, Some(header)) => raw::$unwrap_envelope(self, header, a, c, tag, out),
+                    (By::One, None) => raw::$unwrap(self, a, c, tag, out),
+                    (By::Four, Some(header)) => raw::$unwrap_envelope_four(self, header, a, c, tag, out),
+                    (By::Four, None) => raw::$unwrap_four(self, a, c, tag, out),
                 }
             }
         }
     };
 }
 
-library!(Record, raw::wrap_envelope, raw::unwrap_envelope);
-library!(SaneRecord, raw::sane_wrap_envelope, raw::sane_unwrap_envelope);
+library!(
+    Record,
+    [wrap, wrap_four],
+    [unwrap, unwrap_four],
+    [wrap_envelope, wrap_envelope_four],
+    [unwrap_envelope, unwrap_envelope_four]
+);
+library!(
+    SaneRecord,
+    [sane_wrap, sane_wrap_four],
+    [sane_unwrap, sane_unwrap_four],
+    [sane_wrap_envelope, sane_wrap_envelope_four],
+    [sane_unwrap_envelope, sane_unwrap_envelope_four]
+);
 
 /// A second record with the same content. Only tests do this.
-pub fn copy<R: Opening>(record: &R) -> R {
+pub fn copy<R: Held>(record: &R) -> R {
     R::of(&record.reference())
 }
 
 /// Whether two records have the same content. Only tests compare them.
-pub fn same<R: Opening>(a: &R, b: &R) -> bool {
+pub fn same<R: Held>(a: &R, b: &R) -> bool {
     a.reference() == b.reference()
 }
 
 /// The library's record for one of the reference.
-pub fn record_of<R: Opening>(session: &Reference<R::Mode>) -> R {
+pub fn record_of<R: Held>(session: &Reference<R::Mode>) -> R {
     R::of(session)
 }
 
@@ -180,10 +205,12 @@ pub fn any_session<M>(random: &mut Random) -> Reference<M> {
 }
 
 /// A session held twice: by the library, and by the reference. Each call is made on both with buffers of the same content,
-/// and answers, whole buffers and records must be the same.
-pub struct BothOf<R: Opening> {
+/// and answers, whole buffers and records must be the same. The calls that the library has twice are made by each of the two
+/// functions, from the same record and into the same buffers; what goes on and what travels is what the end's own choice gave.
+pub struct BothOf<R: Held> {
     pub library: R,
     pub reference: Reference<R::Mode>,
+    pub by: By,
 }
 
 /// A session of SANSE, held twice.
@@ -195,10 +222,10 @@ pub type SaneBoth = BothOf<SaneRecord>;
 /// A session of old letters, held twice.
 pub type SaeBoth = BothOf<SaeRecord>;
 
-impl<R: Opening> BothOf<R> {
+impl<R: Held> BothOf<R> {
     /// The same record on both sides.
     pub fn of(reference: Reference<R::Mode>) -> BothOf<R> {
-        BothOf { library: R::of(&reference), reference }
+        BothOf { library: R::of(&reference), reference, by: By::One }
     }
 
     /// Both sides have one record.
@@ -210,38 +237,41 @@ impl<R: Opening> BothOf<R> {
     }
 
     /// The library has given the reference's answer to a call that writes to these buffers, and both sides have one record.
-    fn checked(
-        &self,
-        call: &str,
-        given: Answer,
-        answer: Result<u32, Refusal>,
-        [out, tag]: [(&[u8], &[u8]); 2],
-    ) -> Answer {
-        assert_eq!(given, answer_of(answer), "{call}");
+    fn checked(&self, call: &str, given: Answer, answer: Answer, [out, tag]: [(&[u8], &[u8]); 2]) {
+        assert_eq!(given, answer, "{call}");
         assert!(out.0 == out.1, "{call}: the output buffers differ");
         assert!(tag.0 == tag.1, "{call}: the tag buffers differ");
         self.check();
+    }
+}
+
+impl SaeBoth {
+    /// Wraps into these buffers.
+    pub fn wrap(&mut self, metadata: &[u8], message: &[u8], out: &mut [u8], tag: &mut [u8]) -> Answer {
+        let (mut out_too, mut tag_too) = (out.to_vec(), tag.to_vec());
+        let given = raw::sae_wrap(&mut self.library, metadata, message, out, tag);
+        let answer = self.reference.wrap(metadata, message, &mut out_too, &mut tag_too);
+        self.checked("wrap", given, answer_of(answer), [(out, &out_too), (tag, &tag_too)]);
         given
     }
 
-    /// Wraps into these buffers, without an envelope.
-    pub fn wrap(&mut self, metadata: &[u8], message: &[u8], out: &mut [u8], tag: &mut [u8]) -> Answer {
-        let (mut out_too, mut tag_too) = (out.to_vec(), tag.to_vec());
-        let given = self.library.wrap(metadata, message, out, tag);
-        let answer = R::reference_wrap(&mut self.reference, metadata, message, &mut out_too, &mut tag_too);
-        self.checked("wrap", given, answer, [(out, &out_too), (tag, &tag_too)])
-    }
-
-    /// Unwraps into this buffer, without an envelope.
+    /// Unwraps into this buffer.
     pub fn unwrap(&mut self, metadata: &[u8], cryptogram: &[u8], tag: &[u8], out: &mut [u8]) -> Answer {
         let mut out_too = out.to_vec();
-        let given = self.library.unwrap(metadata, cryptogram, tag, out);
+        let given = raw::sae_unwrap(&mut self.library, metadata, cryptogram, tag, out);
         let answer = self.reference.unwrap(metadata, cryptogram, tag, &mut out_too);
-        self.checked("unwrap", given, answer, [(out, &out_too), (&[], &[])])
+        self.checked("unwrap", given, answer_of(answer), [(out, &out_too), (&[], &[])]);
+        given
     }
 }
 
 impl<R: Library> BothOf<R> {
+    /// The end with a choice for its next calls.
+    pub fn by(&mut self, by: By) -> &mut BothOf<R> {
+        self.by = by;
+        self
+    }
+
     /// Wraps into these buffers, for the envelope with this header or without one.
     pub fn wrap_for(
         &mut self,
@@ -251,10 +281,17 @@ impl<R: Library> BothOf<R> {
         out: &mut [u8],
         tag: &mut [u8],
     ) -> Answer {
-        let (mut out_too, mut tag_too) = (out.to_vec(), tag.to_vec());
-        let given = self.library.wrap_for(header, metadata, message, out, tag);
-        let answer = self.reference.wrap_for(header, metadata, message, &mut out_too, &mut tag_too);
-        self.checked("wrap", given, answer, [(out, &out_too), (tag, &tag_too)])
+        let (before, kept) = (self.library.reference(), (out.to_vec(), tag.to_vec()));
+        let (mut out_too, mut tag_too) = kept.clone();
+        let answer = answer_of(self.reference.wrap_for(header, metadata, message, &mut out_too, &mut tag_too));
+        for by in [self.by.other(), self.by] {
+            self.library = R::of(&before);
+            out.copy_from_slice(&kept.0);
+            tag.copy_from_slice(&kept.1);
+            let given = self.library.wrap_for(by, header, metadata, message, out, tag);
+            self.checked(&format!("wrap by {by:?}"), given, answer, [(out, &out_too), (tag, &tag_too)]);
+        }
+        answer
     }
 
     /// Unwraps into this buffer, for the envelope with this header or without one.
@@ -266,10 +303,16 @@ impl<R: Library> BothOf<R> {
         tag: &[u8],
         out: &mut [u8],
     ) -> Answer {
-        let mut out_too = out.to_vec();
-        let given = self.library.unwrap_for(header, metadata, cryptogram, tag, out);
-        let answer = self.reference.unwrap_for(header, metadata, cryptogram, tag, &mut out_too);
-        self.checked("unwrap", given, answer, [(out, &out_too), (&[], &[])])
+        let (before, kept) = (self.library.reference(), out.to_vec());
+        let mut out_too = kept.clone();
+        let answer = answer_of(self.reference.unwrap_for(header, metadata, cryptogram, tag, &mut out_too));
+        for by in [self.by.other(), self.by] {
+            self.library = R::of(&before);
+            out.copy_from_slice(&kept);
+            let given = self.library.unwrap_for(by, header, metadata, cryptogram, tag, out);
+            self.checked(&format!("unwrap by {by:?}"), given, answer, [(out, &out_too), (&[], &[])]);
+        }
+        answer
     }
 }
 
@@ -283,7 +326,7 @@ impl Both {
             Err(number) => (Session::CLOSED, Err(number.into())),
         };
         assert_eq!(given, answer_of(answer));
-        let both = Both { library, reference };
+        let both = Both { library, reference, by: By::One };
         both.check();
         (both, given)
     }
@@ -307,7 +350,7 @@ impl Both {
 }
 
 /// A kind of record whose sessions start with a nonce.
-pub trait WithNonce: Opening {
+pub trait WithNonce: Held {
     /// The library's start.
     fn raw_start(record: &mut Self, key: &[u8], nonce: &[u8], tag: &mut [u8]) -> Answer;
 
@@ -343,8 +386,8 @@ impl<R: WithNonce> BothOf<R> {
             Ok((session, count)) => (session, Ok(count)),
             Err(number) => (Reference::CLOSED, Err(number.into())),
         };
-        let both = BothOf { library, reference };
-        let given = both.checked("start", given, answer, [(&[], &[]), (tag, &tag_too)]);
+        let both = BothOf { library, reference, by: By::One };
+        both.checked("start", given, answer_of(answer), [(&[], &[]), (tag, &tag_too)]);
         (both, given)
     }
 

@@ -4,7 +4,7 @@ use pevghazo::raw::Answer;
 use pevghazo_reference::random::Random;
 use pevghazo_reference::session::Record as Reference;
 
-use super::{BothOf, Opening, WithNonce, any_session, length, maybe_long, other_length};
+use super::{BothOf, Held, WithNonce, any_session, length, maybe_long, other_length};
 
 /// Lengths of metadata and message, with the counts of document 02, by hand.
 pub const COUNTS: [(usize, usize, u32); 11] = [
@@ -66,7 +66,7 @@ pub type Lengths = (usize, usize, usize, usize);
 
 /// Calls with all lengths at which something changes, on records that are open and closed, with indexes up to the limit and above it:
 /// `one` is handed the first number met of 5 to 9, or 0. A call with 20 and 48 bytes counts 8.
-pub fn every_refusal<R: Opening>(mut one: impl FnMut(&mut Random, &Reference<R::Mode>, Lengths, u32)) {
+pub fn every_refusal<R: Held>(mut one: impl FnMut(&mut Random, &Reference<R::Mode>, Lengths, u32)) {
     let mut random = Random::new(1);
     let mut numbers = [0; 12];
     for (open, index) in

@@ -16,14 +16,14 @@ pub mod stored;
 pub mod tables;
 
 pub use both::{
-    Both, BothOf, Library, Opening, SaeBoth, SaneBoth, WithNonce, answer_of, any_session, copy, record_of, same,
+    Both, BothOf, By, Held, Library, SaeBoth, SaneBoth, WithNonce, answer_of, any_session, copy, record_of, same,
 };
 use headers::{ADDED, ANOTHER_GROUP, DROPPED, Ways, group_of, header, misfit};
 use pevghazo_reference::random::Random;
 use pevghazo_reference::session::metadata_string;
 
-/// The lengths at which something changes.
-pub const EDGES: [usize; 10] = [0, 1, 47, 48, 49, 95, 96, 97, 16_383, 16_384];
+/// The lengths at which something changes: where a block ends, where four do, where eight do, and the limit.
+pub const EDGES: [usize; 16] = [0, 1, 47, 48, 49, 95, 96, 97, 191, 192, 193, 383, 384, 385, 16_383, 16_384];
 
 /// The packets at which something changes, with some beside them: the codes of 0 and 1 stand in the first output block, those of 2
 /// to 7 in the second.
@@ -86,7 +86,7 @@ pub fn length(random: &mut Random) -> usize {
     match random.below(20) {
         0 => random.below(16_385),
         1 => random.pick(&EDGES),
-        2..8 => random.pick(&EDGES[..8]),
+        2..8 => random.pick(&EDGES[..14]),
         8..12 => random.below(16),
         _ => random.below(300),
     }

@@ -6,7 +6,7 @@ use pevghazo_reference::random::Random;
 use pevghazo_reference::session::{Header, Mode, Record as Reference, Scheme, growth, metadata_string};
 
 use super::headers::{Ways, header, maybe_misfit};
-use super::{Arrival, BothOf, EDGES, Library, answer_of, any_session, copy, maybe_long, other_length, same, text};
+use super::{Arrival, BothOf, By, EDGES, Library, answer_of, any_session, copy, maybe_long, other_length, same, text};
 
 /// The bytes of a tag.
 fn tag_length<R: Library>() -> usize {
@@ -19,13 +19,32 @@ fn count<R: Library>(header: Header<'_>, metadata: &[u8], message: &[u8]) -> u32
 }
 
 /// What happened: the answers of wraps and of unwraps that may be accepted, by number; the forged arrivals; the ways in which
-/// headers were others; and the accepted calls without an envelope and for one.
+/// headers were others; the accepted calls without an envelope and for one; and of messages that hold four full blocks, by which
+/// of the library's functions they were wrapped and unwrapped.
 #[derive(Default)]
 pub struct Tally {
     pub numbers: [u64; 12],
     pub forged: u64,
     pub ways: Ways,
     pub accepted: [u64; 2],
+    pub choices: Choices,
+}
+
+/// How often a message that holds four full blocks was wrapped one way and unwrapped one way.
+#[derive(Debug, Default)]
+pub struct Choices([[u64; 2]; 2]);
+
+impl Choices {
+    /// Counts a message.
+    pub fn take(&mut self, wrapped: By, unwrapped: By, metadata: &[u8], message: &[u8]) {
+        let is_long = metadata.len().max(message.len()) >= 192;
+        self.0[wrapped as usize][unwrapped as usize] += u64::from(is_long);
+    }
+
+    /// All four pairs of choices were there so many times.
+    pub fn all_were_there(&self, least: u64) {
+        assert!(self.0.iter().flatten().all(|times| *times >= least), "long messages by choice: {self:?}");
+    }
 }
 
 impl Tally {
@@ -66,7 +85,7 @@ pub fn seal<R: Library>(random: &mut Random, end: &mut BothOf<R>, tally: &mut Ta
         let mut out = random.bytes(room);
         let tag_length = other_length(random, tag_length::<R>(), 10);
         let mut tag = random.bytes(tag_length);
-        let answer = end.wrap_for(header.as_deref(), &a, &m, &mut out, &mut tag);
+        let answer = end.by(By::any(random)).wrap_for(header.as_deref(), &a, &m, &mut out, &mut tag);
         if tally.take(header.as_deref(), answer) {
             assert_eq!(answer.count, count::<R>(header.as_deref(), &a, &m));
             out.truncate(message.len());
@@ -84,7 +103,7 @@ pub fn refuse<R: Library>(random: &mut Random, end: &mut BothOf<R>, forged: &Arr
     let mut out = before.clone();
     let record = copy(&end.library);
     let Arrival { header, metadata, cryptogram, tag, .. } = forged;
-    let answer = end.unwrap_for(header.as_deref(), metadata, cryptogram, tag, &mut out);
+    let answer = end.by(By::any(random)).unwrap_for(header.as_deref(), metadata, cryptogram, tag, &mut out);
     assert!(same(&end.library, &record), "a forged arrival has altered the session");
     tally.forged += 1;
     if !forged.header_fits(R::Mode::LETTER) {
@@ -109,7 +128,7 @@ pub fn accept<R: Library>(random: &mut Random, end: &mut BothOf<R>, arrival: &Ar
         tag.resize(other_length(random, tag_length::<R>(), 10), 0);
         let room = if random.once_in(3) { c.len() + random.below(100) } else { other_length(random, c.len(), 5) };
         let mut out = random.bytes(room);
-        let answer = end.unwrap_for(header.as_deref(), &a, &c, &tag, &mut out);
+        let answer = end.by(By::any(random)).unwrap_for(header.as_deref(), &a, &c, &tag, &mut out);
         if tally.take(header.as_deref(), answer) {
             assert_eq!((&header, &a, &c), (&arrival.header, &arrival.metadata, &arrival.cryptogram));
             assert_eq!(out[..c.len()], arrival.message);
@@ -159,6 +178,7 @@ impl<R: Library> Ends<R> {
         between(random, &self.ends);
         let from = random.below(2);
         let arrival = seal(random, &mut self.ends[from], tally);
+        let wrapped = self.ends[from].by;
         between(random, &self.ends);
         for bad in self.forged(random, &arrival, tally) {
             refuse(random, &mut self.ends[1 - from], &bad, tally);
@@ -166,6 +186,7 @@ impl<R: Library> Ends<R> {
         refuse(random, &mut self.ends[from], &arrival, tally);
         between(random, &self.ends);
         accept(random, &mut self.ends[1 - from], &arrival, tally);
+        tally.choices.take(wrapped, self.ends[1 - from].by, &arrival.metadata, &arrival.message);
         assert!(same(&self.ends[0].library, &self.ends[1].library), "the ends' records differ");
         for end in &mut self.ends {
             refuse(random, end, &arrival, tally);
@@ -191,9 +212,9 @@ pub fn message<R: Library>(random: &mut Random, both: &mut BothOf<R>, header: He
         let (mut out, mut tag) = (random.bytes(room), random.bytes(tag_length::<R>()));
         let mut other = BothOf::<R>::of(both.reference.clone());
         let accepted = answer_of(Ok(R::Mode::count(header.map_or(0, <[u8]>::len) + a, m)));
-        assert_eq!(both.wrap_for(header, &metadata, &message, &mut out, &mut tag), accepted);
+        assert_eq!(both.by(By::any(random)).wrap_for(header, &metadata, &message, &mut out, &mut tag), accepted);
         let mut back = random.bytes(room);
-        let answer = other.unwrap_for(header, &metadata, &out[..m], &tag, &mut back);
+        let answer = other.by(By::any(random)).unwrap_for(header, &metadata, &out[..m], &tag, &mut back);
         assert_eq!((answer, &back[..m]), (accepted, &message[..]));
         assert!(same(&both.library, &other.library));
     }
@@ -264,16 +285,16 @@ pub fn call_near_the_limit<R: Library>(random: &mut Random) {
     let session: Reference<R::Mode> = Reference { index, open: true, ..any_session(random) };
     let (mut out, mut tag) = (random.bytes(message.len()), random.bytes(R::Mode::TAG));
     let mut here = BothOf::<R>::of(session.clone());
-    let answer = here.wrap_for(header, &metadata, &message, &mut out, &mut tag);
+    let answer = here.by(By::any(random)).wrap_for(header, &metadata, &message, &mut out, &mut tag);
     assert_eq!(answer.number, if index <= full { 0 } else { 9 });
     let mut there = BothOf::<R>::of(session);
     let mut back = random.bytes(message.len());
-    assert_eq!(there.unwrap_for(header, &metadata, &out, &tag, &mut back), answer);
+    assert_eq!(there.by(By::any(random)).unwrap_for(header, &metadata, &out, &tag, &mut back), answer);
     assert!(answer.number == 9 || (back == message && same(&here.library, &there.library)));
 }
 
-/// Messages of the greatest length from this session on, until the index is full; gives how many. Every hundredth one is
-/// compared, the others are made by the library alone.
+/// Messages of the greatest length from this session on, until the index is full, at each end by either of the library's functions;
+/// gives how many. Every hundredth one is compared, the others are made by the library alone.
 pub fn up_to_the_limit<R: Library>(random: &mut Random, mut both: BothOf<R>) -> u32 {
     let message = random.bytes(16_384);
     let mut far = copy(&both.library);
@@ -281,13 +302,14 @@ pub fn up_to_the_limit<R: Library>(random: &mut Random, mut both: BothOf<R>) -> 
     loop {
         let (mut out, mut tag, mut back) = (random.bytes(16_384), vec![0; R::Mode::TAG], vec![0; 16_384]);
         let number = if sealed % 100 == 0 {
-            both.wrap(&message, &message, &mut out, &mut tag).number
+            both.wrap_for(None, &message, &message, &mut out, &mut tag).number
         } else {
-            let number = both.library.wrap(&message, &message, &mut out, &mut tag).number;
+            let number = both.library.wrap_for(By::any(random), None, &message, &message, &mut out, &mut tag).number;
             both.reference = both.library.reference();
             number
         };
-        assert_eq!(far.unwrap(&message, &out, &tag, &mut back).number, number);
+        let answer = far.unwrap_for(By::any(random), None, &message, &out, &tag, &mut back);
+        assert_eq!(answer.number, number);
         assert!(same(&far, &both.library));
         if number != 0 {
             assert_eq!(number, 9);

@@ -6,14 +6,15 @@ use pevghazo_reference::refusal::Number;
 use pevghazo_reference::session::Header;
 use pevghazo_reference::table::{GroupRecord as Reference, Table};
 
-use super::{answer_of, any_session, other_length, packet, record_of, same};
+use super::{By, Held, answer_of, any_session, other_length, packet, record_of, same};
 
 /// A table held twice. Each call is made on both with buffers of the same content, and answers, whole buffers, all sessions and all
-/// counts must be the same.
+/// counts must be the same. Wraps and unwraps are made by each of the library's two functions; the office's choice goes on.
 pub struct Tables {
     pub records: Vec<GroupRecord>,
     pub allowance: u32,
     pub reference: Table,
+    pub by: By,
 }
 
 /// The library's record for one of the reference.
@@ -52,31 +53,35 @@ pub fn any_record(random: &mut Random) -> Reference {
 
 /// Wraps for a group with the library, for the envelope with this header or without one.
 pub fn wrap_group(
+    by: By,
     table: &mut [GroupRecord],
-    group: u32,
-    allowance: u32,
+    (group, allowance): (u32, u32),
     header: Header<'_>,
-    [metadata, message]: [&[u8]; 2],
+    [a, m]: [&[u8]; 2],
     [out, tag]: [&mut [u8]; 2],
 ) -> Answer {
-    match header {
-        Some(header) => raw::wrap_envelope_group(table, group, allowance, header, metadata, message, out, tag),
-        None => raw::wrap_group(table, group, allowance, metadata, message, out, tag),
+    match (by, header) {
+        (By::One, Some(header)) => raw::wrap_envelope_group(table, group, allowance, header, a, m, out, tag),
+        (By::One, None) => raw::wrap_group(table, group, allowance, a, m, out, tag),
+        (By::Four, Some(header)) => raw::wrap_envelope_group_four(table, group, allowance, header, a, m, out, tag),
+        (By::Four, None) => raw::wrap_group_four(table, group, allowance, a, m, out, tag),
     }
 }
 
 /// Unwraps for a group with the library, for the envelope with this header or without one.
 pub fn unwrap_group(
+    by: By,
     table: &mut [GroupRecord],
-    group: u32,
-    allowance: u32,
+    (group, allowance): (u32, u32),
     header: Header<'_>,
-    [metadata, cryptogram, tag]: [&[u8]; 3],
+    [a, c, tag]: [&[u8]; 3],
     out: &mut [u8],
 ) -> Answer {
-    match header {
-        Some(header) => raw::unwrap_envelope_group(table, group, allowance, header, metadata, cryptogram, tag, out),
-        None => raw::unwrap_group(table, group, allowance, metadata, cryptogram, tag, out),
+    match (by, header) {
+        (By::One, Some(header)) => raw::unwrap_envelope_group(table, group, allowance, header, a, c, tag, out),
+        (By::One, None) => raw::unwrap_group(table, group, allowance, a, c, tag, out),
+        (By::Four, Some(header)) => raw::unwrap_envelope_group_four(table, group, allowance, header, a, c, tag, out),
+        (By::Four, None) => raw::unwrap_group_four(table, group, allowance, a, c, tag, out),
     }
 }
 
@@ -84,14 +89,25 @@ impl Tables {
     /// The same table on both sides.
     pub fn of(reference: Table) -> Tables {
         let records = reference.records.iter().map(group_record_of).collect();
-        Tables { records, allowance: reference.allowance, reference }
+        Tables { records, allowance: reference.allowance, reference, by: By::One }
+    }
+
+    /// The office with a choice for its next calls.
+    pub fn by(&mut self, by: By) -> &mut Tables {
+        self.by = by;
+        self
+    }
+
+    /// What the library's records hold.
+    fn content(&self) -> Vec<Reference> {
+        let content = |record: &GroupRecord| Reference { session: record.session.reference(), count: record.count };
+        self.records.iter().map(content).collect()
     }
 
     /// Both sides hold the same, and the library gave the reference's answer.
-    fn check(&self, given: Answer, answer: Answer) -> Answer {
+    fn check(&self, given: Answer, answer: Answer) {
         assert_eq!(given, answer);
         self.check_records();
-        given
     }
 
     /// Both sides hold the same records and the same allowance.
@@ -120,7 +136,8 @@ impl Tables {
     pub fn open_group(&mut self, group: u32, key: &[u8]) -> Answer {
         let answer = answer_of(self.reference.open_group(group, key));
         let given = raw::open_group(&mut self.records, group, self.allowance, key);
-        self.check(given, answer)
+        self.check(given, answer);
+        given
     }
 
     pub fn wrap(&mut self, group: u32, metadata: &[u8], message: &[u8], out: &mut [u8], tag: &mut [u8]) -> Answer {
@@ -137,12 +154,19 @@ impl Tables {
         out: &mut [u8],
         tag: &mut [u8],
     ) -> Answer {
-        let (mut out_too, mut tag_too) = (out.to_vec(), tag.to_vec());
-        let given =
-            wrap_group(&mut self.records, group, self.allowance, header, [metadata, message], [&mut *out, &mut *tag]);
-        let answer = self.reference.wrap_for(group, header, metadata, message, &mut out_too, &mut tag_too);
-        assert!(out == out_too && tag == tag_too, "wrap: the buffers differ");
-        self.check(given, answer_of(answer))
+        let (before, kept) = (self.content(), (out.to_vec(), tag.to_vec()));
+        let (mut out_too, mut tag_too) = kept.clone();
+        let answer = answer_of(self.reference.wrap_for(group, header, metadata, message, &mut out_too, &mut tag_too));
+        for by in [self.by.other(), self.by] {
+            self.records = before.iter().map(group_record_of).collect();
+            out.copy_from_slice(&kept.0);
+            tag.copy_from_slice(&kept.1);
+            let (at, buffers) = ((group, self.allowance), [&mut *out, &mut *tag]);
+            let given = wrap_group(by, &mut self.records, at, header, [metadata, message], buffers);
+            assert!(out == out_too && tag == tag_too, "wrap by {by:?}: the buffers differ");
+            self.check(given, answer);
+        }
+        answer
     }
 
     pub fn unwrap(&mut self, group: u32, metadata: &[u8], cryptogram: &[u8], tag: &[u8], out: &mut [u8]) -> Answer {
@@ -159,11 +183,18 @@ impl Tables {
         tag: &[u8],
         out: &mut [u8],
     ) -> Answer {
-        let mut out_too = out.to_vec();
-        let given = unwrap_group(&mut self.records, group, self.allowance, header, [metadata, cryptogram, tag], out);
-        let answer = self.reference.unwrap_for(group, header, metadata, cryptogram, tag, &mut out_too);
-        assert!(out == out_too, "unwrap: the buffers differ");
-        self.check(given, answer_of(answer))
+        let (before, kept) = (self.content(), out.to_vec());
+        let mut out_too = kept.clone();
+        let answer = answer_of(self.reference.unwrap_for(group, header, metadata, cryptogram, tag, &mut out_too));
+        for by in [self.by.other(), self.by] {
+            self.records = before.iter().map(group_record_of).collect();
+            out.copy_from_slice(&kept);
+            let (at, arrived) = ((group, self.allowance), [metadata, cryptogram, tag]);
+            let given = unwrap_group(by, &mut self.records, at, header, arrived, out);
+            assert!(out == out_too, "unwrap by {by:?}: the buffers differ");
+            self.check(given, answer);
+        }
+        answer
     }
 
     /// A code is asked of the group's session, past the table: its size, its other records, counts and allowance play no part.
@@ -174,7 +205,8 @@ impl Tables {
         let given = raw::code(&self.records[group].session, packet, &mut out);
         let answer = self.reference.records[group].session.code(packet, &mut out_too);
         assert!(out == out_too, "code: the buffers differ");
-        self.check(given, answer_of(answer))
+        self.check(given, answer_of(answer));
+        given
     }
 
     /// The nearly-full question: number and group must be the reference's.
