@@ -63,25 +63,39 @@ typedef struct job {
 
 static const char *const ratios[] = {"library / it", "by four / it"};
 
-static void print_table(const job *j, const double medians[SIDES]) {
+static double times[SIDES][RUNS];
+
+static double median_time(int k) {
+    double v[RUNS];
+    memcpy(v, times[k], sizeof v);
+    return median(v);
+}
+
+/* The median of what side f's time divided by side k's is in each run. */
+static double median_ratio(int f, int k) {
+    double v[RUNS];
+    for (int r = 0; r < RUNS; r++) v[r] = times[f][r] / times[k][r];
+    return median(v);
+}
+
+static void print_table(const job *j) {
     printf("\n%-30s %12s %10s", j->title, "ns/call", "ns/byte");
     for (int f = 0; f < j->firsts; f++) printf(" %14s", ratios[f]);
     printf("\n");
     for (int k = 0; k < j->n; k++) {
-        printf("  %-28s %12.1f ", j->sides[k].name, medians[k]);
+        double t = median_time(k);
+        printf("  %-28s %12.1f ", j->sides[k].name, t);
         if (j->bytes)
-            printf("%10.3f", medians[k] / j->bytes);
+            printf("%10.3f", t / j->bytes);
         else
             printf("%10s", "");
-        for (int f = 0; f < j->firsts; f++) printf(" %14.3f", medians[f] / medians[k]);
+        for (int f = 0; f < j->firsts; f++) printf(" %14.3f", median_ratio(f, k));
         printf("\n");
     }
 }
 
 /* Times the calls of each side, in turn, RUNS times. */
 static void compare(const job *j) {
-    static double times[SIDES][RUNS];
-    double medians[SIDES];
     for (int r = 0; r < RUNS; r++) {
         for (int k = 0; k < j->n; k++) {
             bool ok = true;
@@ -91,8 +105,7 @@ static void compare(const job *j) {
             if (!ok) fail(j->sides[k].name, j->title);
         }
     }
-    for (int k = 0; k < j->n; k++) medians[k] = median(times[k]);
-    print_table(j, medians);
+    print_table(j);
 }
 
 /* ---- the leaves */
@@ -208,7 +221,7 @@ int main(void) {
     sessions("192", 192, 700);
     sessions("1,024", 1024, 200);
     sessions("16,384", LONGEST, 20);
-    printf("\nMedians of %d interleaved runs. Wrap and unwrap take %d bytes of metadata beside the bytes named. AES-256-SIV's calls set the\n"
-           "key each time, as OpenSSL's interface asks; OpenSSL's start sets the key for both directions.\n", RUNS, METADATA);
+    printf("\nMedians of %d interleaved runs, of times and of ratios. Wrap and unwrap take %d bytes of metadata beside the bytes named. AES-256-SIV's\n"
+           "calls set the key each time, as OpenSSL's interface asks; OpenSSL's start sets the key for both directions.\n", RUNS, METADATA);
     return 0;
 }
