@@ -1,51 +1,67 @@
 #include "peers.h"
 #include "reference.h"
+#include "sse2.h"
 #include <string.h>
 
+/* Where all peers' texts start, so that none is faster by its addresses. */
+#define PAGE __attribute__((aligned(4096)))
+
 size_t peer_size;
-uint8_t peer_key[KEY], peer_metadata[METADATA], peer_message[LONGEST];
+uint8_t peer_key[KEY], peer_metadata[METADATA], peer_message[LONGEST] PAGE;
 
 /* Buffers of one peer, and its entry in the table. */
-#define BUFFERS(P) static uint8_t P##_out[LONGEST], P##_tag[32], P##_back[LONGEST]
+#define BUFFERS(P) static uint8_t P##_out[LONGEST] PAGE, P##_back[LONGEST] PAGE, P##_tag[32]
 #define PEER(P, NAME, SANSE, START) {NAME, SANSE, START, P##_wrap, P##_unwrap, P##_out, P##_tag, P##_back}
 
-/* ---- the proved library */
+/* ---- the proved library: as it is, by four, and as it was */
 
-BUFFERS(library);
+/* A library's wrap and unwrap as calls, each from this session. */
+#define LIBRARY_CALLS(P, SESSION, WRAP, UNWRAP)                                                                         \
+    BUFFERS(P);                                                                                                         \
+    static bool P##_wrap(void) {                                                                                        \
+        pevghazo_session s = SESSION;                                                                                   \
+        return WRAP(&s, peer_metadata, METADATA, peer_message, peer_size, P##_out, peer_size, P##_tag, 32).number == 0; \
+    }                                                                                                                   \
+    static bool P##_unwrap(void) {                                                                                      \
+        pevghazo_session s = SESSION;                                                                                   \
+        return UNWRAP(&s, peer_metadata, METADATA, P##_out, peer_size, P##_tag, 32, P##_back, peer_size).number == 0;   \
+    }
+
+extern __typeof__(pevghazo_wrap) pevghazo_wrap_four;
+extern __typeof__(pevghazo_unwrap) pevghazo_unwrap_four;
+
 static pevghazo_session library_session;
-
 static bool library_start(void) { return pevghazo_start(&library_session, peer_key, KEY).number == 0; }
+LIBRARY_CALLS(library, library_session, pevghazo_wrap, pevghazo_unwrap)
+LIBRARY_CALLS(four, library_session, pevghazo_wrap_four, pevghazo_unwrap_four)
 
-static bool library_wrap(void) {
-    pevghazo_session s = library_session;
-    return pevghazo_wrap(&s, peer_metadata, METADATA, peer_message, peer_size, library_out, peer_size, library_tag, 32).number == 0;
-}
+#ifdef WITH_EARLIER_SESSIONS
+extern __typeof__(pevghazo_start) earlier_start;
+extern __typeof__(pevghazo_wrap) earlier_wrap;
+extern __typeof__(pevghazo_unwrap) earlier_unwrap;
 
-static bool library_unwrap(void) {
-    pevghazo_session s = library_session;
-    return pevghazo_unwrap(&s, peer_metadata, METADATA, library_out, peer_size, library_tag, 32, library_back, peer_size).number == 0;
-}
+static pevghazo_session before_session;
+static bool before_start(void) { return earlier_start(&before_session, peer_key, KEY).number == 0; }
+LIBRARY_CALLS(before, before_session, earlier_wrap, earlier_unwrap)
+#endif
 
-/* ---- plain C */
+/* ---- plain C, and SSE2 by hand */
 
-BUFFERS(plain);
+#define C_CALLS(P, WRAP, UNWRAP)                                                                   \
+    BUFFERS(P);                                                                                    \
+    static bool P##_wrap(void) {                                                                   \
+        pevghazo_session s = plain_session;                                                        \
+        return WRAP(&s, peer_metadata, METADATA, peer_message, peer_size, P##_out, P##_tag), true; \
+    }                                                                                              \
+    static bool P##_unwrap(void) {                                                                 \
+        pevghazo_session s = plain_session;                                                        \
+        return UNWRAP(&s, peer_metadata, METADATA, P##_out, peer_size, P##_tag, P##_back);         \
+    }
+
 static pevghazo_session plain_session;
-
-static bool plain_start(void) {
-    reference_start(&plain_session, peer_key, KEY);
-    return true;
-}
-
-static bool plain_wrap(void) {
-    pevghazo_session s = plain_session;
-    reference_wrap(&s, peer_metadata, METADATA, peer_message, peer_size, plain_out, plain_tag);
-    return true;
-}
-
-static bool plain_unwrap(void) {
-    pevghazo_session s = plain_session;
-    return reference_unwrap(&s, peer_metadata, METADATA, plain_out, peer_size, plain_tag, plain_back);
-}
+static bool plain_start(void) { return reference_start(&plain_session, peer_key, KEY), true; }
+C_CALLS(plain, reference_wrap, reference_unwrap)
+C_CALLS(by_hand, sse2_wrap, sse2_unwrap)
 
 /* ---- the independent implementation in Rust (rust/bench) */
 
@@ -147,8 +163,13 @@ bool peers_ready(void) {
 }
 
 const peer peers[] = {
-    PEER(library, "proved library", true, library_start),
-    PEER(plain, "plain C, gcc -O3", true, plain_start),
+    PEER(library, LIBRARY, true, library_start),
+    PEER(four, BY_FOUR, true, NULL),
+#ifdef WITH_EARLIER_SESSIONS
+    PEER(before, BEFORE, true, before_start),
+#endif
+    PEER(plain, PLAIN, true, plain_start),
+    PEER(by_hand, BY_HAND, true, NULL),
     PEER(independent, "Rust, independent", true, independent_start),
 #ifdef WITH_LIBSODIUM
     PEER(chacha, "ChaCha20-Poly1305, libsodium", false, NULL),

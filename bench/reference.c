@@ -49,8 +49,7 @@ static inline void add_block(uint32_t acc[12], uint32_t mask[12], const uint8_t 
     roll_in(mask);
 }
 
-/* Takes in a string; `end` is the byte after it, with the frame bits and the padding bit. */
-static void compress(uint32_t acc[12], uint32_t mask[12], const uint8_t *s, size_t n, uint8_t end) {
+void reference_take_in(uint32_t acc[12], uint32_t mask[12], const uint8_t *s, size_t n, uint8_t end) {
     uint8_t last[48] = {0};
     for (; n >= 48; s += 48, n -= 48) add_block(acc, mask, s);
     memcpy(last, s, n);
@@ -59,7 +58,7 @@ static void compress(uint32_t acc[12], uint32_t mask[12], const uint8_t *s, size
     roll_in(mask);
 }
 
-void reference_compress(uint32_t acc[12], uint32_t mask[12], const uint8_t *s, size_t n) { compress(acc, mask, s, n, 1); }
+void reference_compress(uint32_t acc[12], uint32_t mask[12], const uint8_t *s, size_t n) { reference_take_in(acc, mask, s, n, 1); }
 
 void reference_expand(const uint32_t y[12], const uint32_t mask[12], uint8_t *out, size_t n) {
     uint32_t z[12], b[12];
@@ -76,17 +75,22 @@ void reference_expand(const uint32_t y[12], const uint32_t mask[12], uint8_t *ou
     }
 }
 
+void reference_give_out(const uint32_t y[12], const uint32_t mask[12], const uint8_t *in, uint8_t *out, size_t n) {
+    if (out != in) memcpy(out, in, n);
+    reference_expand(y, mask, out, n);
+}
+
 /* The bytes after metadata, message and tag, by the toggle. */
 static uint8_t metadata_end(bool e) { return e ? 6 : 4; }
 static uint8_t message_end(bool e) { return e ? 14 : 10; }
 static uint8_t tag_end(bool e) { return e ? 15 : 11; }
 
-/* Adds the deck function's output for this accumulator and mask to `out`. */
-static void output(const uint32_t acc[12], const uint32_t mask[12], uint8_t *out, size_t n) {
+/* `in` with the deck function's output for this accumulator and mask added to it. */
+static void output(const leaves *by, const uint32_t acc[12], const uint32_t mask[12], const uint8_t *in, uint8_t *out, size_t n) {
     uint32_t y[12];
     memcpy(y, acc, 48);
     permute(y);
-    reference_expand(y, mask, out, n);
+    by->give_out(y, mask, in, out, n);
 }
 
 void reference_start(pevghazo_session *s, const uint8_t *key, size_t n) {
@@ -99,41 +103,39 @@ void reference_start(pevghazo_session *s, const uint8_t *key, size_t n) {
     s->opened = true;
 }
 
-/* The keystream that this tag gives on top of the history, added to `text`. */
-static void crypt(const pevghazo_session *history, const uint8_t tag[32], uint8_t *text, size_t n) {
+/* `in` with the keystream that this tag gives on top of the history added to it. */
+static void crypt(const leaves *by, const pevghazo_session *history, const uint8_t tag[32], const uint8_t *in, uint8_t *out, size_t n) {
     pevghazo_session s = *history;
-    compress(s.acc, s.mask, tag, 32, tag_end(s.toggle));
-    output(s.acc, s.mask, text, n);
+    by->take_in(s.acc, s.mask, tag, 32, tag_end(s.toggle));
+    output(by, s.acc, s.mask, in, out, n);
 }
 
-static void take(pevghazo_session *s, const uint8_t *text, size_t n, uint8_t end) {
-    compress(s->acc, s->mask, text, n, end);
+static void take(const leaves *by, pevghazo_session *s, const uint8_t *text, size_t n, uint8_t end) {
+    by->take_in(s->acc, s->mask, text, n, end);
     s->index += (uint32_t)(n / 48 + 2);
 }
 
-void reference_wrap(pevghazo_session *s, const uint8_t *metadata, size_t a, const uint8_t *message, size_t m, uint8_t *out,
-                    uint8_t tag[32]) {
-    if (a > 0 || m == 0) take(s, metadata, a, metadata_end(s->toggle));
+void reference_wrap_by(const leaves *by, pevghazo_session *s, const uint8_t *metadata, size_t a, const uint8_t *message, size_t m,
+                              uint8_t *out, uint8_t tag[32]) {
+    if (a > 0 || m == 0) take(by, s, metadata, a, metadata_end(s->toggle));
     pevghazo_session history = *s;
-    if (m > 0) take(s, message, m, message_end(s->toggle));
+    if (m > 0) take(by, s, message, m, message_end(s->toggle));
     memset(tag, 0, 32);
-    output(s->acc, s->mask, tag, 32);
-    memcpy(out, message, m);
-    if (m > 0) crypt(&history, tag, out, m);
+    output(by, s->acc, s->mask, tag, tag, 32);
+    if (m > 0) crypt(by, &history, tag, message, out, m);
     s->toggle = !s->toggle;
 }
 
-bool reference_unwrap(pevghazo_session *s, const uint8_t *metadata, size_t a, const uint8_t *cryptogram, size_t m,
-                      const uint8_t tag[32], uint8_t *out) {
+bool reference_unwrap_by(const leaves *by, pevghazo_session *s, const uint8_t *metadata, size_t a, const uint8_t *cryptogram, size_t m,
+                                const uint8_t tag[32], uint8_t *out) {
     pevghazo_session next = *s;
     uint8_t found[32] = {0}, differ = 0;
-    if (a > 0 || m == 0) take(&next, metadata, a, metadata_end(s->toggle));
-    memcpy(out, cryptogram, m);
+    if (a > 0 || m == 0) take(by, &next, metadata, a, metadata_end(s->toggle));
     if (m > 0) {
-        crypt(&next, tag, out, m);
-        take(&next, out, m, message_end(s->toggle));
+        crypt(by, &next, tag, cryptogram, out, m);
+        take(by, &next, out, m, message_end(s->toggle));
     }
-    output(next.acc, next.mask, found, 32);
+    output(by, next.acc, next.mask, found, found, 32);
     for (int i = 0; i < 32; i++) differ |= found[i] ^ tag[i];
     if (differ) {
         memset(out, 0, m);
@@ -142,4 +144,16 @@ bool reference_unwrap(pevghazo_session *s, const uint8_t *metadata, size_t a, co
     next.toggle = !next.toggle;
     *s = next;
     return true;
+}
+
+static const leaves plain = {reference_take_in, reference_give_out};
+
+void reference_wrap(pevghazo_session *s, const uint8_t *metadata, size_t a, const uint8_t *message, size_t m, uint8_t *out,
+                    uint8_t tag[32]) {
+    reference_wrap_by(&plain, s, metadata, a, message, m, out, tag);
+}
+
+bool reference_unwrap(pevghazo_session *s, const uint8_t *metadata, size_t a, const uint8_t *cryptogram, size_t m,
+                      const uint8_t tag[32], uint8_t *out) {
+    return reference_unwrap_by(&plain, s, metadata, a, cryptogram, m, tag, out);
 }
