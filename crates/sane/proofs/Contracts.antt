@@ -230,6 +230,14 @@ envelopePromises four = record { wraps = WrapEnvelopePromise four; unwraps = Unw
 abbrev pub promises : Bool → Promises saneKind
 promises four = bothSorts saneKind (barePromises four) (envelopePromises four)
 
+-- and of calls each of which is made one way or the other
+abbrev pub eitherWay : Promises saneKind
+eitherWay =
+    record {
+      wraps = λ s i r out tag. (four : Bool) × promises four .wraps s i r out tag;
+      unwraps = λ s i r out tag. (four : Bool) × promises four .unwraps s i r out tag;
+    }
+
 -- some reference to these bytes, and some lifetimes, one for each slice that wrap or unwrap is handed
 abbrev to : List ℕ → RefT (List ℕ)
 to x = record { ptr = (0, 0); name = 0; now = x }

@@ -1,8 +1,8 @@
 -- Demands 1 to 3 hold of the program's start, wrap and unwrap of SANE, the last two without an envelope and for one, in lists that mix both, each
 -- known by its own `ensures` alone; what they say, written out; and that what they speak of is there. Assumes nothing.
-use mathlib.Core.Bool.{Bool}
+use mathlib.Core.Bool.{Bool, false}
 use mathlib.Core.List.{List}
-use mathlib.Core.Path.{_≡_, refl}
+use mathlib.Core.Path.{_≡_, refl, sym, _∙_}
 use Prim.Native.Nat.{ℕ}
 use Rattle.deck.specs.declared.DeckState.{DeckState}
 use Rattle.deck.specs.Strings.{Str}
@@ -24,7 +24,7 @@ use Rattle.modes.proofs.SaneDemands.{nonce-start-of, nonce-starts-exist, accept
 use Rattle.sane.specs.declared.SaneSession.{SaneSession}
 use Rattle.sane.specs.declared.SaneResult.{SaneResult}
 use Rattle.sane.specs.Session.{stateOf, nonceResult, callResult, saneKind}
-use Rattle.sane.proofs.Contracts.{StartPromise, promises, start-is, wrap-is, unwrap-is, wrap-envelope-is, unwrap-envelope-is}
+use Rattle.sane.proofs.Contracts.{StartPromise, promises, eitherWay, start-is, wrap-is, unwrap-is, wrap-envelope-is, unwrap-envelope-is}
 
 -- ---- what the demands say of these records, written out
 
@@ -92,6 +92,30 @@ readdressed four = readdressed-of (program four) sane-follows sane-readdressed
 -- demand 3, one claim about the whole list
 pub demand-3 : (four : Bool) → SaneDemand3Of saneKind StartPromise (promises four)
 demand-3 four = sane-demand-3-of start-is (program four)
+
+-- ---- both ways: what they give is the same
+
+-- two calls that are handed the same, each one way or the other, give the same number and count, and leave the same session and buffers
+module _ (f g : Bool) (s : SaneSession) (i : CallInput) (r r′ : SaneResult) (out out′ tag tag′ : List ℕ) where
+  pub same-wrap : promises f .wraps s i r out tag → promises g .wraps s i r′ out′ tag′ → callResult r out tag ≡ callResult r′ out′ tag′
+  same-wrap p q = program f .wraps s i r out tag .0 p ∙ sym (program g .wraps s i r′ out′ tag′ .0 q)
+
+  pub same-unwrap : promises f .unwraps s i r out tag → promises g .unwraps s i r′ out′ tag′ → callResult r out tag ≡ callResult r′ out′ tag′
+  same-unwrap p q = program f .unwraps s i r out tag .0 p ∙ sym (program g .unwraps s i r′ out′ tag′ .0 q)
+
+-- each call one way or the other
+pub mixed : ByRules sane eitherWay
+mixed =
+    record {
+      wraps = λ s i r out tag.
+          (λ p. program (p .0) .wraps s i r out tag .0 (p .1), λ e. (false, program false .wraps s i r out tag .1 e));
+      unwraps = λ s i r out tag.
+          (λ p. program (p .0) .unwraps s i r out tag .0 (p .1), λ e. (false, program false .unwraps s i r out tag .1 e));
+    }
+
+-- demand 3 of lists in which each call is made one way or the other
+pub demand-3-mixed : SaneDemand3Of saneKind StartPromise eitherWay
+demand-3-mixed = sane-demand-3-of start-is mixed
 
 -- ---- what they speak of is there
 
