@@ -1,19 +1,11 @@
 """The functions whose walks are written by these scripts."""
 from lent import Lent, Small, Table
 
-# ---- over a lent record: session, sane_session, sae_session
-
 WRAP = [('metadata', 'bytes'), ('message', 'bytes'), ('out', 'buffer'), ('tag', 'buffer')]
 UNWRAP = [('metadata', 'bytes'), ('cryptogram', 'bytes'), ('tag', 'bytes'), ('out', 'buffer')]
 
-
-# Functions of the same names and `_four`, in crates of their own, have the core take full blocks four side by side; `four` is whether it does. The
-# laws and the specs are those of the functions without.
-
-
-def module(crate, four, kind):
-    """A crate's own specs or proofs, where a function's proof finds them: it stands in that crate, or in the crate of the functions by four."""
-    return f'Rattle.{crate}.{kind}' if four else f'Rattle.{crate}.{kind}'
+# ---- `four`: whether the core takes full blocks four side by side. The functions that have it do so are named `_four`, and stand in crates of their
+# own, over the specs and the laws of the functions without
 
 
 def path(crate, function, four):
@@ -24,6 +16,14 @@ def path(crate, function, four):
 def constant(four):
     """What the core is handed last."""
     return 'true' if four else 'false'
+
+
+def module(crate, elsewhere, kind):
+    """A crate's specs or proofs, as a proof finds them that stands in that crate, or elsewhere."""
+    return f'Rattle.{crate}.{kind}' if elsewhere else f'Rattle.{crate}.{kind}'
+
+
+# ---- over a lent record: session, sane_session, sae_session, and by four session4, sane_session4
 
 
 def session(mode, function, params, core_args, gives, says, uses, four=False):
@@ -107,7 +107,7 @@ use Rattle.session.specs.Lent.{Started}'''),
     *calls('sane', 'sane_session', four=True),
 ]
 
-# ---- over one record of a lent table: office
+# ---- over one record of a lent table: office, and by four office4
 
 IN_TABLE = '(unmet e-no-group has)'                 # check 3 is not met
 NO_GROUP = '(met e-no-group none)'                  # it is
@@ -121,7 +121,8 @@ def office(function, core, params, gives, says, law, uses, constants=(), four=Fa
         path=path('office', function, four), core=f'groups::{core}', record='groups::Record', result='groups::GroupResult', session=('left', 2),
         answer='session::Answer', answer_field=None, answer_parts=[('number', 0), ('count', 1)],
         params=[('table', 'table'), ('g', 'usize'), ('allowance', 'u32')] + params,
-        core_args=['table', 'allowance'] + [one for one, _ in params] + list(constants), gives=gives, says=says, proof=f'({name}-stored {given} ys g {IN_TABLE} r e)',
+        core_args=['table', 'allowance'] + [one for one, _ in params] + list(constants), gives=gives, says=says,
+        proof=f'({name}-stored {given} ys g {IN_TABLE} r e)',
         uses=uses + f'''
 use {module('office', four, 'proofs')}.Laws.{{met, unmet, inside, start-fits, {name}-refused, {name}-stored}}''',
         environment='Rattle.session.proofs.Env',
@@ -161,7 +162,7 @@ use Rattle.office.specs.Table.{noGroup, refused3, openGroupAt, zeroRecor
     *[office_call(*one, four) for four in (False, True) for one in FOR_GROUP],
 ]
 
-# ---- the same for an envelope, whose header is checked with the group: office_envelope
+# ---- the same for an envelope, whose header is checked with the group: office_envelope, and by four office4
 
 
 def office_envelope(rule, params, text, tag, four):
