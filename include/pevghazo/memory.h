@@ -18,7 +18,7 @@ extern "C" {
 
 /* The bytes of stack that pevghazo_wipe_stack overwrites, more than three times what the deepest call on a session uses. Adding a line to a pool
  * uses more, and leaves nothing secret. */
-enum { PEVGHAZO_STACK_BYTES = 10240 };
+enum { PEVGHAZO_STACK_BYTES = 14336 };
 
 /* Sets bytes to zero, also where nobody reads them afterwards. `memory` is not NULL, also where the length is 0. */
 void pevghazo_wipe(void *memory, size_t len);

@@ -9,7 +9,7 @@ use std::sync::atomic::{Ordering, compiler_fence};
 
 /// The bytes of stack that are overwritten. The deepest call takes less than a third of them, as the test below measures; the
 /// rest is for programs that look up the C library's functions at their first use, which takes some 2,500 bytes more.
-const STACK_BYTES: usize = 10_240;
+const STACK_BYTES: usize = 14_336;
 
 /// Writes zeros to the stack below the caller's frame, and to the registers xmm0 to xmm15. Wider ones, which the C library may
 /// have used to copy a message, stay.
