@@ -3,10 +3,11 @@
 /// The fewest bytes that hold four full blocks of 48 bytes each.
 const FOUR_BLOCKS: usize = 4 * 48;
 
-/// Whether a call with this metadata and this message or cryptogram is made by four, where it takes about half the time for long
-/// texts. In shorter ones there are no four blocks side by side, neither of a string that goes into the history nor of keystream,
-/// and the call that takes one block at a time has less to ask. An envelope's header adds 8 to 17 bytes to the metadata, but its
-/// block is taken alone, so that it does not count here.
+/// Whether a call with this metadata and this message or cryptogram is made by four, which takes about half the time for long texts.
+///
+/// In shorter ones there are no four full blocks, neither of a string that goes into the history nor of keystream, and the call that
+/// takes a block at a time is a little faster. An envelope's header adds 8 to 17 bytes to the metadata, but the block that it begins
+/// is taken alone, so that it does not count here.
 pub(crate) fn by_four(metadata: &[u8], text: &[u8]) -> bool {
     metadata.len().max(text.len()) >= FOUR_BLOCKS
 }
