@@ -72,6 +72,8 @@ fn no_secret_is_in_memory_when_a_command_ends() {
     let folder = Folder::pair(5);
     let message = b"the ring numbers 20001 to 20100 and others";
     folder.write("text", message);
+    // This one is sealed and opened by four.
+    folder.write("register", &message.repeat(10));
     folder.write("new-key", b"another quite secret key of group 5");
     folder.done("sane --state sane start --group 5 --key key --counter 1");
     folder.done("sane --state other start --group 5 --key new-key --counter 2");
@@ -89,7 +91,7 @@ fn no_secret_is_in_memory_when_a_command_ends() {
     for (line, state, place) in [
         ("office --state office show", "office", place_at_office(5)),
         ("office --state office day --allowance 1000000", "office", place_at_office(5)),
-        ("office --state office seal --group 5 --message text --out to", "office", place_at_office(5)),
+        ("office --state office seal --group 5 --message register --out to", "office", place_at_office(5)),
         ("group --state group open --in to --out opened", "group", 12),
         ("group --state group reread --out -", "group", 12),
         ("office --state office codes --group 5 --packets 0-99", "office", place_at_office(5)),
@@ -102,7 +104,7 @@ fn no_secret_is_in_memory_when_a_command_ends() {
         ("group --state group start --group 5 --key new-key --replace", "group", 12),
         ("group --state group show --json", "group", 12),
         ("sane --state sane start --group 5 --key new-key --counter 2 --replace", "sane", 12),
-        ("sane --state sane seal --message text --out to-other", "sane", 12),
+        ("sane --state sane seal --message register --out to-other", "sane", 12),
         ("sane --state other open --in to-other --out opened-there", "other", 12),
         ("sane --state other reread --out -", "other", 12),
         ("sane --state other seal --message text --out to-sane", "other", 12),
