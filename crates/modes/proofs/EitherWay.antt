@@ -12,7 +12,8 @@ use Rattle.modes.specs.Mode.{Mode, HistoryRep, incremental, sanse, sane}
 use Rattle.modes.specs.Rules.{Outcome}
 use Rattle.modes.specs.TwoEnds.{Ends, put, outcome, Runs}
 use Rattle.modes.specs.Promises.{Kind, callResult, Promises, Starts, byRules, Records, recordAt, store, sessionsHeld, Run}
-use Rattle.modes.specs.SaneDemands.{NonceStarts}
+use Rattle.modes.specs.Demands.{Demand3Of}
+use Rattle.modes.specs.SaneDemands.{NonceStarts, SaneDemand3Of}
 use Rattle.modes.specs.EitherWay.{byWay, Chosen, EitherDemand3Of, EitherSaneDemand3Of, NobodyCanTell, ChoicesExist, Among}
 use Rattle.modes.proofs.Demands.{ByRules, StartByRules, Kept, rules-by-rules, runs-of, demand-3-of}
 use Rattle.modes.proofs.SaneDemands.{NonceByRules, sane-demand-3-of}
@@ -27,6 +28,10 @@ runs-same m {S} d {q′ = q′} (Runs.more {c} {cs} {p} {o = o} e r) (Runs.more 
     let f : o′ ≡ o = e′ ∙ sym e in
     let z = runs-same m d r (subst (λ (t : Outcome S). Runs m d cs (put (sideOf c) (t .session) p) os′ q′) f r′) in
     (ap₂ (λ (t : Outcome S) (ts : List (Outcome S)). t ∷ ts) (sym f) (z .0), z .1)
+
+-- the first of two lists that are equal
+same-head : {o o′ : Outcome DeckState} {os os′ : List (Outcome DeckState)} → _≡_ {A = List (Outcome DeckState)} (o ∷ os) (o′ ∷ os′) → o ≡ o′
+same-head e = cc
 
 module _ {m : Mode} {k : Kind} {p q : Promises k} (a : ByRules m p) (b : ByRules m q) where
   -- a call by either function
@@ -109,3 +114,45 @@ module _ {k : Kind} (p q : Promises k) where
 
   pub among : Among k p q
   among = record { first = all-first; second = all-second }
+
+-- ---- what the claims are good for: none of them is of one choice alone
+
+-- each choice is of one call
+pub chosen-length : {k : Kind} {p q : Promises k} {ws : List Bool} {cs : List Call} {from to : Records k} {os : List (Outcome DeckState)}
+    → Chosen k p q ws cs from os to → length ws ≡ length cs
+chosen-length Chosen.none = refl
+chosen-length (Chosen.wrapped w c) = ap suc (chosen-length c)
+chosen-length (Chosen.unwrapped w c) = ap suc (chosen-length c)
+
+-- demand 3 of lists with choices is demand 3 of the lists of each function alone
+module _ {k : Kind} {p q : Promises k} where
+  pub either-first : {starts : Starts k} → EitherDemand3Of k starts p q → Demand3Of k starts p
+  either-first d key h g first second a b cs os to r = d key h g first second a b (replicate (length cs) false) cs os to (all-first p q r)
+
+  pub either-second : {starts : Starts k} → EitherDemand3Of k starts p q → Demand3Of k starts q
+  either-second d key h g first second a b cs os to r = d key h g first second a b (replicate (length cs) true) cs os to (all-second p q r)
+
+  pub either-sane-first : {starts : NonceStarts k} → EitherSaneDemand3Of k starts p q → SaneDemand3Of k starts p
+  either-sane-first d key nonce t u first second t′ u′ a b h g cs os to r =
+      d key nonce t u first second t′ u′ a b h g (replicate (length cs) false) cs os to (all-first p q r)
+
+  pub either-sane-second : {starts : NonceStarts k} → EitherSaneDemand3Of k starts p q → SaneDemand3Of k starts q
+  either-sane-second d key nonce t u first second t′ u′ a b h g cs os to r =
+      d key nonce t u first second t′ u′ a b h g (replicate (length cs) true) cs os to (all-second p q r)
+
+  -- where nobody can tell, one call by the one function and the same call by the other give the same: number, count, session and buffers; and so do two
+  -- lists, of which each was made by one function alone
+  module _ (n : NobodyCanTell k p q) where
+    pub same-wrap : (x : Side) (from : Records k) (i : CallInput) {r r′ : k .Result} {out tag out′ tag′ : List ℕ}
+        → p .wraps (recordAt k x from) i r out tag → q .wraps (recordAt k x from) i r′ out′ tag′ → callResult k r out tag ≡ callResult k r′ out′ tag′
+    same-wrap x from i a b =
+        same-head (n (false ∷ []) (true ∷ []) (wrap x i ∷ []) from from _ _ _ _ refl (Chosen.wrapped {four = false} a Chosen.none) (Chosen.wrapped {four = true} b Chosen.none) .0)
+
+    pub same-unwrap : (x : Side) (from : Records k) (i : CallInput) {r r′ : k .Result} {out tag out′ tag′ : List ℕ}
+        → p .unwraps (recordAt k x from) i r out tag → q .unwraps (recordAt k x from) i r′ out′ tag′ → callResult k r out tag ≡ callResult k r′ out′ tag′
+    same-unwrap x from i a b =
+        same-head (n (false ∷ []) (true ∷ []) (unwrap x i ∷ []) from from _ _ _ _ refl (Chosen.unwrapped {four = false} a Chosen.none) (Chosen.unwrapped {four = true} b Chosen.none) .0)
+
+    pub same-lists : {cs : List Call} {from to to′ : Records k} {os os′ : List (Outcome DeckState)} → Run k p cs from os to → Run k q cs from os′ to′
+        → (os ≡ os′) × (sessionsHeld k to ≡ sessionsHeld k to′)
+    same-lists a b = n _ _ _ _ _ _ _ _ _ refl (all-first p q a) (all-second p q b)
