@@ -115,19 +115,24 @@ rest : (e : DeckState) (s : List ℕ) (c at : ℕ) {r : Compressed} → r ≡ co
     → r ≡ compressed e (closedBy (drop at s) c)
 rest e s c at h = h ∙ ap (λ (l : List ℕ). compressed e (closedBy l c)) (take-all (length s - at) (drop at s) (omega (arith, length-drop at s)))
 
--- its blocks
+-- what a string does to index and count, by its length
+pub compressed-index : (d : DeckState) (s : List ℕ) (c : ℕ) {r : Compressed} → r ≡ compressed d (closedBy s c)
+    → r .state .index ≡ d .index + (b (length s) + 1)
+unfolding compressed append
+compressed-index d s c e = ap (λ (r : Compressed). r .state .index) e ∙ ap (λ (n : ℕ). d .index + n) (closed-growth s c)
+
+pub compressed-count : (d : DeckState) (s : List ℕ) (c : ℕ) {r : Compressed} → r ≡ compressed d (closedBy s c) → r .count ≡ b (length s)
+unfolding compressed
+compressed-count d s c e = ap (λ (r : Compressed). r .count) e ∙ closed-blocks s c
+
+-- so of the leftover
 pub rest-count : (e : DeckState) (s : List ℕ) (c at : ℕ) {r : Compressed} → r ≡ compressed e (closedBy (take (length s - at) (drop at s)) c)
     → r .count ≡ b (length s - at)
-unfolding compressed
-rest-count e s c at h = ap (λ (t : Compressed). t .count) (rest e s c at h) ∙ closed-blocks (drop at s) c ∙ ap (λ (n : ℕ). b n) (length-drop at s)
+rest-count e s c at h = compressed-count e (drop at s) c (rest e s c at h) ∙ ap (λ (n : ℕ). b n) (length-drop at s)
 
--- its index, from 0 on
 pub rest-index : (e : DeckState) (s : List ℕ) (c at : ℕ) {r : Compressed} → r ≡ compressed e (closedBy (take (length s - at) (drop at s)) c)
     → r .state .index ≡ e .index + (b (length s - at) + 1)
-unfolding compressed append
-rest-index e s c at h =
-    ap (λ (t : Compressed). t .state .index) (rest e s c at h)
-    ∙ ap (λ (n : ℕ). e .index + n) (closed-growth (drop at s) c ∙ ap (λ (n : ℕ). b n + 1) (length-drop at s))
+rest-index e s c at h = compressed-index e (drop at s) c (rest e s c at h) ∙ ap (λ (n : ℕ). e .index + (b n + 1)) (length-drop at s)
 
 -- it completes the string: e is the state before it, and the leftover was compressed from the index 0 on
 pub rest-compressed : (d e : DeckState) (s : List ℕ) (c at : ℕ) (r : Compressed) → at ≤ length s → at % 192 ≡ 0

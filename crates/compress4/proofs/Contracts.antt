@@ -1,5 +1,6 @@
--- `compress_four` ensures what `xoofff::compress` ensures, word for word, of the same arguments; and what it asks: an index afterwards that fits into 32
--- bits, and so no less than the limit of document 01 allows, whatever the string's length. Assumes nothing.
+-- `compress_four` ensures what `xoofff::compress` ensures, word for word, of the same arguments; and what it asks: that the index afterwards fits into
+-- 32 bits, whatever the string's length. Assumes nothing.
+use mathlib.Core.List.{List}
 use mathlib.Core.Path.{_≡_, refl}
 use Prim.Native.Nat.{ℕ, _+_, _<_, _≤_}
 use native.Mathlib.Omega.{arith}
@@ -18,7 +19,10 @@ use denote.Triple.Clauses.{AtExit}
 use denote.Triple.Entry.{Args, Res}
 use Rattle.deck.specs.declared.DeckState.{DeckState}
 use Rattle.deck.specs.Strings.{b}
+use Rattle.deck.specs.Closing.{closedBy}
+use Rattle.xoofff.specs.Leaves.{compressed}
 use Rattle.xoofff.proofs.compress as compress
+use Rattle.compress4.proofs.Compress.{compressed-index}
 use Rattle.compress4.proofs.compress_four as compress-four
 
 -- in every model of the program logic
@@ -32,6 +36,7 @@ module _ {M : Type 1} (𝓤 : URA M) (H : Heap 𝓤) (A : Atoms 𝓤) (mem : Mem
       ≡ connectives 𝓤 .⌜_⌝ ((0 < a .1 .1 .0) × (a .0 .index + b (length (now (a .1 .0))) + 1 ≤ 4294967295))
   four-asks κs a = refl
 
--- every string and every index for which the index afterwards is within its limit
-pub within-limit : (d : DeckState) (n : ℕ) → d .index + b n + 1 ≤ 1048576 → d .index + b n + 1 ≤ 4294967295
-within-limit d n h = omega arith
+-- so it is for every string and every index for which the index afterwards is within the limit of document 01
+pub within-limit : (d : DeckState) (s : List ℕ) (c : ℕ) → compressed d (closedBy s c) .state .index ≤ 1048576
+    → d .index + b (length s) + 1 ≤ 4294967295
+within-limit d s c h = omega (arith, compressed-index d s c refl)

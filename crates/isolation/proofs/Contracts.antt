@@ -24,6 +24,10 @@ use Rattle.office.proofs.wrap_group as wrap-group
 use Rattle.office.proofs.unwrap_group as unwrap-group
 use Rattle.office_envelope.proofs.wrap_envelope_group as wrap-envelope
 use Rattle.office_envelope.proofs.unwrap_envelope_group as unwrap-envelope
+use Rattle.office4.proofs.wrap_group_four as wrap-four
+use Rattle.office4.proofs.unwrap_group_four as unwrap-four
+use Rattle.office4.proofs.wrap_envelope_group_four as wrap-envelope-four
+use Rattle.office4.proofs.unwrap_envelope_group_four as unwrap-envelope-four
 use Rattle.isolation.specs.Calls.{Opened, Wrapped, Unwrapped, DayStarted}
 use Rattle.isolation.specs.Isolation.{EitherSort}
 
@@ -67,6 +71,40 @@ module _ {M : Type 1} (𝓤 : URA M) (H : Heap 𝓤) (A : Atoms 𝓤) (mem : Mem
       (handedFor (now (a .1 .1 .1 .0)) (now (a .1 .1 .1 .1 .0)) (now (a .1 .1 .1 .1 .1 .0)) (now (a .1 .1 .1 .1 .1 .1 .1 .0)) (now (a .1 .1 .1 .1 .1 .1 .0)))
       r (now (z .0)) (now (z .1 .1 .1 .1 .1 .1 .1 .0)) (now (a .1 .1 .1 .1 .1 .1 .0)))
   unwrap-envelope-promises κs a r z = refl
+
+  -- with full blocks taken four side by side
+  pub wrap-four-promises : (κs : Lfts 5) (a : Args wrap-four.signature κs) (r : Res wrap-four.signature κs) (z : AtExit wrap-four.ended κs)
+      → wrap-four.clauses 𝓤 H A mem run κs a .ensures tt r z
+      ≡ connectives 𝓤 .⌜_⌝
+      (Wrapped (a .1 .1 .0) (now (a .0)) (a .1 .0)
+      (handed (now (a .1 .1 .1 .0)) (now (a .1 .1 .1 .1 .0)) (now (a .1 .1 .1 .1 .1 .0)) (now (a .1 .1 .1 .1 .1 .1 .0)))
+      r (now (z .0)) (now (z .1 .1 .1 .1 .1 .0)) (now (z .1 .1 .1 .1 .1 .1 .0)))
+  wrap-four-promises κs a r z = refl
+
+  pub unwrap-four-promises : (κs : Lfts 5) (a : Args unwrap-four.signature κs) (r : Res unwrap-four.signature κs) (z : AtExit unwrap-four.ended κs)
+      → unwrap-four.clauses 𝓤 H A mem run κs a .ensures tt r z
+      ≡ connectives 𝓤 .⌜_⌝
+      (Unwrapped (a .1 .1 .0) (now (a .0)) (a .1 .0)
+      (handed (now (a .1 .1 .1 .0)) (now (a .1 .1 .1 .1 .0)) (now (a .1 .1 .1 .1 .1 .1 .0)) (now (a .1 .1 .1 .1 .1 .0)))
+      r (now (z .0)) (now (z .1 .1 .1 .1 .1 .1 .0)) (now (a .1 .1 .1 .1 .1 .0)))
+  unwrap-four-promises κs a r z = refl
+
+  pub wrap-envelope-four-promises : (κs : Lfts 6) (a : Args wrap-envelope-four.signature κs) (r : Res wrap-envelope-four.signature κs) (z : AtExit wrap-envelope-four.ended κs)
+      → wrap-envelope-four.clauses 𝓤 H A mem run κs a .ensures tt r z
+      ≡ connectives 𝓤 .⌜_⌝
+      (Wrapped (a .1 .1 .0) (now (a .0)) (a .1 .0)
+      (handedFor (now (a .1 .1 .1 .0)) (now (a .1 .1 .1 .1 .0)) (now (a .1 .1 .1 .1 .1 .0)) (now (a .1 .1 .1 .1 .1 .1 .0)) (now (a .1 .1 .1 .1 .1 .1 .1 .0)))
+      r (now (z .0)) (now (z .1 .1 .1 .1 .1 .1 .0)) (now (z .1 .1 .1 .1 .1 .1 .1 .0)))
+  wrap-envelope-four-promises κs a r z = refl
+
+  pub unwrap-envelope-four-promises : (κs : Lfts 6) (a : Args unwrap-envelope-four.signature κs) (r : Res unwrap-envelope-four.signature κs)
+      (z : AtExit unwrap-envelope-four.ended κs)
+      → unwrap-envelope-four.clauses 𝓤 H A mem run κs a .ensures tt r z
+      ≡ connectives 𝓤 .⌜_⌝
+      (Unwrapped (a .1 .1 .0) (now (a .0)) (a .1 .0)
+      (handedFor (now (a .1 .1 .1 .0)) (now (a .1 .1 .1 .1 .0)) (now (a .1 .1 .1 .1 .1 .0)) (now (a .1 .1 .1 .1 .1 .1 .1 .0)) (now (a .1 .1 .1 .1 .1 .1 .0)))
+      r (now (z .0)) (now (z .1 .1 .1 .1 .1 .1 .1 .0)) (now (a .1 .1 .1 .1 .1 .1 .0)))
+  unwrap-envelope-four-promises κs a r z = refl
 
   pub start-day-promises : (κs : Lfts 1) (a : Args start-day.signature κs) (r : Res start-day.signature κs) (z : AtExit start-day.ended κs)
       → start-day.clauses 𝓤 H A mem run κs a .ensures tt r z ≡ connectives 𝓤 .⌜_⌝ (DayStarted (a .1 .0) (now (a .0)) r (now (z .0)))

@@ -4,3 +4,4 @@ pub mod Alone
 pub mod Exist
 pub mod Own
 pub mod Isolation
+pub mod Decided

@@ -13,7 +13,7 @@ use Rattle.groups.specs.declared.Record.{Record}
 use Rattle.office.specs.Table.{tableOf, dayResult, tableResult, openingResult, startDayAt, openGroupAt, wrapGroupAt, unwrapGroupAt}
 
 -- ---- what the table's functions promise: their `ensures`, which are these equations with the rules and nothing else (`proofs/Contracts.antt`). The
--- functions that take full blocks four side by side promise the same (`proofs/Contracts.antt` of `office4`), so that each call of a list may be of either
+-- functions that take full blocks four side by side promise the same, so that each call of a list may be of either
 
 -- opening a group, of the records `from`, answered r and left the records `to`
 abbrev pub Opened : (allowance : ℕ) (from : List Record) (group : ℕ) (key : List ℕ) → Answer → (to : List Record) → Type 0

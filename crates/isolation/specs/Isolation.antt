@@ -47,6 +47,14 @@ AsAlone =
     → Run allowance cs l gs l′ → Run allowance (callsFor g cs) l hs m′
     → (givenTo g cs gs ≡ hs) × (recordAt l′ g ≡ recordAt m′ g)
 
+-- the same calls from the same table give the same, and leave the same records. A call of a list is known by the promise of its function alone, and
+-- the functions that take full blocks four side by side have that promise too (`proofs/Contracts.antt`): so nobody can tell which way each call of the one
+-- list or of the other was made (document 02, request 10)
+abbrev pub NobodyCanTell : Type 0
+NobodyCanTell =
+    (allowance : ℕ) (cs : List GroupCall) (from to to′ : List Record) (gs gs′ : List Given) → Run allowance cs from gs to → Run allowance cs from gs′ to′
+    → (gs ≡ gs′) × (to ≡ to′)
+
 -- ---- the other side: what the claims speak of is there, and is what it is called
 
 -- a wrap or an unwrap is handed what the function without an envelope is handed, or what the one for an envelope is; so each of a list is known by

@@ -74,16 +74,6 @@ compressed-front d p s c h =
         let e : d .index + 1 + indexGrowth S ≡ d .index + indexGrowth S + 1 = omega arith in
         λ t. record { acc = append a S .acc; mask = append a S .mask; index = e t }
 
--- what a string does to index and count, by its length
-pub compressed-index : (d : DeckState) (s : List ℕ) (c : ℕ) {r : Compressed} → r ≡ compressed d (closedBy s c)
-    → r .state .index ≡ d .index + (b (length s) + 1)
-unfolding compressed append
-compressed-index d s c e = ap (λ (r : Compressed). r .state .index) e ∙ ap (λ (n : ℕ). d .index + n) (closed-growth s c)
-
-pub compressed-count : (d : DeckState) (s : List ℕ) (c : ℕ) {r : Compressed} → r ≡ compressed d (closedBy s c) → r .count ≡ b (length s)
-unfolding compressed
-compressed-count d s c e = ap (λ (r : Compressed). r .count) e ∙ closed-blocks s c
-
 -- fewer bytes than a block, of which there are n: what was assembled is the joined bytes
 pub all-assembled : (h s x : List ℕ) (n : ℕ) → n ≡ length h + length s → take n x ≡ take n (h ++ s) → take n x ≡ h ++ s
 all-assembled h s x n e a = a ∙ take-all n (h ++ s) (omega (arith, length-append h s))

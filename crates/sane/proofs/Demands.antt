@@ -127,6 +127,11 @@ run-exists four = runs-exist (kept whole (program four))
 pub demand-3-either : EitherSaneDemand3Of saneKind StartPromise (promises false) (promises true)
 demand-3-either = either-sane-demand-3 start-is (program false) (program true)
 
+-- a record is the session that it holds, and nothing more
+pub same-record : (s t : SaneSession) → stateOf s ≡ stateOf t → s ≡ t
+same-record s t e =
+    λ j. record { acc = e j .history .acc; mask = e j .history .mask; index = e j .history .index; toggle = e j .toggle; opened = e j .opened }
+
 -- nobody can tell
 pub nobody-tells : NobodyCanTell saneKind (promises false) (promises true)
 nobody-tells = nobody-can-tell (program false) (program true)

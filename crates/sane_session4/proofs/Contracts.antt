@@ -10,7 +10,11 @@ use ghost.Atoms.{Atoms}
 use contract.Lifetimes.{Lfts}
 use contract.Monad.{Fun}
 use contract.Notation.{connectives}
-use denote.Triple.Entry.{Args}
+use denote.Ref.{now}
+use denote.Triple.Clauses.{AtExit}
+use denote.Triple.Entry.{Args, Res}
+use Rattle.sane.specs.Session.{handed, handedFor}
+use Rattle.sane_session.specs.Lent.{resultOf, lentPromises}
 use Rattle.sane_session4.proofs.wrap_four as wrap-four
 use Rattle.sane_session4.proofs.unwrap_four as unwrap-four
 use Rattle.sane_session4.proofs.wrap_envelope_four as wrap-envelope-four
@@ -45,3 +49,32 @@ module _ {M : Type 1} (𝓤 : URA M) (H : Heap 𝓤) (A : Atoms 𝓤) (mem : Mem
 
   pub unwrap-envelope-same : unwrap-envelope-four.clauses 𝓤 H A mem run ≡ unwrap-envelope.clauses 𝓤 H A mem run
   unwrap-envelope-same = refl
+
+  -- so each promise is the one of which the demands are proved
+  pub wrap-four-promises : (κs : Lfts 5) (a : Args wrap-four.signature κs) (r : Res wrap-four.signature κs) (z : AtExit wrap-four.ended κs)
+      → wrap-four.clauses 𝓤 H A mem run κs a .ensures tt r z
+      ≡ connectives 𝓤 .⌜_⌝
+      (lentPromises .wraps (now (a .0)) (handed (now (a .1 .0)) (now (a .1 .1 .0)) (now (a .1 .1 .1 .0)) (now (a .1 .1 .1 .1 .0)))
+      (resultOf r (now (z .0))) (now (z .1 .1 .1 .0)) (now (z .1 .1 .1 .1 .0)))
+  wrap-four-promises κs a r z = refl
+
+  pub unwrap-four-promises : (κs : Lfts 5) (a : Args unwrap-four.signature κs) (r : Res unwrap-four.signature κs) (z : AtExit unwrap-four.ended κs)
+      → unwrap-four.clauses 𝓤 H A mem run κs a .ensures tt r z
+      ≡ connectives 𝓤 .⌜_⌝
+      (lentPromises .unwraps (now (a .0)) (handed (now (a .1 .0)) (now (a .1 .1 .0)) (now (a .1 .1 .1 .1 .0)) (now (a .1 .1 .1 .0)))
+      (resultOf r (now (z .0))) (now (z .1 .1 .1 .1 .0)) (now (a .1 .1 .1 .0)))
+  unwrap-four-promises κs a r z = refl
+
+  pub wrap-envelope-four-promises : (κs : Lfts 6) (a : Args wrap-envelope-four.signature κs) (r : Res wrap-envelope-four.signature κs) (z : AtExit wrap-envelope-four.ended κs)
+      → wrap-envelope-four.clauses 𝓤 H A mem run κs a .ensures tt r z
+      ≡ connectives 𝓤 .⌜_⌝
+      (lentPromises .wraps (now (a .0)) (handedFor (now (a .1 .0)) (now (a .1 .1 .0)) (now (a .1 .1 .1 .0)) (now (a .1 .1 .1 .1 .0)) (now (a .1 .1 .1 .1 .1 .0)))
+      (resultOf r (now (z .0))) (now (z .1 .1 .1 .1 .0)) (now (z .1 .1 .1 .1 .1 .0)))
+  wrap-envelope-four-promises κs a r z = refl
+
+  pub unwrap-envelope-four-promises : (κs : Lfts 6) (a : Args unwrap-envelope-four.signature κs) (r : Res unwrap-envelope-four.signature κs) (z : AtExit unwrap-envelope-four.ended κs)
+      → unwrap-envelope-four.clauses 𝓤 H A mem run κs a .ensures tt r z
+      ≡ connectives 𝓤 .⌜_⌝
+      (lentPromises .unwraps (now (a .0)) (handedFor (now (a .1 .0)) (now (a .1 .1 .0)) (now (a .1 .1 .1 .0)) (now (a .1 .1 .1 .1 .1 .0)) (now (a .1 .1 .1 .1 .0)))
+      (resultOf r (now (z .0))) (now (z .1 .1 .1 .1 .1 .0)) (now (a .1 .1 .1 .1 .0)))
+  unwrap-envelope-four-promises κs a r z = refl

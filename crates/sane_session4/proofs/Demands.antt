@@ -1,4 +1,4 @@
--- Demand 3 of lists in which each call is made by either of the SANE's functions over a lent record, by one block or by four side by side; and nobody can tell.
+-- Demand 3 of lists in which each call is made by either of SANE's functions over a lent record, by one block or by four side by side; and nobody can tell.
 -- Both functions have one and the same promise (`wrap-same` and its neighbours of `proofs/Contracts.antt`). Assumes nothing.
 use Rattle.modes.specs.Mode.{sane}
 use Rattle.modes.specs.EitherWay.{EitherSaneDemand3Of, NobodyCanTell, ChoicesExist, Among}

@@ -47,7 +47,7 @@ pub fn beside(a: [u32; 12], b: [u32; 12], c: [u32; 12], d: [u32; 12]) -> [u32; 4
 fn round_four(w: [u32; 48], c: u32) -> [u32; 48]
     ensures { λ r. ⌜ r ≡ each (round c) w ⌝ }
 {
-    let mut r = [0u32; 48];
+    let mut r = w;
     let mut j: usize = 0;
     while j < 4 {
         put(&mut r, j, xoodoo::round_step(part(&w, j), c));

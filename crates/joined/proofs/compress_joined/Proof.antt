@@ -8,7 +8,8 @@ use denote.Ref.{now}
 use borrow.Author.Needs.{needs}
 use Rattle.deck.specs.Closing.{closedBy}
 use Rattle.xoofff.specs.Leaves.{compressed}
-use Rattle.joined.proofs.Joined.{all-assembled, first-added, compressed-index, compressed-count}
+use Rattle.compress4.proofs.Compress.{compressed-index, compressed-count}
+use Rattle.joined.proofs.Joined.{all-assembled, first-added}
 use Rattle.joined.proofs.compress_joined.Statement.{statement}
 use Rattle.joined.proofs.compress_joined.Tie as tie
 
