@@ -3,7 +3,7 @@
 use mathlib.Core.Bool.{Bool, false, true}
 use mathlib.Core.List.{List, [], _∷_}
 use mathlib.Core.Path.{_≡_, refl, sym, ap, ap₂, _∙_, subst}
-use Prim.Native.Nat.{ℕ, zero, suc}
+use Prim.Native.Nat.{ℕ, suc, _≤_}
 use native.Mathlib.Omega.{arith}
 use lib.ListN.{length, replicate}
 use Rattle.deck.specs.declared.DeckState.{DeckState}
@@ -11,9 +11,10 @@ use Rattle.modes.specs.Call.{CallInput, Side, Call, wrap, unwrap, sideOf
 use Rattle.modes.specs.Mode.{Mode, HistoryRep, incremental, sanse, sane}
 use Rattle.modes.specs.Rules.{Outcome}
 use Rattle.modes.specs.TwoEnds.{Ends, put, outcome, Runs}
-use Rattle.modes.specs.Promises.{Kind, callResult, Promises, Starts, byRules, Records, recordAt, store, sessionsHeld, Run}
+use Rattle.modes.specs.Demand3.{Demand3}
+use Rattle.modes.specs.Promises.{Kind, startResult, callResult, Promises, Starts, byRules, Records, recordAt, store, sessionsHeld, Run}
 use Rattle.modes.specs.Demands.{Demand3Of}
-use Rattle.modes.specs.SaneDemands.{NonceStarts, SaneDemand3Of}
+use Rattle.modes.specs.SaneDemands.{SaneDemand3, nonceResult, NonceStarts, SaneDemand3Of}
 use Rattle.modes.specs.EitherWay.{byWay, Chosen, EitherDemand3Of, EitherSaneDemand3Of, NobodyCanTell, ChoicesExist, Among}
 use Rattle.modes.proofs.Demands.{ByRules, StartByRules, Kept, rules-by-rules, runs-of, demand-3-of}
 use Rattle.modes.proofs.SaneDemands.{NonceByRules, sane-demand-3-of}
@@ -156,3 +157,28 @@ module _ {k : Kind} {p q : Promises k} where
     pub same-lists : {cs : List Call} {from to to′ : Records k} {os os′ : List (Outcome DeckState)} → Run k p cs from os to → Run k q cs from os′ to′
         → (os ≡ os′) × (sessionsHeld k to ≡ sessionsHeld k to′)
     same-lists a b = n _ _ _ _ _ _ _ _ _ refl (all-first p q a) (all-second p q b)
+
+-- ---- what the claims say, written out: of every list of choices
+module _ (k : Kind) (p q : Promises k) where
+  pub either-says : (starts : Starts k)
+      → EitherDemand3Of k starts p q
+      ≡ ((key : List ℕ) → 16 ≤ length key → length key ≤ 47 → (first second : k .Result) → starts key first → starts key second
+      → (ws : List Bool) (cs : List Call) (os : List (Outcome DeckState)) (to : Records k)
+      → Chosen k p q ws cs (record { office = k .left first; group = k .left second }) os to
+      → Demand3 key cs (startResult k first) (startResult k second) os (sessionsHeld k to))
+  either-says starts = refl
+
+  pub either-sane-says : (starts : NonceStarts k)
+      → EitherSaneDemand3Of k starts p q
+      ≡ ((key nonce t u : List ℕ) (first second : k .Result) (t′ u′ : List ℕ) → starts key nonce t first t′ → starts key nonce u second u′
+      → k .number first ≡ 0 → k .number second ≡ 0
+      → (ws : List Bool) (cs : List Call) (os : List (Outcome DeckState)) (to : Records k)
+      → Chosen k p q ws cs (record { office = k .left first; group = k .left second }) os to
+      → SaneDemand3 key nonce cs (nonceResult k first t′) (nonceResult k second u′) os (sessionsHeld k to))
+  either-sane-says starts = refl
+
+  pub nobody-says : NobodyCanTell k p q
+      ≡ ((ws ws′ : List Bool) (cs : List Call) (from from′ to to′ : Records k) (os os′ : List (Outcome DeckState))
+      → sessionsHeld k from ≡ sessionsHeld k from′ → Chosen k p q ws cs from os to → Chosen k p q ws′ cs from′ os′ to′
+      → (os ≡ os′) × (sessionsHeld k to ≡ sessionsHeld k to′))
+  nobody-says = refl

@@ -108,7 +108,10 @@ pub fn append_text(d: DeckState, text: &[u8], closing: u8, four: bool) -> Compre
     if text.len() == 0 {
         return Compressed { state: d, count: 0 };
     }
-    compress4::compress_by(d, text, closing, four)
+    if four {
+        return compress4::compress_four(d, text, closing);
+    }
+    xoofff::compress(d, text, closing)
 }
 
 // ---- tag and keystream

@@ -11,8 +11,13 @@ returns c = let a = c .before .before .args in skipped-text (a .d) (now (a .text
 
 returns-2 : tie.Need-returns-2
 returns-2 c =
-    let a = c .before .before .before .args in
-    appended-text (a .d) (c .compress-by .result) (now (a .text)) (closedBy (now (a .text)) (a .closing)) (c .before .if1 .left) (c .compress-by .ensures)
+    let a = c .before .before .before .before .args in
+    appended-text (a .d) (c .compress-four .result) (now (a .text)) (closedBy (now (a .text)) (a .closing)) (c .before .before .if1 .left) (c .compress-four .ensures)
+
+returns-3 : tie.Need-returns-3
+returns-3 c =
+    let a = c .before .before .before .before .args in
+    appended-text (a .d) (c .compress .result) (now (a .text)) (closedBy (now (a .text)) (a .closing)) (c .before .before .if1 .left) (c .compress .ensures)
 
 pub append-text-spec : {M : Type 1} → statement M
-append-text-spec = tie.close (tie.spec returns (λ c κs. search needs) returns-2)
+append-text-spec = tie.close (tie.spec returns (λ c κs. search needs) returns-2 (λ c κs. search needs) returns-3)
