@@ -1,20 +1,25 @@
 -- Four states side by side: what is put in is what is taken out, and steps done to each of the four follow one another. Assumes nothing.
 use mathlib.Core.Logic.{_↔_}
-use mathlib.Core.Path.{_≡_, refl, sym, ap, ap₂, _∙_}
+use mathlib.Core.Path.{_≡_, refl, sym, ap, ap₂, _∙_, subst}
+use mathlib.Core.Bool.{Bool, true, false}
 use mathlib.Core.List.{List, []}
 use Prim.Native.Nat.{ℕ, zero, suc, _+_, _*_, _/_, _%_, _≤_, _<_}
 use native.Mathlib.Decide.{decLe}
+use native.Mathlib.Nat.{mul-comm, mul-le-mul-left}
 use native.Mathlib.Numerals.{add-one}
 use native.Mathlib.Omega.{arith}
 use lib.Dec.{lit<}
 use lib.ListN.{length, getD, set, drop, length-set}
+use lib.Bits.{bitXor}
 use lib.Seq.{getD-set-same, getD-set-other}
-use Rattle.word.proofs.Lists.{tabulate-length, tabulate-at, tabulate-ext, tabulate-is}
+use Rattle.word.specs.Lists.{sum}
+use Rattle.word.proofs.Lists.{tabulate-length, tabulate-at, tabulate-ext, tabulate-is, sum-at, sum-length, Filled, filled-more}
 use Rattle.xoodoo.specs.Xoodoo.{round, rounds, perm}
 use Rattle.xoodoo.proofs.Facts.{perm-length}
 use Rattle.state.proofs.Lanes.{lanes-length}
+use Rattle.state.proofs.Bytes.{sum-filled}
 use Rattle.xoodoo.proofs.Steps.{rounds-more}
-use Rattle.xoodoo4.specs.Four.{part, put, beside, four, each}
+use Rattle.xoodoo4.specs.Four.{part, put, beside, each, laid, into}
 
 -- ---- one more lane of state j is stored
 
@@ -128,37 +133,6 @@ is-each F w r h e = is-beside (λ j. F (part j w)) r h e
 kept : (j k : ℕ) (s w : List ℕ) {v : List ℕ} → v ≡ put 12 j s w → j < 4 → k < 4 → (k ≡ j → ⊥) → part k v ≡ part k w
 kept j k s w e hj hk ne = ap (part k) e ∙ put-other j k s w hj hk ne
 
--- four states put in one after another
-pub four-put : (a b c d w : List ℕ) {t u v x : List ℕ} → length w ≡ 48 → length a ≡ 12 → length b ≡ 12 → length c ≡ 12 → length d ≡ 12
-    → t ≡ put 12 0 a w → u ≡ put 12 1 b t → v ≡ put 12 2 c u → x ≡ put 12 3 d v → x ≡ beside (four a b c d)
-four-put a b c d w {t} {u} {v} {x} hw ha hb hc hd et eu ev ex = is-beside (four a b c d) x hx at
-  where
-    ht : length t ≡ 48
-    ht = ap length et ∙ put-all 0 a w hw
-
-    hu : length u ≡ 48
-    hu = ap length eu ∙ put-all 1 b t ht
-
-    hv : length v ≡ 48
-    hv = ap length ev ∙ put-all 2 c u hu
-
-    hx : length x ≡ 48
-    hx = ap length ex ∙ put-all 3 d v hv
-
-    at : (j : ℕ) → j < 4 → part j x ≡ four a b c d j
-    at zero h =
-        kept 3 0 d v ex (lit< tt) (lit< tt) (λ q. omega (arith, q))
-        ∙ kept 2 0 c u ev (lit< tt) (lit< tt) (λ q. omega (arith, q))
-        ∙ kept 1 0 b t eu (lit< tt) (lit< tt) (λ q. omega (arith, q))
-        ∙ ap (part 0) et ∙ put-same 0 a w (lit< tt) ha hw
-    at (suc zero) h =
-        kept 3 1 d v ex (lit< tt) (lit< tt) (λ q. omega (arith, q))
-        ∙ kept 2 1 c u ev (lit< tt) (lit< tt) (λ q. omega (arith, q))
-        ∙ ap (part 1) eu ∙ put-same 1 b t (lit< tt) hb ht
-    at (suc (suc zero)) h = kept 3 2 d v ex (lit< tt) (lit< tt) (λ q. omega (arith, q)) ∙ ap (part 2) ev ∙ put-same 2 c u (lit< tt) hc hu
-    at (suc (suc (suc zero))) h = ap (part 3) ex ∙ put-same 3 d v (lit< tt) hd hv
-    at (suc (suc (suc (suc j)))) h = absurd (omega arith)
-
 -- the first j states of r are F of w's
 pub record Done (F : List ℕ → List ℕ) (w : List ℕ) (j : ℕ) (r : List ℕ) : Type 0 where
   pub size : length r ≡ 48
@@ -200,6 +174,101 @@ rounds-each cs i w t h e =
     ap (λ (v : List ℕ). rounds (drop (i + 1) cs) (part j v)) e
     ∙ ap (rounds (drop (i + 1) cs)) (each-part (round (getD cs i 0)) (round-length (getD cs i 0)) j w l)
     ∙ rounds-more cs i (part j w) (round (getD cs i 0) (part j w)) h refl)
+
+-- ---- four states that are laid out
+
+-- how far into a run a place may be
+pub step-most : (d i m : ℕ) → i ≤ m → d * i ≤ m * d
+step-most d i m h = subst (λ (n : ℕ). d * i ≤ n) (mul-comm d m) (mul-le-mul-left d h)
+
+pub laid-length : (n dx dy : ℕ) (a : List ℕ) (j : ℕ) → length (laid n dx dy a j) ≡ 12
+unfolding laid
+laid-length n dx dy a j = tabulate-length 12 _
+
+pub laid-at : (n dx dy : ℕ) (a : List ℕ) (j i : ℕ) → i < 12 → getD (laid n dx dy a j) i 0 ≡ getD a (n + dx * (i % 4) + dy * (i / 4) + j) 0
+unfolding laid
+laid-at n dx dy a j i h = tabulate-at 12 _ i h
+
+-- the lanes of the four, one after another
+abbrev pub laidLane : (n dx dy : ℕ) → List ℕ → ℕ → ℕ
+laidLane n dx dy a q = getD a (n + dx * (q / 4 % 4) + dy * (q / 4 / 4) + q % 4) 0
+
+pub laid-lane : (n dx dy : ℕ) (a : List ℕ) (i q m : ℕ) → q < 4 → m ≡ n + dx * (i % 4) + dy * (i / 4) + q → getD a m 0 ≡ laidLane n dx dy a (4 * i + q)
+laid-lane n dx dy a i q m h e =
+    let d : i ≡ (4 * i + q) / 4 = omega arith in
+    let r : q ≡ (4 * i + q) % 4 = omega arith in
+    ap (λ (k : ℕ). getD a k 0) e ∙ ap₂ (λ (u v : ℕ). getD a (n + dx * (u % 4) + dy * (u / 4) + v) 0) d r
+
+-- read one after another
+pub laid-beside : (n dx dy : ℕ) (a w : List ℕ) → length w ≡ 48 → Filled (laidLane n dx dy a) w 48 → w ≡ beside (laid n dx dy a)
+unfolding beside
+laid-beside n dx dy a w h f = tabulate-is 48 _ w h (λ q l. f q l ∙ sym (laid-at n dx dy a (q % 4) (q / 4) (omega arith)))
+
+-- 48 lanes side by side are laid out with the steps 4 and 16
+pub laid-part : (w : List ℕ) (j : ℕ) → laid 0 4 16 w j ≡ part j w
+unfolding laid part
+laid-part w j =
+    tabulate-ext 12 _ _
+    (λ i h. let e : 0 + 4 * (i % 4) + 16 * (i / 4) + j ≡ 4 * i + j = omega arith in ap (λ (m : ℕ). getD w m 0) e)
+
+-- a step done to four states that were put side by side, all at once
+pub each-of : (F : List ℕ → List ℕ) (f : ℕ → List ℕ) → ((j : ℕ) → length (f j) ≡ 12) → each F (beside f) ≡ beside (λ j. F (f j))
+unfolding each beside
+each-of F f h = tabulate-ext 48 _ _ (λ n l. ap (λ (s : List ℕ). getD (F s) (n / 4) 0) (beside-part f (n % 4) (omega arith) (h (n % 4))))
+
+-- the permutation of four states that were read one after another
+pub laid-permuted : (n dx dy : ℕ) (a t : List ℕ) {s : List ℕ} → length t ≡ 48 → Filled (laidLane n dx dy a) t 48 → s ≡ each perm t
+    → s ≡ beside (λ j. perm (laid n dx dy a j))
+laid-permuted n dx dy a t h f e = e ∙ ap (each perm) (laid-beside n dx dy a t h f) ∙ each-of perm (laid n dx dy a) (laid-length n dx dy a)
+
+-- added, or put in the place of what was there
+pub into-sum : {b : Bool} (w v : List ℕ) {s : List ℕ} → b ≡ true → s ≡ sum w v → s ≡ into b w v
+into-sum w v e h = h ∙ ap (λ (b : Bool). into b w v) (sym e)
+
+pub into-place : {b : Bool} (w v : List ℕ) {s : List ℕ} → b ≡ false → s ≡ v → s ≡ into b w v
+into-place w v e h = h ∙ ap (λ (b : Bool). into b w v) (sym e)
+
+-- four other states, the same ones
+pub beside-ext : (f g : ℕ → List ℕ) → ((j : ℕ) → j < 4 → f j ≡ g j) → beside f ≡ beside g
+unfolding beside
+beside-ext f g e = tabulate-ext 48 _ _ (λ n l. ap (λ (s : List ℕ). getD s (n / 4) 0) (e (n % 4) (omega arith)))
+
+pub beside-length : (f : ℕ → List ℕ) → length (beside f) ≡ 48
+unfolding beside
+beside-length f = tabulate-length 48 _
+
+-- a sum's states are the sums of the states
+pub part-sum : (j : ℕ) (v w : List ℕ) → j < 4 → length v ≡ 48 → length w ≡ 48 → part j (sum v w) ≡ sum (part j v) (part j w)
+part-sum j v w hj hv hw =
+    let n : length (part j v) ≡ 12 = part-length j v in
+    let m : length (part j w) ≡ 12 = part-length j w in
+    sym (is-part j (sum (part j v) (part j w)) (sum v w) (sum-length (part j v) (part j w) (omega arith) ∙ n)
+    (λ i h.
+    sum-at (part j v) (part j w) i (omega arith) (omega arith)
+    ∙ ap₂ bitXor (part-at j v i h) (part-at j w i h)
+    ∙ sym (sum-at v w (4 * i + j) (omega arith) (omega arith))))
+
+-- ---- lanes added one after another: those below k have their sums, and the others stand as they did
+pub record Summed (o s : List ℕ) (k : ℕ) (w : List ℕ) : Type 0 where
+  pub size : length w ≡ 48
+  pub sums : Filled (λ q. bitXor (getD o q 0) (getD s q 0)) w k
+  pub rest : (q : ℕ) → k ≤ q → getD w q 0 ≡ getD o q 0
+
+pub summed-none : (o s : List ℕ) → length o ≡ 48 → Summed o s 0 o
+summed-none o s h = record { size = h; sums = λ q l. absurd (omega arith); rest = λ q l. refl }
+
+pub summed-more : (o s : List ℕ) (k : ℕ) (w : List ℕ) → k < 48 → Summed o s k w → Summed o s (k + 1) (set w k (bitXor (getD w k 0) (getD s k 0)))
+summed-more o s k w h d =
+    let n : length w ≡ 48 = d .size in
+    record {
+      size = length-set w k _ ∙ d .size;
+      sums = filled-more (λ q. bitXor (getD o q 0) (getD s q 0)) w k _ (omega arith) (ap (λ (x : ℕ). bitXor x (getD s k 0)) (d .rest k (omega arith))) (d .sums);
+      rest = λ q l. getD-set-other w k q _ 0 (λ e. omega (arith, e)) ∙ d .rest q (omega arith);
+    }
+
+pub summed-all : (o s : List ℕ) (k : ℕ) (w : List ℕ) → k ≡ 48 → length o ≡ 48 → length s ≡ 48 → Summed o s k w → w ≡ sum o s
+summed-all o s k w e ho hs d =
+    sum-filled (λ q. getD s q 0) 48 o w ho (d .size) (λ q l. d .sums q (omega arith)) ∙ ap (sum o) (sym (tabulate-is 48 (λ q. getD s q 0) s hs (λ q l. refl)))
 
 -- ---- four permutations side by side
 

@@ -1,8 +1,9 @@
 -- Four states side by side in 48 lanes: lane i of state j stands at place 4 i + j. Assumes nothing.
+use mathlib.Core.Bool.{Bool, true, false}
 use mathlib.Core.List.{List}
 use Prim.Native.Nat.{ℕ, zero, suc, _+_, _*_, _/_, _%_}
 use lib.ListN.{getD, set}
-use Rattle.word.specs.Lists.{tabulate}
+use Rattle.word.specs.Lists.{tabulate, sum}
 
 -- state j of the four
 unfoldable pub part : ℕ → List ℕ → List ℕ
@@ -17,13 +18,15 @@ put (suc i) j s w = set (put i j s w) (4 * i + j) (getD s i 0)
 unfoldable pub beside : (ℕ → List ℕ) → List ℕ
 beside f = tabulate 48 (λ n. getD (f (n % 4)) (n / 4) 0)
 
--- a, b, c and d as states 0, 1, 2 and 3
-abbrev pub four : (a b c d : List ℕ) → ℕ → List ℕ
-four a b c d zero = a
-four a b c d (suc zero) = b
-four a b c d (suc (suc zero)) = c
-four a b c d (suc (suc (suc j))) = d
-
 -- F done to each of the four
 unfoldable pub each : (List ℕ → List ℕ) → List ℕ → List ℕ
 each F w = beside (λ j. F (part j w))
+
+-- state j of four whose lanes at x of plane y stand, one after another, from place n + dx x + dy y on: 48 lanes side by side are laid with 4 and 16
+unfoldable pub laid : (n dx dy : ℕ) → List ℕ → ℕ → List ℕ
+laid n dx dy a j = tabulate 12 (λ i. getD a (n + dx * (i % 4) + dy * (i / 4) + j) 0)
+
+-- v added to w, or in its place
+abbrev pub into : Bool → List ℕ → List ℕ → List ℕ
+into true w v = sum w v
+into false w v = v
