@@ -1,6 +1,6 @@
 -- What a group of four full blocks does. Assumes nothing.
 use mathlib.Core.List.{List}
-use Prim.Native.Nat.{ℕ, _+_}
+use Prim.Native.Nat.{ℕ, _+_, _*_}
 use lib.ListN.{drop}
 use Rattle.word.specs.Lists.{sum}
 use Rattle.state.specs.Bytes.{fromBytes}
@@ -8,6 +8,10 @@ use Rattle.xoodoo.specs.Xoodoo.{perm}
 use Rattle.rolling.specs.Rolling.{rollIn}
 use Rattle.xoodoo4.specs.Four.{part}
 use Rattle.deck.specs.declared.DeckState.{DeckState}
+
+-- block j of the string from byte `at` on
+abbrev pub blockAt : (s : List ℕ) (at j : ℕ) → List ℕ
+blockAt s at j = fromBytes (drop (at + 48 * j) s)
 
 -- x with the four states of w added
 abbrev pub addFour : (x w : List ℕ) → List ℕ

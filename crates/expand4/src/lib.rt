@@ -4,10 +4,11 @@ ghost use Prim.Native.Nat.{_+_, _<_, _≤_};
 ghost use lib.ListN.{length};
 ghost use Rattle.word.specs.Lists.{sum};
 ghost use Rattle.state.specs.Bytes.{stateByte};
-ghost use Rattle.rolling.specs.Rolling.{rollOut};
-ghost use Rattle.xoodoo4.specs.Four.{part};
-ghost use Rattle.deck.specs.Deck.{iterate, outputByte, run};
+ghost use Rattle.xoodoo.specs.Xoodoo.{perm};
+ghost use Rattle.xoodoo4.specs.Four.{part, beside, laid};
+ghost use Rattle.deck.specs.Deck.{outputByte, run};
 ghost use Rattle.xoofff.specs.Leaves.{outputBlocks, Added};
+ghost use Rattle.expand4.specs.Four.{fourByte};
 
 // Adds the 48 bytes of state j of w plus the mask to the buffer from byte `at` on.
 fn add_part(w: &[u32; 48], j: usize, mask: &[u32; 12], at: usize, out: &mut [u8])
@@ -20,23 +21,20 @@ fn add_part(w: &[u32; 48], j: usize, mask: &[u32; 12], at: usize, out: &mut [u8]
     state::add_bytes(&o, &mut out[at..at + 48]);
 }
 
-// Adds four output blocks to the buffer from byte `at` on, the first made from the rolled state z; gives z rolled four times.
-fn four_out(z: [u32; 12], mask: &[u32; 12], at: usize, out: &mut [u8]) -> [u32; 12]
-    requires { ⌜ at + 192 ≤ length (now out) ⌝ }
-    ensures { λ r. ⌜ (r ≡ iterate 4 rollOut z) × Added (outputByte z (now (mask .entry))) at 192 (now (out .entry)) (now (out .exit)) ⌝ }
+// Adds to the buffer from byte `at` on the four blocks that the states from word n of a row on give; w is where their permutations are put.
+fn four_out(w: &mut [u32; 48], r: &[u32; 80], n: usize, mask: &[u32; 12], at: usize, out: &mut [u8])
+    requires { ⌜ (length (now w) ≡ 48) × (n + 15 ≤ 80) × (at + 192 ≤ length (now out)) ⌝ }
+    ensures { λ _. ⌜ (now (w .exit) ≡ beside (λ j. perm (laid n 3 1 (now (r .entry)) j)))
+        × Added (fourByte (laid n 3 1 (now (r .entry))) (now (mask .entry))) at 192 (now (out .entry)) (now (out .exit)) ⌝ }
 {
     let at1 = at + 48;
     let at2 = at + 96;
     let at3 = at + 144;
-    let z1 = rolling::roll_out(z);
-    let z2 = rolling::roll_out(z1);
-    let z3 = rolling::roll_out(z2);
-    let w = xoodoo4::permute_four(xoodoo4::beside(z, z1, z2, z3));
-    add_part(&w, 0, mask, at, out);
-    add_part(&w, 1, mask, at1, out);
-    add_part(&w, 2, mask, at2, out);
-    add_part(&w, 3, mask, at3, out);
-    rolling::roll_out(z3)
+    xoodoo4::permute_into(w, false, r, n, 3, 1);
+    add_part(w, 0, mask, at, out);
+    add_part(w, 1, mask, at1, out);
+    add_part(w, 2, mask, at2, out);
+    add_part(w, 3, mask, at3, out);
 }
 
 // Adds the output from its first byte on to the buffer, whole blocks four at a time; gives the permutations done.
@@ -45,13 +43,20 @@ fn expand_groups(y: [u32; 12], mask: &[u32; 12], out: &mut [u8]) -> u32
     ensures { λ r. ⌜ (now (out .exit) ≡ sum (now (out .entry)) (run (outputByte y (now (mask .entry))) 0 (length (now (out .entry)))))
         × (r ≡ outputBlocks 0 (length (now (out .entry)))) ⌝ }
 {
-    let mut z = y;
+    let k = *mask;
+    let mut w = [0u32; 48];
+    let mut row = rows::row_of(y);
+    rows::append_out(&mut row, 0);
+    let mut n: usize = 0;
     let mut at: usize = 0;
     while 192 <= out.len() - at {
-        let t = four_out(z, mask, at, out);
-        z = t;
+        let m = rows::renew(&mut row, n);
+        four_out(&mut w, &row, m, &k, at, out);
+        n = m + 4;
+        rows::append_out(&mut row, n);
         at += 192;
     }
+    let z = rows::state_at(&row, n);
     let count = xoofff::expand(z, mask, 0, &mut out[at..]);
     (at / 48) as u32 + count
 }

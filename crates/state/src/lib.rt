@@ -35,7 +35,7 @@ fn join(a: u8, b: u8, c: u8, d: u8) -> u32
 }
 
 // The lane of the four bytes from byte `at` on.
-fn lane_at(s: &[u8], at: usize) -> u32
+pub fn lane_at(s: &[u8], at: usize) -> u32
     requires { ⌜ at + 4 ≤ length (now s) ⌝ }
     ensures { λ r. ⌜ r ≡ lane (byteBit (drop at (now (s .entry)))) ⌝ }
 {

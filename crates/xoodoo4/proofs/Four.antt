@@ -102,6 +102,22 @@ is-beside f w h e = tabulate-is 48 _ w h at
         let d : n ≡ 4 * (n / 4) + n % 4 = omega arith in
         ap (λ (m : ℕ). getD w m 0) d ∙ sym (part-at (n % 4) w (n / 4) (omega arith)) ∙ ap (λ (s : List ℕ). getD s (n / 4) 0) (e (n % 4) (omega arith))
 
+-- ---- four states put side by side lane by lane
+
+-- the lanes of the four, one after another
+abbrev pub besideLane : (ℕ → List ℕ) → ℕ → ℕ
+besideLane f q = getD (f (q % 4)) (q / 4) 0
+
+pub beside-lane : (f : ℕ → List ℕ) (i j : ℕ) {v : ℕ} → j < 4 → v ≡ getD (f j) i 0 → v ≡ besideLane f (4 * i + j)
+beside-lane f i j h e =
+    let d : i ≡ (4 * i + j) / 4 = omega arith in
+    let r : j ≡ (4 * i + j) % 4 = omega arith in
+    e ∙ ap₂ (λ (k m : ℕ). getD (f k) m 0) r d
+
+pub beside-filled : (f : ℕ → List ℕ) (w : List ℕ) → length w ≡ 48 → Filled (besideLane f) w 48 → w ≡ beside f
+unfolding beside
+beside-filled f w h d = tabulate-is 48 (besideLane f) w h d
+
 -- ---- steps done to each of the four
 
 pub each-part : (F : List ℕ → List ℕ) → ((l : List ℕ) → length (F l) ≡ 12) → (j : ℕ) (w : List ℕ) → j < 4 → part j (each F w) ≡ F (part j w)
@@ -185,24 +201,13 @@ pub laid-length : (n dx dy : ℕ) (a : List ℕ) (j : ℕ) → length (laid n dx
 unfolding laid
 laid-length n dx dy a j = tabulate-length 12 _
 
-pub laid-at : (n dx dy : ℕ) (a : List ℕ) (j i : ℕ) → i < 12 → getD (laid n dx dy a j) i 0 ≡ getD a (n + dx * (i % 4) + dy * (i / 4) + j) 0
+laid-at : (n dx dy : ℕ) (a : List ℕ) (j i : ℕ) → i < 12 → getD (laid n dx dy a j) i 0 ≡ getD a (n + dx * (i % 4) + dy * (i / 4) + j) 0
 unfolding laid
 laid-at n dx dy a j i h = tabulate-at 12 _ i h
 
--- the lanes of the four, one after another
-abbrev pub laidLane : (n dx dy : ℕ) → List ℕ → ℕ → ℕ
-laidLane n dx dy a q = getD a (n + dx * (q / 4 % 4) + dy * (q / 4 / 4) + q % 4) 0
-
-pub laid-lane : (n dx dy : ℕ) (a : List ℕ) (i q m : ℕ) → q < 4 → m ≡ n + dx * (i % 4) + dy * (i / 4) + q → getD a m 0 ≡ laidLane n dx dy a (4 * i + q)
-laid-lane n dx dy a i q m h e =
-    let d : i ≡ (4 * i + q) / 4 = omega arith in
-    let r : q ≡ (4 * i + q) % 4 = omega arith in
-    ap (λ (k : ℕ). getD a k 0) e ∙ ap₂ (λ (u v : ℕ). getD a (n + dx * (u % 4) + dy * (u / 4) + v) 0) d r
-
--- read one after another
-pub laid-beside : (n dx dy : ℕ) (a w : List ℕ) → length w ≡ 48 → Filled (laidLane n dx dy a) w 48 → w ≡ beside (laid n dx dy a)
-unfolding beside
-laid-beside n dx dy a w h f = tabulate-is 48 _ w h (λ q l. f q l ∙ sym (laid-at n dx dy a (q % 4) (q / 4) (omega arith)))
+-- a lane that is read
+pub laid-lane : (n dx dy : ℕ) (a : List ℕ) (i j m : ℕ) → i < 12 → m ≡ n + dx * (i % 4) + dy * (i / 4) + j → getD a m 0 ≡ getD (laid n dx dy a j) i 0
+laid-lane n dx dy a i j m h e = ap (λ (k : ℕ). getD a k 0) e ∙ sym (laid-at n dx dy a j i h)
 
 -- 48 lanes side by side are laid out with the steps 4 and 16
 pub laid-part : (w : List ℕ) (j : ℕ) → laid 0 4 16 w j ≡ part j w
@@ -217,9 +222,9 @@ unfolding each beside
 each-of F f h = tabulate-ext 48 _ _ (λ n l. ap (λ (s : List ℕ). getD (F s) (n / 4) 0) (beside-part f (n % 4) (omega arith) (h (n % 4))))
 
 -- the permutation of four states that were read one after another
-pub laid-permuted : (n dx dy : ℕ) (a t : List ℕ) {s : List ℕ} → length t ≡ 48 → Filled (laidLane n dx dy a) t 48 → s ≡ each perm t
+pub laid-permuted : (n dx dy : ℕ) (a t : List ℕ) {s : List ℕ} → length t ≡ 48 → Filled (besideLane (laid n dx dy a)) t 48 → s ≡ each perm t
     → s ≡ beside (λ j. perm (laid n dx dy a j))
-laid-permuted n dx dy a t h f e = e ∙ ap (each perm) (laid-beside n dx dy a t h f) ∙ each-of perm (laid n dx dy a) (laid-length n dx dy a)
+laid-permuted n dx dy a t h f e = e ∙ ap (each perm) (beside-filled (laid n dx dy a) t h f) ∙ each-of perm (laid n dx dy a) (laid-length n dx dy a)
 
 -- added, or put in the place of what was there
 pub into-sum : {b : Bool} (w v : List ℕ) {s : List ℕ} → b ≡ true → s ≡ sum w v → s ≡ into b w v

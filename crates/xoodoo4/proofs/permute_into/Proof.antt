@@ -5,7 +5,7 @@ use mathlib.Core.List.{List}
 use Prim.Native.Nat.{ℕ, _+_, _*_, _≤_, _<_, _-_, _/_, _%_}
 use native.Mathlib.Omega.{arith}
 use lib.Dec.{lit<}
-use lib.ListN.{length}
+use lib.ListN.{length, getD}
 use denote.Ref.{now}
 use borrow.Author.Needs.{needs}
 use Rattle.word.specs.Lists.{sum}
@@ -13,7 +13,7 @@ use Rattle.word.proofs.Lists.{Filled}
 use Rattle.state.proofs.Bytes.{filled-four}
 use Rattle.xoodoo.specs.Xoodoo.{perm}
 use Rattle.xoodoo4.specs.Four.{beside, each, laid}
-use Rattle.xoodoo4.proofs.Four.{step-most, laidLane, laid-lane, laid-permuted, into-sum, into-place, Summed, summed-none, summed-more, summed-all}
+use Rattle.xoodoo4.proofs.Four.{step-most, besideLane, beside-lane, laid-lane, laid-permuted, into-sum, into-place, Summed, summed-none, summed-more, summed-all}
 use Rattle.xoodoo4.proofs.permute_into.Statement.{statement}
 use Rattle.xoodoo4.proofs.permute_into.Tie as tie
 use Rattle.xoodoo4.proofs.permute_into.Reads as reads
@@ -21,7 +21,7 @@ use Rattle.xoodoo4.proofs.permute_into.Lts as lts
 use Rattle.xoodoo4.proofs.permute_four.Reads as permute-four-reads
 
 abbrev Inv-loop : tie.InvT-loop
-Inv-loop w add a n dx dy t₀ i₀ t i = (i ≤ 12) × (length t ≡ 48) × Filled (laidLane n dx dy a) t (4 * i)
+Inv-loop w add a n dx dy t₀ i₀ t i = (i ≤ 12) × (length t ≡ 48) × Filled (besideLane (laid n dx dy a)) t (4 * i)
 
 abbrev μ-loop : tie.MeasureT-loop
 μ-loop w add a n dx dy t₀ i₀ t i = 12 - i
@@ -134,12 +134,14 @@ loop-less c = omega arith
 loop-again : tie.Need-loop-again Inv-loop μ-loop Inv-loop2 μ-loop2
 loop-again c =
     let l = c .before .before .before .before .before .loop in
-    let a = c .before .before .before .before .before .before .before .args in (
+    let a = c .before .before .before .before .before .before .before .args in
+    let f : ℕ → List ℕ = laid (a .n) (a .dx) (a .dy) (now (a .a)) in
+    let lane : (j m : ℕ) → m ≡ a .n + a .dx * (l .i % 4) + a .dy * (l .i / 4) + j → getD (now (a .a)) m 0 ≡ getD (f j) (l .i) 0 =
+    λ j m e. laid-lane (a .n) (a .dx) (a .dy) (now (a .a)) (l .i) j m (omega arith) e in (
       omega arith,
       search needs,
-      filled-four (laidLane (a .n) (a .dx) (a .dy) (now (a .a))) (l .t) (l .i) (omega (arith, l .inv .1))
-          (laid-lane (a .n) (a .dx) (a .dy) (now (a .a)) (l .i) 0 _ (lit< tt) (omega arith)) (laid-lane (a .n) (a .dx) (a .dy) (now (a .a)) (l .i) 1 _ (lit< tt) refl)
-          (laid-lane (a .n) (a .dx) (a .dy) (now (a .a)) (l .i) 2 _ (lit< tt) refl) (laid-lane (a .n) (a .dx) (a .dy) (now (a .a)) (l .i) 3 _ (lit< tt) refl) (l .inv .2),
+      filled-four (besideLane f) (l .t) (l .i) (omega (arith, l .inv .1)) (beside-lane f (l .i) 0 (lit< tt) (lane 0 _ (omega arith))) (beside-lane f (l .i) 1 (lit< tt) (lane 1 _ refl))
+          (beside-lane f (l .i) 2 (lit< tt) (lane 2 _ refl)) (beside-lane f (l .i) 3 (lit< tt) (lane 3 _ refl)) (l .inv .2),
     )
 
 permute-four-requires : tie.Need-permute-four-requires Inv-loop μ-loop Inv-loop2 μ-loop2
