@@ -5,28 +5,34 @@ use mathlib.Core.List.{List}
 use Prim.Native.Nat.{ℕ, _+_, _*_, _-_, _/_, _%_, _<_, _≤_}
 use native.Mathlib.Omega.{arith}
 use lib.Dec.{lit<}
-use lib.ListN.{length, take, drop, take-append-drop, length-take, length-drop}
+use lib.ListN.{length, getD, replicate, take, drop, take-append-drop, length-take, length-drop}
 use lib.Seq.{getD-take, drop-drop, take-all}
 use Rattle.word.specs.Word.{bit}
-use Rattle.word.specs.Lists.{sum}
-use Rattle.state.specs.Bytes.{fromString, fromBytes}
-use Rattle.state.proofs.Lanes.{lanes-ext}
+use Rattle.word.specs.Lists.{sum, tabulate}
+use Rattle.word.proofs.Bit.{is-own, is-more, is-word}
+use Rattle.word.proofs.Lists.{sum-assoc, sum-comm, sum-zero, sum-length}
+use Rattle.state.specs.State.{lane}
+use Rattle.state.specs.Bytes.{stringState, byteBit, fromString, fromBytes}
+use Rattle.state.proofs.Lanes.{lanes-ext, lanes-words}
+use Rattle.state.proofs.Bytes.{lane-further}
+use Rattle.state.proofs.Facts.{string-to-state, fromString-length}
 use Rattle.xoodoo.specs.Xoodoo.{perm}
 use Rattle.xoodoo.proofs.Facts.{perm-length}
 use Rattle.rolling.specs.Rolling.{rollIn}
-use Rattle.xoodoo4.specs.Four.{part, beside, four, each}
-use Rattle.xoodoo4.proofs.Four.{each-beside}
+use Rattle.xoodoo4.specs.Four.{part, beside, laid}
+use Rattle.xoodoo4.proofs.Four.{beside-part, beside-length, beside-ext, part-sum, laid-part}
+use Rattle.rows.proofs.Rows.{rolling-in, RowFrom, row-laid, rolled-on}
 use Rattle.deck.specs.declared.DeckState.{DeckState}
 use Rattle.deck.specs.Strings.{Str, blocks, b, framed}
-use Rattle.deck.specs.Closing.{closedBy}
-use Rattle.deck.specs.Deck.{indexGrowth}
+use Rattle.deck.specs.Closing.{closedBy, frameBits}
+use Rattle.deck.specs.Deck.{indexGrowth, iterate}
 use Rattle.deck.specs.Incremental.{append}
 use Rattle.deck.proofs.Strings.{closed-blocks}
 use Rattle.deck.proofs.Deck.{closed-growth}
 use Rattle.deck.proofs.Incremental.{append-front}
 use Rattle.xoofff.specs.declared.Compressed.{Compressed}
 use Rattle.xoofff.specs.Leaves.{compressed}
-use Rattle.compress4.specs.Four.{addFour, blockMore, fourMore}
+use Rattle.compress4.specs.Four.{blockAt, addFour, after, blockMore, fourMore}
 
 -- ---- blocks one after another
 
@@ -59,54 +65,141 @@ four-append d s at f h =
     ∙ block-append _ s (at + 96) (at + 144) f (omega arith) (omega arith)
     ∙ block-append _ s (at + 144) (at + 192) f (omega arith) (omega arith)
 
-pub four-index : (d : DeckState) (s : List ℕ) (at : ℕ) {e : DeckState} → e ≡ fourMore d s at → e .index ≡ d .index + 4
-unfolding fourMore
-four-index d s at h = let i : fourMore d s at .index ≡ d .index + 4 = omega arith in ap (λ (t : DeckState). t .index) h ∙ i
+-- ---- the four blocks side by side
 
--- the four done side by side
-pub four-beside : (d : DeckState) (s : List ℕ) (at : ℕ) {k₁ k₂ k₃ k₄ b₀ b₁ b₂ b₃ v w x : List ℕ}
-    → length b₀ ≡ 12 → length b₁ ≡ 12 → length b₂ ≡ 12 → length b₃ ≡ 12
-    → k₁ ≡ rollIn (d .mask) → k₂ ≡ rollIn k₁ → k₃ ≡ rollIn k₂ → k₄ ≡ rollIn k₃
-    → b₀ ≡ sum (fromBytes (drop at s)) (d .mask) → b₁ ≡ sum (fromBytes (drop (at + 48) s)) k₁
-    → b₂ ≡ sum (fromBytes (drop (at + 96) s)) k₂ → b₃ ≡ sum (fromBytes (drop (at + 144) s)) k₃
-    → v ≡ beside (four b₀ b₁ b₂ b₃) → w ≡ each perm v → x ≡ addFour (d .acc) w
-    → _≡_ {A = DeckState} (record { acc = x; mask = k₄; index = d .index + 4 }) (fourMore d s at)
-unfolding fourMore
-four-beside d s at {k₁} {k₂} {k₃} {k₄} {b₀} {b₁} {b₂} {b₃} {v} {w} {x} h₀ h₁ h₂ h₃ m₁ m₂ m₃ m₄ e₀ e₁ e₂ e₃ ev ew ex =
-    λ t. record { acc = acc t; mask = mask t; index = index t }
+-- lane i of the block from byte `at` on
+pub block-lane : (s : List ℕ) (at i m : ℕ) {v : ℕ} → i < 12 → m ≡ at + 4 * i → v ≡ lane (byteBit (drop m s)) → v ≡ getD (fromBytes (drop at s)) i 0
+unfolding fromString
+block-lane s at i m h e ev = ev ∙ sym (is-word (is-more (is-own (lanes-words (stringState (byteBit (drop at s))) i)) same))
   where
-    f : ℕ → List ℕ
-    f = four b₀ b₁ b₂ b₃
+    l : List ℕ
+    l = fromBytes (drop at s)
 
-    at-part : (j : ℕ) → j < 4 → length (f j) ≡ 12 → part j w ≡ perm (f j)
-    at-part j l h = ap (part j) (ew ∙ ap (each perm) ev) ∙ each-beside perm perm-length f j l h
+    same : (z : ℕ) → z < 32 → bit (getD l i 0) z ≡ byteBit (drop m s) z
+    same z g =
+        let d : i ≡ i % 4 + 4 * (i / 4) = omega arith in
+        ap (λ (k : ℕ). bit (getD l k 0) z) d ∙ string-to-state (byteBit (drop at s)) (i % 4) (i / 4) z (omega arith) (omega arith) g
+        ∙ ap (λ (k : ℕ). byteBit (drop at s) (z + 32 * k)) (sym d) ∙ sym (lane-further s at i m e z g)
 
-    n₂ : k₂ ≡ rollIn (rollIn (d .mask))
-    n₂ = m₂ ∙ ap rollIn m₁
+-- blocks and masks, permuted
+pub group-permuted : (s : List ℕ) (at : ℕ) (g : ℕ → List ℕ) {w : List ℕ} → ((j : ℕ) → length (g j) ≡ 12) → w ≡ sum (beside (blockAt s at)) (beside g)
+    → beside (λ j. perm (laid 0 4 16 w j)) ≡ beside (λ j. perm (sum (blockAt s at j) (g j)))
+group-permuted s at g {w} h e =
+    beside-ext (λ j. perm (laid 0 4 16 w j)) (λ j. perm (sum (blockAt s at j) (g j)))
+    (λ j l.
+    ap perm
+    (laid-part w j ∙ ap (part j) e ∙ part-sum j (beside (blockAt s at)) (beside g) l (beside-length (blockAt s at)) (beside-length g)
+    ∙ ap₂ sum (beside-part (blockAt s at) j l (fromString-length _)) (beside-part g j l (h j))))
 
-    n₃ : k₃ ≡ rollIn (rollIn (rollIn (d .mask)))
-    n₃ = m₃ ∙ ap rollIn n₂
+-- ---- sums side by side
 
-    p₀ : part 0 w ≡ perm (sum (fromBytes (drop at s)) (d .mask))
-    p₀ = at-part 0 (lit< tt) h₀ ∙ ap perm e₀
+-- the order of sums does not matter
+swap : (u a b : List ℕ) → sum (sum u a) b ≡ sum (sum u b) a
+swap u a b = sum-assoc u a b ∙ ap (sum u) (sum-comm a b) ∙ sym (sum-assoc u b a)
 
-    p₁ : part 1 w ≡ perm (sum (fromBytes (drop (at + 48) s)) (rollIn (d .mask)))
-    p₁ = at-part 1 (lit< tt) h₁ ∙ ap perm (e₁ ∙ ap (sum (fromBytes (drop (at + 48) s))) m₁)
+past-two : (u a b c : List ℕ) → sum (sum (sum u a) b) c ≡ sum (sum (sum u c) a) b
+past-two u a b c = swap (sum u a) b c ∙ ap (λ (t : List ℕ). sum t b) (swap u a c)
 
-    p₂ : part 2 w ≡ perm (sum (fromBytes (drop (at + 96) s)) (rollIn (rollIn (d .mask))))
-    p₂ = at-part 2 (lit< tt) h₂ ∙ ap perm (e₂ ∙ ap (sum (fromBytes (drop (at + 96) s))) n₂)
+past-three : (u a b c d : List ℕ) → sum (sum (sum (sum u a) b) c) d ≡ sum (sum (sum (sum u d) a) b) c
+past-three u a b c d = swap (sum (sum u a) b) c d ∙ ap (λ (t : List ℕ). sum t c) (past-two u a b d)
 
-    p₃ : part 3 w ≡ perm (sum (fromBytes (drop (at + 144) s)) (rollIn (rollIn (rollIn (d .mask)))))
-    p₃ = at-part 3 (lit< tt) h₃ ∙ ap perm (e₃ ∙ ap (sum (fromBytes (drop (at + 144) s))) n₃)
+-- sums of results, added at the end, are results added one after another
+add-sums : (x v w : List ℕ) → length v ≡ 48 → length w ≡ 48 → addFour x (sum v w) ≡ addFour (addFour x v) w
+add-sums x v w hv hw =
+    ap₂ sum (ap₂ sum (ap₂ sum (ap (sum x) (p 0 (lit< tt)) ∙ first) (p 1 (lit< tt)) ∙ second) (p 2 (lit< tt)) ∙ third) (p 3 (lit< tt)) ∙ fourth
+  where
+    p : (j : ℕ) → j < 4 → part j (sum v w) ≡ sum (part j v) (part j w)
+    p j l = part-sum j v w l hv hw
 
-    acc : x ≡ fourMore d s at .acc
-    acc = ex ∙ ap₂ sum (ap₂ sum (ap₂ sum (ap (sum (d .acc)) p₀) p₁) p₂) p₃
+    a : ℕ → List ℕ
+    a j = part j v
 
-    mask : k₄ ≡ fourMore d s at .mask
-    mask = m₄ ∙ ap rollIn n₃
+    b : ℕ → List ℕ
+    b j = part j w
 
-    index : d .index + 4 ≡ fourMore d s at .index
-    index = omega arith
+    first : sum x (sum (a 0) (b 0)) ≡ sum (sum x (a 0)) (b 0)
+    first = sym (sum-assoc x (a 0) (b 0))
+
+    second : sum (sum (sum x (a 0)) (b 0)) (sum (a 1) (b 1)) ≡ sum (sum (sum (sum x (a 0)) (a 1)) (b 0)) (b 1)
+    second = sym (sum-assoc (sum (sum x (a 0)) (b 0)) (a 1) (b 1)) ∙ ap (λ (t : List ℕ). sum t (b 1)) (swap (sum x (a 0)) (b 0) (a 1))
+
+    third : sum (sum (sum (sum (sum x (a 0)) (a 1)) (b 0)) (b 1)) (sum (a 2) (b 2)) ≡ sum (sum (sum (sum (sum (sum x (a 0)) (a 1)) (a 2)) (b 0)) (b 1)) (b 2)
+    third =
+        sym (sum-assoc (sum (sum (sum (sum x (a 0)) (a 1)) (b 0)) (b 1)) (a 2) (b 2))
+        ∙ ap (λ (t : List ℕ). sum t (b 2)) (past-two (sum (sum x (a 0)) (a 1)) (b 0) (b 1) (a 2))
+
+    fourth : sum (sum (sum (sum (sum (sum (sum x (a 0)) (a 1)) (a 2)) (b 0)) (b 1)) (b 2)) (sum (a 3) (b 3)) ≡ addFour (addFour x v) w
+    fourth =
+        sym (sum-assoc (sum (sum (sum (sum (sum (sum x (a 0)) (a 1)) (a 2)) (b 0)) (b 1)) (b 2)) (a 3) (b 3))
+        ∙ ap (λ (t : List ℕ). sum t (b 3)) (past-three (sum (sum (sum x (a 0)) (a 1)) (a 2)) (b 0) (b 1) (b 2) (a 3))
+
+-- no results yet
+pub none-added : (x : List ℕ) → length x ≡ 12 → addFour x (replicate 48 0) ≡ x
+unfolding part tabulate
+none-added x h =
+    let e : sum x (replicate 12 0) ≡ x = ap (λ (n : ℕ). sum x (replicate n 0)) (sym h) ∙ sum-zero x in
+    ap (λ (t : List ℕ). sum (sum (sum t (replicate 12 0)) (replicate 12 0)) (replicate 12 0)) e ∙ ap (λ (t : List ℕ). sum (sum t (replicate 12 0)) (replicate 12 0)) e
+    ∙ ap (λ (t : List ℕ). sum t (replicate 12 0)) e ∙ e
+
+-- ---- a string's first `at` bytes, whole groups: what their results sum up to, and the state after them
+
+pub record Taken (d : DeckState) (s : List ℕ) (c : ℕ) (sums : List ℕ) (at : ℕ) : Type 0 where
+  pub fits : at ≤ length s
+  pub whole : at % 192 ≡ 0
+  pub size : length sums ≡ 48
+  pub same : append d (closedBy s c) ≡ append (after d sums at) (closedBy (drop at s) c)
+
+pub taken-none : (d : DeckState) (s : List ℕ) (c : ℕ) → length (d .acc) ≡ 12 → Taken d s c (replicate 48 0) 0
+unfolding iterate append
+taken-none d s c h =
+    let p : d .acc ≡ addFour (d .acc) (replicate 48 0) = sym (none-added (d .acc) h) in
+    let e : d .index ≡ d .index + 0 / 48 = omega arith in
+    record {
+      fits = omega arith;
+      whole = refl;
+      size = refl;
+      same = ap (λ (e : DeckState). append e (closedBy s c)) (λ t. record { acc = p t; mask = d .mask; index = e t });
+    }
+
+-- one more group
+pub taken-more : (d : DeckState) (s : List ℕ) (c : ℕ) (sums : List ℕ) (at n : ℕ) (r : List ℕ) {t : List ℕ} → at + 192 ≤ length s
+    → RowFrom rollIn (iterate (at / 48) rollIn (d .mask)) n 16 r
+    → t ≡ sum sums (beside (λ j. perm (sum (blockAt s at j) (laid n 3 1 r j)))) → Taken d s c sums at → Taken d s c t (at + 192)
+unfolding fourMore iterate
+taken-more d s c sums at n r {t} h row et a =
+    record {
+      fits = h;
+      whole = let w : at % 192 ≡ 0 = a .whole in omega arith;
+      size = ap length et ∙ sum-length sums (beside g) (omega (arith, a .size, beside-length g)) ∙ a .size;
+      same = a .same ∙ four-append (after d sums at) s at (frameBits 7 c) h ∙ ap (λ (e : DeckState). append e (closedBy (drop (at + 192) s) c)) (λ u. record { acc = acc u; mask = mask u; index = index u });
+    }
+  where
+    m : List ℕ
+    m = iterate (at / 48) rollIn (d .mask)
+
+    g : ℕ → List ℕ
+    g j = perm (sum (blockAt s at j) (laid n 3 1 r j))
+
+    by-mask : (j : ℕ) → j < 4 → part j (beside g) ≡ perm (sum (blockAt s at j) (iterate j rollIn m))
+    by-mask j l =
+        beside-part g j l (perm-length _)
+        ∙ ap (λ (k : List ℕ). perm (sum (blockAt s at j) k))
+        (row-laid rollIn rolling-in m n 16 j r (omega arith) row)
+
+    first : at + 48 * 0 ≡ at
+    first = omega arith
+
+    acc : fourMore (after d sums at) s at .acc ≡ addFour (d .acc) t
+    acc = sym (ap (addFour (d .acc)) et ∙ add-sums (d .acc) sums (beside g) (a .size) (beside-length g) ∙ results)
+      where
+        results : addFour (addFour (d .acc) sums) (beside g) ≡ fourMore (after d sums at) s at .acc
+        results = ap₂ sum (ap₂ sum (ap₂ sum (ap (sum (addFour (d .acc) sums)) (by-mask 0 (lit< tt) ∙ ap (λ (n : ℕ). perm (sum (fromBytes (drop n s)) m)) first)) (by-mask 1 (lit< tt))) (by-mask 2 (lit< tt))) (by-mask 3 (lit< tt))
+
+    mask : fourMore (after d sums at) s at .mask ≡ iterate ((at + 192) / 48) rollIn (d .mask)
+    mask = rolled-on rollIn (d .mask) at (a .whole)
+
+    index : fourMore (after d sums at) s at .index ≡ d .index + (at + 192) / 48
+    index = let w : at % 192 ≡ 0 = a .whole in omega arith
 
 -- ---- the leftover
 

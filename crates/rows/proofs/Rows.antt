@@ -7,7 +7,7 @@ use native.Mathlib.Decide.{decLe}
 use native.Mathlib.Numerals.{add-one}
 use native.Mathlib.Omega.{arith}
 use lib.Dec.{ltb, lit<}
-use lib.ListN.{length, getD, set, length-set}
+use lib.ListN.{length, getD, set, replicate, length-set}
 use lib.Seq.{getD-set-same, getD-set-other}
 use borrow.Author.Tests.{lt-ltb, le-ltb}
 use Rattle.word.specs.Word.{bit}
@@ -71,22 +71,24 @@ module _ (f : List ℕ → List ℕ) (R : Rolling f) where
   lane-word : (k : List ℕ) → Words 32 k → (i m : ℕ) → i < 12 → m ≡ 3 * (i % 4) + i / 4 → getD (iterate m f k) 0 0 ≡ getD k i 0
   lane-word k w i m h e = let d : laneOf (m + 0) ≡ i = omega arith in further k w m 0 (omega arith) ∙ ap (λ (n : ℕ). getD k n 0) d
 
--- ---- a row: its m words from word n on are those of k, rolled by f again and again
+-- ---- a row: its m words from word n on are those of the state k, rolled by f again and again
 pub record RowFrom (f : List ℕ → List ℕ) (k : List ℕ) (n m : ℕ) (r : List ℕ) : Type 0 where
+  pub lanes : length k ≡ 12
+  pub fits : Words 32 k
   pub size : length r ≡ 80
   pub words : (q : ℕ) → q < m → getD r (n + q) 0 ≡ getD (iterate q f k) 0 0
 
-module _ (f : List ℕ → List ℕ) (R : Rolling f) (k : List ℕ) (hk : length k ≡ 12) (wk : Words 32 k) where
+module _ (f : List ℕ → List ℕ) (R : Rolling f) (k : List ℕ) where
   -- its windows are the rolled states
   pub row-laid : (n m j : ℕ) (r : List ℕ) → j + 12 ≤ m → RowFrom f k n m r → laid n 3 1 r j ≡ iterate j f k
   unfolding laid
-  row-laid n m j r h d = sym (tabulate-is 12 _ (iterate j f k) (rolled-size f R j k hk) at)
+  row-laid n m j r h d = sym (tabulate-is 12 _ (iterate j f k) (rolled-size f R j k (d .lanes)) at)
     where
       at : (i : ℕ) → i < 12 → getD (iterate j f k) i 0 ≡ getD r (n + 3 * (i % 4) + 1 * (i / 4) + j) 0
       at i l =
           let p : ℕ = 3 * (i % 4) + i / 4 in
           let e : n + (j + p) ≡ n + 3 * (i % 4) + 1 * (i / 4) + j = omega arith in
-          sym (lane-word f R (iterate j f k) (rolled-words f R j k wk) i p l refl)
+          sym (lane-word f R (iterate j f k) (rolled-words f R j k (d .fits)) i p l refl)
           ∙ ap (λ (s : List ℕ). getD s 0 0) (sym (iterate-add f j p k))
           ∙ sym (d .words (j + p) (omega arith)) ∙ ap (λ (q : ℕ). getD r q 0) e
 
@@ -96,7 +98,7 @@ module _ (f : List ℕ → List ℕ) (R : Rolling f) (k : List ℕ) (hk : length
 
   -- one more word
   row-word : (n m v : ℕ) (r : List ℕ) → n + m < 80 → v ≡ getD (iterate m f k) 0 0 → RowFrom f k n m r → RowFrom f k n (m + 1) (set r (n + m) v)
-  row-word n m v r h e d = record { size = length-set r (n + m) v ∙ d .size; words = λ q l. go q l (decLe m q) }
+  row-word n m v r h e d = record { lanes = d .lanes; fits = d .fits; size = length-set r (n + m) v ∙ d .size; words = λ q l. go q l (decLe m q) }
     where
       go : (q : ℕ) → q < m + 1 → Dec (m ≤ q) → getD (set r (n + m) v) (n + q) 0 ≡ getD (iterate q f k) 0 0
       go q l (yes p) =
@@ -106,25 +108,27 @@ module _ (f : List ℕ → List ℕ) (R : Rolling f) (k : List ℕ) (hk : length
       go q l (no p) = getD-set-other r (n + m) (n + q) v 0 (λ g. omega (arith, g, p)) ∙ d .words q (omega (arith, p))
 
   -- the word that a rolling appends is s_0 eleven rollings later
-  last-word : (n i m : ℕ) (r : List ℕ) → m ≡ i + 11 → stateAt n r ≡ k → appends f n i r ≡ getD (iterate m f k) 0 0
-  last-word n i m r e s =
+  last-word : (n i m : ℕ) (r : List ℕ) → Words 32 k → m ≡ i + 11 → stateAt n r ≡ k → appends f n i r ≡ getD (iterate m f k) 0 0
+  last-word n i m r w e s =
       ap (λ (x : List ℕ). getD (iterate i f x) 11 0) s
-      ∙ sym (lane-word f R (iterate i f k) (rolled-words f R i k wk) 11 11 (lit< tt) refl)
+      ∙ sym (lane-word f R (iterate i f k) (rolled-words f R i k w) 11 11 (lit< tt) refl)
       ∙ ap (λ (x : List ℕ). getD x 0 0) (sym (iterate-add f i 11 k)) ∙ ap (λ (x : ℕ). getD (iterate x f k) 0 0) (sym e)
 
   pub row-appended : (n : ℕ) (r : List ℕ) → n + 16 ≤ 80 → RowFrom f k n 12 r → RowFrom f k n 16 (appended f n r)
   unfolding appended
   row-appended n r h d =
       let s : stateAt n r ≡ k = row-state n 12 r (omega arith) d in
-      row-word n 15 _ _ (omega arith) (last-word n 4 15 r refl s)
-      (row-word n 14 _ _ (omega arith) (last-word n 3 14 r refl s)
-      (row-word n 13 _ _ (omega arith) (last-word n 2 13 r refl s)
-      (row-word n 12 _ _ (omega arith) (last-word n 1 12 r refl s) d)))
+      row-word n 15 _ _ (omega arith) (last-word n 4 15 r (d .fits) refl s)
+      (row-word n 14 _ _ (omega arith) (last-word n 3 14 r (d .fits) refl s)
+      (row-word n 13 _ _ (omega arith) (last-word n 2 13 r (d .fits) refl s)
+      (row-word n 12 _ _ (omega arith) (last-word n 1 12 r (d .fits) refl s) d)))
 
   -- the words of the state that was rolled four times
   pub row-on : (n : ℕ) (r : List ℕ) → RowFrom f k n 16 r → RowFrom f (iterate 4 f k) (n + 4) 12 r
   row-on n r d =
       record {
+        lanes = rolled-size f R 4 k (d .lanes);
+        fits = rolled-words f R 4 k (d .fits);
         size = d .size;
         words = λ q l.
             let e : n + 4 + q ≡ n + (4 + q) = omega arith in
@@ -171,9 +175,11 @@ begun-words zero k r h q l = absurd (omega arith)
 begun-words (suc p) k r h q l =
     filled-more (λ q. getD k (laneOf q) 0) (begun p k r) p _ (omega (arith, begun-length p k r)) refl (begun-words p k r (omega arith)) q (omega arith)
 
-pub row-begun : (f : List ℕ → List ℕ) → Rolling f → (k r : List ℕ) → Words 32 k → length r ≡ 80 → RowFrom f k 0 12 (begun 12 k r)
-row-begun f R k r w h =
+row-begun : (f : List ℕ → List ℕ) → Rolling f → (k r : List ℕ) → length k ≡ 12 → Words 32 k → length r ≡ 80 → RowFrom f k 0 12 (begun 12 k r)
+row-begun f R k r n w h =
     record {
+      lanes = n;
+      fits = w;
       size = begun-length 12 k r ∙ h;
       words = λ q l.
           let e : 0 + q ≡ q = omega arith in
@@ -181,6 +187,12 @@ row-begun f R k r w h =
           ap (λ (x : ℕ). getD (begun 12 k r) x 0) e ∙ begun-words 12 k r (omega arith) q l ∙ ap (λ (x : ℕ). getD k x 0) d
           ∙ sym (further f R k w q 0 (omega arith));
     }
+
+-- and has four more words
+pub row-start : (f : List ℕ → List ℕ) → Rolling f → (k : List ℕ) {r r′ : List ℕ} → length k ≡ 12 → Words 32 k → r ≡ begun 12 k (replicate 80 0) → r′ ≡ appended f 0 r
+    → RowFrom f k 0 16 r′
+row-start f R k h w e g =
+    subst (λ (l : List ℕ). RowFrom f k 0 16 l) (sym (g ∙ ap (appended f 0) e)) (row-appended f R k 0 (begun 12 k (replicate 80 0)) (omega arith) (row-begun f R k (replicate 80 0) h w refl))
 
 -- ---- a row starts again
 
@@ -213,6 +225,8 @@ row-moved : (f : List ℕ → List ℕ) (k r : List ℕ) → RowFrom f k 64 16 r
 row-moved f k r d =
     let n : length r ≡ 80 = d .size in
     record {
+      lanes = d .lanes;
+      fits = d .fits;
       size = moved-length 16 r ∙ d .size;
       words = λ q l.
           let e : 0 + q ≡ q = omega arith in
@@ -249,3 +263,16 @@ row-renewed f k n r {m} {r′} h g em er d = go (decLe 64 n)
           whole = omega arith;
           row = subst (λ (x : ℕ). RowFrom f k x 16 r′) (sym z) (subst (λ (l : List ℕ). RowFrom f k n 16 l) (sym s) d);
         }
+
+-- the rollings of four blocks more
+pub rolled-on : (f : List ℕ → List ℕ) (k : List ℕ) (at : ℕ) → at % 192 ≡ 0 → iterate 4 f (iterate (at / 48) f k) ≡ iterate ((at + 192) / 48) f k
+rolled-on f k at h =
+    let e : at / 48 + 4 ≡ (at + 192) / 48 = omega arith in sym (iterate-add f (at / 48) 4 k) ∙ ap (λ (n : ℕ). iterate n f k) e
+
+-- so there is a row for the next four states
+pub row-next : (f : List ℕ → List ℕ) → Rolling f → (k : List ℕ) (m : ℕ) (r : List ℕ) {k′ r′ : List ℕ} → Renewed f k m r → iterate 4 f k ≡ k′ → r′ ≡ appended f (m + 4) r
+    → RowFrom f k′ (m + 4) 16 r′
+row-next f R k m r {k′} d g e =
+    let s : m + 20 ≤ 80 = d .room in
+    subst (λ (l : List ℕ). RowFrom f k′ (m + 4) 16 l) (sym e)
+    (subst (λ (l : List ℕ). RowFrom f l (m + 4) 16 (appended f (m + 4) r)) g (row-appended f R (iterate 4 f k) (m + 4) r (omega arith) (row-on f R k m r (d .row))))
