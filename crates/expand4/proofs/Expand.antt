@@ -11,13 +11,14 @@ use Rattle.state.specs.Bytes.{stateByte}
 use Rattle.xoodoo.specs.Xoodoo.{perm}
 use Rattle.xoodoo.proofs.Facts.{perm-length}
 use Rattle.rolling.specs.Rolling.{rollOut}
-use Rattle.rolling.proofs.Facts.{rollOut-length}
-use Rattle.xoodoo4.specs.Four.{part, beside, four, each}
-use Rattle.xoodoo4.proofs.Four.{each-beside}
+use Rattle.xoodoo4.specs.Four.{part, beside, laid}
+use Rattle.xoodoo4.proofs.Four.{beside-part}
+use Rattle.rows.proofs.Rows.{rolling-out, RowFrom, row-laid}
 use Rattle.deck.specs.Deck.{iterate, outputBlock, outputByte, run}
 use Rattle.deck.proofs.Deck.{iterate-add}
 use Rattle.xoofff.specs.Leaves.{outputBlocks, Added}
 use Rattle.xoofff.proofs.Leaves.{added-none, added-on, added-part, added-all, blocks-of, no-blocks}
+use Rattle.expand4.specs.Four.{fourByte}
 
 -- ---- the output of a rolled state is the output from a later block on
 pub rolled-byte : (y k′ z : List ℕ) (i p k n : ℕ) → z ≡ iterate i rollOut y → p ≡ 48 * i → n ≡ p + k → outputByte z k′ k ≡ outputByte y k′ n
@@ -30,55 +31,34 @@ rolled-byte y k′ z i p k n ez ep en =
 
 -- ---- four blocks side by side
 
--- the states that they are made from
-pub four-rolled : (z : List ℕ) {z₁ z₂ z₃ z₄ : List ℕ} → z₁ ≡ rollOut z → z₂ ≡ rollOut z₁ → z₃ ≡ rollOut z₂ → z₄ ≡ rollOut z₃ → z₄ ≡ iterate 4 rollOut z
-unfolding iterate
-four-rolled z e₁ e₂ e₃ e₄ = e₄ ∙ ap rollOut (e₃ ∙ ap rollOut (e₂ ∙ ap rollOut e₁))
-
 -- byte k of block j
-part-byte : (z k′ w : List ℕ) (j k : ℕ) → part j w ≡ perm (iterate j rollOut z) → k < 48 → stateByte (sum (part j w) k′) k ≡ outputByte z k′ (48 * j + k)
-unfolding outputByte outputBlock
-part-byte z k′ w j k e h =
+part-byte : (f : ℕ → List ℕ) (k′ w : List ℕ) (j k : ℕ) → part j w ≡ perm (f j) → k < 48 → stateByte (sum (part j w) k′) k ≡ fourByte f k′ (48 * j + k)
+part-byte f k′ w j k e h =
     let q : j ≡ (48 * j + k) / 48 = omega arith in
     let r : k ≡ (48 * j + k) % 48 = omega arith in
-    ap₂ (λ (u : List ℕ) (m : ℕ). stateByte (sum u k′) m) (e ∙ ap (λ (i : ℕ). perm (iterate i rollOut z)) q) r
+    ap₂ (λ (u : List ℕ) (m : ℕ). stateByte (sum u k′) m) (e ∙ ap (λ (i : ℕ). perm (f i)) q) r
 
 -- added one after another
-pub four-added : (z k′ : List ℕ) (at : ℕ) {z₁ z₂ z₃ v w o o₁ o₂ o₃ o₄ : List ℕ} → length z ≡ 12
-    → z₁ ≡ rollOut z → z₂ ≡ rollOut z₁ → z₃ ≡ rollOut z₂ → v ≡ beside (four z z₁ z₂ z₃) → w ≡ each perm v
+pub four-added : (f : ℕ → List ℕ) (k′ : List ℕ) (at : ℕ) {w o o₁ o₂ o₃ o₄ : List ℕ} → w ≡ beside (λ j. perm (f j))
     → Added (stateByte (sum (part 0 w) k′)) at 48 o o₁ → Added (stateByte (sum (part 1 w) k′)) (at + 48) 48 o₁ o₂
     → Added (stateByte (sum (part 2 w) k′)) (at + 96) 48 o₂ o₃ → Added (stateByte (sum (part 3 w) k′)) (at + 144) 48 o₃ o₄
-    → Added (outputByte z k′) at 192 o o₄
-unfolding iterate
-four-added z k′ at {z₁} {z₂} {z₃} {v} {w} {o} {o₁} {o₂} {o₃} {o₄} h e₁ e₂ e₃ ev ew a₀ a₁ a₂ a₃ =
-    let b₀ = added-on f (g 0) at 0 at 48 o o o₁ (omega arith) (λ k l. part-byte z k′ w 0 k p₀ l) (added-none f at o) a₀ in
-    let b₁ = added-on f (g 1) at 48 (at + 48) 48 o o₁ o₂ refl (λ k l. part-byte z k′ w 1 k p₁ l) b₀ a₁ in
-    let b₂ = added-on f (g 2) at 96 (at + 96) 48 o o₂ o₃ refl (λ k l. part-byte z k′ w 2 k p₂ l) b₁ a₂ in
-    added-on f (g 3) at 144 (at + 144) 48 o o₃ o₄ refl (λ k l. part-byte z k′ w 3 k p₃ l) b₂ a₃
+    → Added (fourByte f k′) at 192 o o₄
+four-added f k′ at {w} {o} {o₁} {o₂} {o₃} {o₄} e a₀ a₁ a₂ a₃ =
+    let b₀ = added-on (fourByte f k′) (g 0) at 0 at 48 o o o₁ (omega arith) (λ k l. part-byte f k′ w 0 k (p 0 (lit< tt)) l) (added-none (fourByte f k′) at o) a₀ in
+    let b₁ = added-on (fourByte f k′) (g 1) at 48 (at + 48) 48 o o₁ o₂ refl (λ k l. part-byte f k′ w 1 k (p 1 (lit< tt)) l) b₀ a₁ in
+    let b₂ = added-on (fourByte f k′) (g 2) at 96 (at + 96) 48 o o₂ o₃ refl (λ k l. part-byte f k′ w 2 k (p 2 (lit< tt)) l) b₁ a₂ in
+    added-on (fourByte f k′) (g 3) at 144 (at + 144) 48 o o₃ o₄ refl (λ k l. part-byte f k′ w 3 k (p 3 (lit< tt)) l) b₂ a₃
   where
-    f : ℕ → ℕ
-    f = outputByte z k′
-
     g : ℕ → ℕ → ℕ
     g j = stateByte (sum (part j w) k′)
 
-    s : ℕ → List ℕ
-    s = four z z₁ z₂ z₃
+    p : (j : ℕ) → j < 4 → part j w ≡ perm (f j)
+    p j l = ap (part j) e ∙ beside-part (λ i. perm (f i)) j l (perm-length _)
 
-    at-part : (j : ℕ) → j < 4 → length (s j) ≡ 12 → part j w ≡ perm (s j)
-    at-part j l n = ap (part j) (ew ∙ ap (each perm) ev) ∙ each-beside perm perm-length s j l n
-
-    p₀ : part 0 w ≡ perm (iterate 0 rollOut z)
-    p₀ = at-part 0 (lit< tt) h
-
-    p₁ : part 1 w ≡ perm (iterate 1 rollOut z)
-    p₁ = at-part 1 (lit< tt) (ap length e₁ ∙ rollOut-length z) ∙ ap perm e₁
-
-    p₂ : part 2 w ≡ perm (iterate 2 rollOut z)
-    p₂ = at-part 2 (lit< tt) (ap length e₂ ∙ rollOut-length z₁) ∙ ap perm (e₂ ∙ ap rollOut e₁)
-
-    p₃ : part 3 w ≡ perm (iterate 3 rollOut z)
-    p₃ = at-part 3 (lit< tt) (ap length e₃ ∙ rollOut-length z₂) ∙ ap perm (e₃ ∙ ap rollOut (e₂ ∙ ap rollOut e₁))
+-- of states that are rolled one after another: the output from the first of them on
+four-byte : (f : ℕ → List ℕ) (z k′ : List ℕ) (k : ℕ) → f (k / 48) ≡ iterate (k / 48) rollOut z → fourByte f k′ k ≡ outputByte z k′ k
+unfolding outputByte outputBlock
+four-byte f z k′ k e = ap (λ (u : List ℕ). stateByte (sum (perm u) k′) (k % 48)) e
 
 -- ---- counts
 
@@ -110,27 +90,28 @@ blocks-skip i (suc n) = omega (arith, blocks-of (i % 48) (suc n) (omega arith), 
 pub same-added : (at n : ℕ) {l m o o′ : List ℕ} → l ≡ m → Added (stateByte l) at n o o′ → Added (stateByte m) at n o o′
 same-added at n {o = o} {o′ = o′} e a = subst (λ (l : List ℕ). Added (stateByte l) at n o o′) e a
 
--- ---- groups of four blocks: the first n bytes of the buffer have their sums, and z is the state that the next block is made from
-pub record Groups (y k′ o : List ℕ) (n : ℕ) (z o′ : List ℕ) : Type 0 where
+-- ---- groups of four blocks: the first n bytes of the buffer have their sums
+pub record Groups (y k′ o : List ℕ) (n : ℕ) (o′ : List ℕ) : Type 0 where
+  pub fits : n ≤ length o
   pub whole : n % 192 ≡ 0
-  pub rolled : z ≡ iterate (n / 48) rollOut y
   pub added : Added (λ k. outputByte y k′ (0 + k)) 0 n o o′
 
-pub groups-none : (y k′ o : List ℕ) → Groups y k′ o 0 y o
-unfolding iterate
-groups-none y k′ o = record { whole = refl; rolled = refl; added = added-none (λ k. outputByte y k′ (0 + k)) 0 o }
+pub groups-none : (y k′ o : List ℕ) → Groups y k′ o 0 o
+groups-none y k′ o = record { fits = omega arith; whole = refl; added = added-none (λ k. outputByte y k′ (0 + k)) 0 o }
 
-pub groups-more : (y k′ o : List ℕ) (n : ℕ) (z o′ : List ℕ) {t o″ : List ℕ} → t ≡ iterate 4 rollOut z → Added (outputByte z k′) n 192 o′ o″
-    → Groups y k′ o n z o′ → Groups y k′ o (n + 192) t o″
-groups-more y k′ o n z o′ {t} {o″} et a d =
+pub groups-more : (y k′ o : List ℕ) (n m : ℕ) (o′ r : List ℕ) {o″ : List ℕ} → n + 192 ≤ length o → RowFrom rollOut (iterate (n / 48) rollOut y) m 16 r
+    → Added (fourByte (laid m 3 1 r) k′) n 192 o′ o″ → Groups y k′ o n o′ → Groups y k′ o (n + 192) o″
+groups-more y k′ o n m o′ r {o″} h row a d =
     let w : n % 192 ≡ 0 = d .whole in
-    let i : n / 48 + 4 ≡ (n + 192) / 48 = omega arith in
+    let z : List ℕ = iterate (n / 48) rollOut y in
     record {
+      fits = h;
       whole = omega arith;
-      rolled = et ∙ ap (iterate 4 rollOut) (d .rolled) ∙ sym (iterate-add rollOut (n / 48) 4 y) ∙ ap (λ (j : ℕ). iterate j rollOut y) i;
       added =
-          added-on (λ k. outputByte y k′ (0 + k)) (outputByte z k′) 0 n n 192 o o′ o″ (sym (zero-add n))
-          (λ k l. rolled-byte y k′ z (n / 48) n k (0 + (n + k)) (d .rolled) (omega arith) (omega arith)) (d .added) a;
+          added-on (λ k. outputByte y k′ (0 + k)) (fourByte (laid m 3 1 r) k′) 0 n n 192 o o′ o″ (sym (zero-add n))
+          (λ k l.
+          four-byte (laid m 3 1 r) z k′ k (row-laid rollOut rolling-out z m 16 (k / 48) r (omega arith) row)
+          ∙ rolled-byte y k′ z (n / 48) n k (0 + (n + k)) refl (omega arith) (omega arith)) (d .added) a;
     }
 
 -- ---- a part of the buffer, lent and back: its k bytes from place a on have their sums
@@ -150,13 +131,13 @@ part-added f i a k o {e} h ee =
 
 -- ---- the groups and the leftover
 
-pub groups-all : (y k′ o : List ℕ) (n m : ℕ) (z o′ : List ℕ) {o″ : List ℕ} → n + m ≡ length o → Groups y k′ o n z o′
+pub groups-all : (y k′ o : List ℕ) (n m : ℕ) (z o′ : List ℕ) {o″ : List ℕ} → n + m ≡ length o → z ≡ iterate (n / 48) rollOut y → Groups y k′ o n o′
     → Added (λ j. outputByte z k′ (0 + j)) n m o′ o″ → o″ ≡ sum o (run (outputByte y k′) 0 (length o))
-groups-all y k′ o n m z o′ {o″} h d a =
+groups-all y k′ o n m z o′ {o″} h ez d a =
     let w : n % 192 ≡ 0 = d .whole in
     added-all (λ k. outputByte y k′ (0 + k)) (n + m) o o″ h
     (added-on (λ k. outputByte y k′ (0 + k)) (λ j. outputByte z k′ (0 + j)) 0 n n m o o′ o″ (sym (zero-add n))
-    (λ k l. rolled-byte y k′ z (n / 48) n (0 + k) (0 + (n + k)) (d .rolled) (omega arith) (omega arith)) (d .added) a)
+    (λ k l. rolled-byte y k′ z (n / 48) n (0 + k) (0 + (n + k)) ez (omega arith) (omega arith)) (d .added) a)
 
 -- the leftover's blocks, and all
 pub rest-blocks : (n : ℕ) (o : List ℕ) {c : ℕ} → n ≤ length o → c ≡ outputBlocks 0 (length (take (length o - n) (drop n o))) → c ≡ outputBlocks 0 (length o - n)

@@ -194,6 +194,10 @@ pub row-start : (f : List ℕ → List ℕ) → Rolling f → (k : List ℕ) {r 
 row-start f R k h w e g =
     subst (λ (l : List ℕ). RowFrom f k 0 16 l) (sym (g ∙ ap (appended f 0) e)) (row-appended f R k 0 (begun 12 k (replicate 80 0)) (omega arith) (row-begun f R k (replicate 80 0) h w refl))
 
+-- the state that it begins with is the one that it was made of
+pub row-own : (f : List ℕ → List ℕ) → Rolling f → (k r : List ℕ) → RowFrom f k 0 16 r → RowFrom f (stateAt 0 r) 0 16 r
+row-own f R k r d = subst (λ (x : List ℕ). RowFrom f x 0 16 r) (sym (row-state f R k 0 16 r (omega arith) d)) d
+
 -- ---- a row starts again
 
 pub moved-none : (r : List ℕ) → moved 0 r ≡ r
