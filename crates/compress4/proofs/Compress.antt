@@ -32,9 +32,20 @@ use Rattle.deck.proofs.Deck.{closed-growth}
 use Rattle.deck.proofs.Incremental.{append-front}
 use Rattle.xoofff.specs.declared.Compressed.{Compressed}
 use Rattle.xoofff.specs.Leaves.{compressed}
-use Rattle.compress4.specs.Four.{blockAt, addFour, after, blockMore, fourMore}
+use Rattle.compress4.specs.Four.{blockAt, addFour}
 
 -- ---- blocks one after another
+
+-- the state after one more full block: the block with the mask, permuted, is added, the mask is rolled, and the index is one higher
+abbrev blockMore : DeckState → List ℕ → DeckState
+blockMore d b = record { acc = sum (d .acc) (perm (sum b (d .mask))); mask = rollIn (d .mask); index = d .index + 1 }
+
+-- the state after the four full blocks of s from byte `at` on, one after another
+fourMore : DeckState → (s : List ℕ) (at : ℕ) → DeckState
+fourMore d s at =
+    blockMore
+    (blockMore (blockMore (blockMore d (fromBytes (drop at s))) (fromBytes (drop (at + 48) s))) (fromBytes (drop (at + 96) s)))
+    (fromBytes (drop (at + 144) s))
 
 -- the bytes after the first 48 are not looked at
 front-only : (l : List ℕ) → fromBytes (take 48 l) ≡ fromBytes l
@@ -56,7 +67,7 @@ block-append d s p q f h e =
     ∙ ap₂ (λ (v t : List ℕ). append (blockMore d v) (framed t f)) (front-only l) r
 
 -- four of them
-pub four-append : (d : DeckState) (s : List ℕ) (at : ℕ) (f : List Bool) → at + 192 ≤ length s
+four-append : (d : DeckState) (s : List ℕ) (at : ℕ) (f : List Bool) → at + 192 ≤ length s
     → append d (framed (drop at s) f) ≡ append (fourMore d s at) (framed (drop (at + 192) s) f)
 unfolding fourMore
 four-append d s at f h =
@@ -142,6 +153,10 @@ none-added x h =
     ∙ ap (λ (t : List ℕ). sum t (replicate 12 0)) e ∙ e
 
 -- ---- a string's first `at` bytes, whole groups: what their results sum up to, and the state after them
+
+-- the state after the first `at` bytes of a string, whole blocks whose results sum up to these sums
+abbrev pub after : DeckState → (sums : List ℕ) (at : ℕ) → DeckState
+after d sums at = record { acc = addFour (d .acc) sums; mask = iterate (at / 48) rollIn (d .mask); index = d .index + at / 48 }
 
 pub record Taken (d : DeckState) (s : List ℕ) (c : ℕ) (sums : List ℕ) (at : ℕ) : Type 0 where
   pub fits : at ≤ length s

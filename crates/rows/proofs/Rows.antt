@@ -49,12 +49,12 @@ rolling-out = record { size = λ k. lanes-length _; words = λ k. lanes-words _;
 
 -- ---- the words of a state that is rolled again and again
 module _ (f : List ℕ → List ℕ) (R : Rolling f) where
-  pub rolled-words : (n : ℕ) (k : List ℕ) → Words 32 k → Words 32 (iterate n f k)
+  rolled-words : (n : ℕ) (k : List ℕ) → Words 32 k → Words 32 (iterate n f k)
   unfolding iterate
   rolled-words zero k w = w
   rolled-words (suc n) k w = R .words (iterate n f k)
 
-  pub rolled-size : (n : ℕ) (k : List ℕ) → length k ≡ 12 → length (iterate n f k) ≡ 12
+  rolled-size : (n : ℕ) (k : List ℕ) → length k ≡ 12 → length (iterate n f k) ≡ 12
   unfolding iterate
   rolled-size zero k h = h
   rolled-size (suc n) k h = R .size (iterate n f k)
@@ -114,7 +114,7 @@ module _ (f : List ℕ → List ℕ) (R : Rolling f) (k : List ℕ) where
       ∙ sym (lane-word f R (iterate i f k) (rolled-words f R i k w) 11 11 (lit< tt) refl)
       ∙ ap (λ (x : List ℕ). getD x 0 0) (sym (iterate-add f i 11 k)) ∙ ap (λ (x : ℕ). getD (iterate x f k) 0 0) (sym e)
 
-  pub row-appended : (n : ℕ) (r : List ℕ) → n + 16 ≤ 80 → RowFrom f k n 12 r → RowFrom f k n 16 (appended f n r)
+  row-appended : (n : ℕ) (r : List ℕ) → n + 16 ≤ 80 → RowFrom f k n 12 r → RowFrom f k n 16 (appended f n r)
   unfolding appended
   row-appended n r h d =
       let s : stateAt n r ≡ k = row-state n 12 r (omega arith) d in
@@ -124,7 +124,7 @@ module _ (f : List ℕ → List ℕ) (R : Rolling f) (k : List ℕ) where
       (row-word n 12 _ _ (omega arith) (last-word n 1 12 r (d .fits) refl s) d)))
 
   -- the words of the state that was rolled four times
-  pub row-on : (n : ℕ) (r : List ℕ) → RowFrom f k n 16 r → RowFrom f (iterate 4 f k) (n + 4) 12 r
+  row-on : (n : ℕ) (r : List ℕ) → RowFrom f k n 16 r → RowFrom f (iterate 4 f k) (n + 4) 12 r
   row-on n r d =
       record {
         lanes = rolled-size f R 4 k (d .lanes);
@@ -208,7 +208,7 @@ pub moved-more : (i : ℕ) (r : List ℕ) → moved (i + 1) r ≡ set (moved i r
 unfolding moved
 moved-more i r = ap (λ (n : ℕ). moved n r) (add-one i)
 
-pub moved-length : (i : ℕ) (r : List ℕ) → length (moved i r) ≡ length r
+moved-length : (i : ℕ) (r : List ℕ) → length (moved i r) ≡ length r
 unfolding moved
 moved-length zero r = refl
 moved-length (suc i) r = length-set (moved i r) i (getD r (64 + i) 0) ∙ moved-length i r

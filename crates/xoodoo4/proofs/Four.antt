@@ -8,7 +8,6 @@ use native.Mathlib.Decide.{decLe}
 use native.Mathlib.Nat.{mul-comm, mul-le-mul-left}
 use native.Mathlib.Numerals.{add-one}
 use native.Mathlib.Omega.{arith}
-use lib.Dec.{lit<}
 use lib.ListN.{length, getD, set, drop, length-set}
 use lib.Bits.{bitXor}
 use lib.Seq.{getD-set-same, getD-set-other}
@@ -72,14 +71,14 @@ part-at : (j : ℕ) (w : List ℕ) (i : ℕ) → i < 12 → getD (part j w) i 0 
 unfolding part
 part-at j w i h = tabulate-at 12 _ i h
 
-pub put-same : (j : ℕ) (s w : List ℕ) → j < 4 → length s ≡ 12 → length w ≡ 48 → part j (put 12 j s w) ≡ s
+put-same : (j : ℕ) (s w : List ℕ) → j < 4 → length s ≡ 12 → length w ≡ 48 → part j (put 12 j s w) ≡ s
 put-same j s w hj hs hw = sym (is-part j s (put 12 j s w) hs (λ i h. sym (put-here 12 j s w hj (omega arith) hw i h)))
 
-pub put-other : (j k : ℕ) (s w : List ℕ) → j < 4 → k < 4 → (k ≡ j → ⊥) → part k (put 12 j s w) ≡ part k w
+put-other : (j k : ℕ) (s w : List ℕ) → j < 4 → k < 4 → (k ≡ j → ⊥) → part k (put 12 j s w) ≡ part k w
 put-other j k s w hj hk ne =
     is-part k (part k (put 12 j s w)) w (part-length k (put 12 j s w)) (λ i h. part-at k (put 12 j s w) i h ∙ put-rest 12 j s w k hj hk ne i)
 
-pub put-all : (j : ℕ) (s w : List ℕ) → length w ≡ 48 → length (put 12 j s w) ≡ 48
+put-all : (j : ℕ) (s w : List ℕ) → length w ≡ 48 → length (put 12 j s w) ≡ 48
 put-all j s w h = put-length 12 j s w ∙ h
 
 pub beside-part : (f : ℕ → List ℕ) (j : ℕ) → j < 4 → length (f j) ≡ 12 → part j (beside f) ≡ f j
@@ -93,7 +92,7 @@ beside-part f j hj hf = sym (is-part j (f j) (beside f) hf at)
         ap₂ (λ (k m : ℕ). getD (f k) m 0) r q ∙ sym (tabulate-at 48 (λ n. getD (f (n % 4)) (n / 4) 0) (4 * i + j) (omega arith))
 
 -- 48 lanes by their four states
-pub is-beside : (f : ℕ → List ℕ) (w : List ℕ) → length w ≡ 48 → ((j : ℕ) → j < 4 → part j w ≡ f j) → w ≡ beside f
+is-beside : (f : ℕ → List ℕ) (w : List ℕ) → length w ≡ 48 → ((j : ℕ) → j < 4 → part j w ≡ f j) → w ≡ beside f
 unfolding beside
 is-beside f w h e = tabulate-is 48 _ w h at
   where
@@ -120,18 +119,9 @@ beside-filled f w h d = tabulate-is 48 (besideLane f) w h d
 
 -- ---- steps done to each of the four
 
-pub each-part : (F : List ℕ → List ℕ) → ((l : List ℕ) → length (F l) ≡ 12) → (j : ℕ) (w : List ℕ) → j < 4 → part j (each F w) ≡ F (part j w)
+each-part : (F : List ℕ → List ℕ) → ((l : List ℕ) → length (F l) ≡ 12) → (j : ℕ) (w : List ℕ) → j < 4 → part j (each F w) ≡ F (part j w)
 unfolding each
 each-part F h j w l = beside-part (λ j. F (part j w)) j l (h (part j w))
-
--- done to four states that were put side by side
-pub each-beside : (F : List ℕ → List ℕ) → ((l : List ℕ) → length (F l) ≡ 12) → (f : ℕ → List ℕ) (j : ℕ) → j < 4 → length (f j) ≡ 12
-    → part j (each F (beside f)) ≡ F (f j)
-each-beside F h f j l hf = each-part F h j (beside f) l ∙ ap F (beside-part f j l hf)
-
-pub each-length : (F : List ℕ → List ℕ) (w : List ℕ) → length (each F w) ≡ 48
-unfolding each beside
-each-length F w = tabulate-length 48 _
 
 -- F of t's states is G of w's
 each-ext : (F G : List ℕ → List ℕ) (t w : List ℕ) → ((j : ℕ) → j < 4 → F (part j t) ≡ G (part j w)) → each F t ≡ each G w
@@ -139,7 +129,7 @@ unfolding each beside
 each-ext F G t w e = tabulate-ext 48 _ _ (λ n h. ap (λ (s : List ℕ). getD s (n / 4) 0) (e (n % 4) (omega arith)))
 
 -- 48 lanes whose states are F of w's
-pub is-each : (F : List ℕ → List ℕ) (w r : List ℕ) → length r ≡ 48 → ((j : ℕ) → j < 4 → part j r ≡ F (part j w)) → r ≡ each F w
+is-each : (F : List ℕ → List ℕ) (w r : List ℕ) → length r ≡ 48 → ((j : ℕ) → j < 4 → part j r ≡ F (part j w)) → r ≡ each F w
 unfolding each
 is-each F w r h e = is-beside (λ j. F (part j w)) r h e
 
@@ -277,9 +267,19 @@ summed-all o s k w e ho hs d =
 
 -- ---- four permutations side by side
 
+-- 48 lanes are four states side by side just where each of them is the state of its place
+beside-exactly : (f : ℕ → List ℕ) → ((j : ℕ) → length (f j) ≡ 12) → (r : List ℕ) → (r ≡ beside f) ↔ ((length r ≡ 48) × ((j : ℕ) → j < 4 → part j r ≡ f j))
+beside-exactly f h r = (
+  λ e. (ap length e ∙ beside-length f, λ j l. ap (part j) e ∙ beside-part f j l (h j)),
+  λ g. is-beside f r (g .0) (g .1),
+)
+
 -- what the contract of `permute_four` says, state by state: state j of the result is the permutation of state j, for each j below 4, and nothing else is
 pub four-permuted : (w r : List ℕ) → (r ≡ each perm w) ↔ ((length r ≡ 48) × ((j : ℕ) → j < 4 → part j r ≡ perm (part j w)))
-four-permuted w r = (
-  λ e. (ap length e ∙ each-length perm w, λ j l. ap (part j) e ∙ each-part perm perm-length j w l),
-  λ h. is-each perm w r (h .0) (h .1),
-)
+unfolding each
+four-permuted w r = beside-exactly (λ j. perm (part j w)) (λ j. perm-length _) r
+
+-- and what `permute_into` puts into 48 lanes, or adds to them
+pub laid-exactly : (n dx dy : ℕ) (a r : List ℕ)
+    → (r ≡ beside (λ j. perm (laid n dx dy a j))) ↔ ((length r ≡ 48) × ((j : ℕ) → j < 4 → part j r ≡ perm (laid n dx dy a j)))
+laid-exactly n dx dy a r = beside-exactly (λ j. perm (laid n dx dy a j)) (λ j. perm-length _) r

@@ -15,8 +15,8 @@ use Rattle.deck.specs.Closing.{closedBy}
 use Rattle.deck.specs.declared.DeckState.{DeckState}
 use Rattle.rows.proofs.Rows.{rolling-in, rolled-on, RowFrom, row-state, row-start, row-renewed, row-next}
 use Rattle.xoofff.specs.Leaves.{compressed}
-use Rattle.compress4.specs.Four.{addFour, after}
-use Rattle.compress4.proofs.Compress.{Taken, taken-none, taken-more, rest-count, rest-index, rest-compressed}
+use Rattle.compress4.specs.Four.{addFour}
+use Rattle.compress4.proofs.Compress.{Taken, after, taken-none, taken-more, rest-count, rest-index, rest-compressed}
 use Rattle.compress4.proofs.compress_four.Statement.{statement}
 use Rattle.compress4.proofs.compress_four.Tie as tie
 
