@@ -83,9 +83,9 @@ pub fn compress_four(d: DeckState, s: &[u8], closing: u8) -> Compressed
     let mut at: usize = 0;
     while 192 <= s.len() - at {
         let m = rows::renew(&mut row, n);
-        add_group(&mut sums, s, at, &row, m);
         n = m + 4;
         rows::append_in(&mut row, n);
+        add_group(&mut sums, s, at, &row, m);
         at += 192;
     }
     let acc = add_four(x, &sums);

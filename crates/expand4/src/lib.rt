@@ -51,9 +51,9 @@ fn expand_groups(y: [u32; 12], mask: &[u32; 12], out: &mut [u8]) -> u32
     let mut at: usize = 0;
     while 192 <= out.len() - at {
         let m = rows::renew(&mut row, n);
-        four_out(&mut w, &row, m, &k, at, out);
         n = m + 4;
         rows::append_out(&mut row, n);
+        four_out(&mut w, &row, m, &k, at, out);
         at += 192;
     }
     let z = rows::state_at(&row, n);

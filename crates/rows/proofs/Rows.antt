@@ -280,3 +280,20 @@ row-next f R k m r {k′} d g e =
     let s : m + 20 ≤ 80 = d .room in
     subst (λ (l : List ℕ). RowFrom f k′ (m + 4) 16 l) (sym e)
     (subst (λ (l : List ℕ). RowFrom f l (m + 4) 16 (appended f (m + 4) r)) g (row-appended f R (iterate 4 f k) (m + 4) r (omega arith) (row-on f R k m r (d .row))))
+
+-- and the row still has the four before them
+kept-before : (r : List ℕ) (n p a b c d : ℕ) → p < n + 12 → getD (set (set (set (set r (n + 12) a) (n + 13) b) (n + 14) c) (n + 15) d) p 0 ≡ getD r p 0
+kept-before r n p a b c d h =
+    getD-set-other (set (set (set r (n + 12) a) (n + 13) b) (n + 14) c) (n + 15) p d 0 (λ g. omega (arith, g))
+    ∙ getD-set-other (set (set r (n + 12) a) (n + 13) b) (n + 14) p c 0 (λ g. omega (arith, g))
+    ∙ getD-set-other (set r (n + 12) a) (n + 13) p b 0 (λ g. omega (arith, g)) ∙ getD-set-other r (n + 12) p a 0 (λ g. omega (arith, g))
+
+pub row-kept : (f : List ℕ → List ℕ) (k : List ℕ) (m : ℕ) (r : List ℕ) {r′ : List ℕ} → Renewed f k m r → r′ ≡ appended f (m + 4) r → RowFrom f k m 16 r′
+unfolding appended
+row-kept f k m r {r′} d e =
+    record {
+      lanes = d .row .lanes;
+      fits = d .row .fits;
+      size = ap length e ∙ simp length-set (d .row .size);
+      words = λ q l. ap (λ (x : List ℕ). getD x (m + q) 0) e ∙ kept-before r (m + 4) (m + q) _ _ _ _ (omega arith) ∙ d .row .words q l;
+    }

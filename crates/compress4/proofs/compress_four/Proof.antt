@@ -13,7 +13,7 @@ use Rattle.rolling.specs.Rolling.{rollIn}
 use Rattle.deck.specs.Deck.{iterate}
 use Rattle.deck.specs.Closing.{closedBy}
 use Rattle.deck.specs.declared.DeckState.{DeckState}
-use Rattle.rows.proofs.Rows.{rolling-in, rolled-on, RowFrom, row-state, row-start, row-renewed, row-next}
+use Rattle.rows.proofs.Rows.{rolling-in, rolled-on, RowFrom, row-state, row-start, row-renewed, row-next, row-kept}
 use Rattle.xoofff.specs.Leaves.{compressed}
 use Rattle.compress4.specs.Four.{addFour}
 use Rattle.compress4.proofs.Compress.{Taken, after, taken-none, taken-more, rest-count, rest-index, rest-compressed}
@@ -40,26 +40,26 @@ loop-holds c =
     let w : Words 32 k = λ i. fits-of (search needs) in
     (omega arith, refl, taken-none (a .d) (now (a .s)) (a .closing) (search needs), row-start rollIn rolling-in k h w (c .before .before .row-of .ensures) (c .append-in .ensures))
 
-add-group-requires : tie.Need-add-group-requires Inv-loop μ-loop
-add-group-requires c κs =
-    let l = c .before .before .before .before .before .loop in
-    let d = c .before .before .before .before .before .before .before .before .before .before .before .before .args .d in
-    let v = row-renewed rollIn (iterate (l .at / 48) rollIn (d .mask)) (l .n) (l .row) (l .inv .0) (l .inv .1) (c .before .before .renew .ensures .0) (c .before .before .renew .ensures .1) (l .inv .3) in
-    (l .inv .2 .size, omega (arith, l .inv .2 .fits), omega (arith, v .room))
-
 add-n : tie.Need-add-n Inv-loop μ-loop
 add-n c =
-    let l = c .before .before .before .before .before .before .loop in
-    let d = c .before .before .before .before .before .before .before .before .before .before .before .before .before .args .d in
-    let v = row-renewed rollIn (iterate (l .at / 48) rollIn (d .mask)) (l .n) (l .row) (l .inv .0) (l .inv .1) (c .before .before .before .renew .ensures .0) (c .before .before .before .renew .ensures .1) (l .inv .3) in
+    let l = c .before .before .before .loop in
+    let d = c .before .before .before .before .before .before .before .before .before .before .args .d in
+    let v = row-renewed rollIn (iterate (l .at / 48) rollIn (d .mask)) (l .n) (l .row) (l .inv .0) (l .inv .1) (c .renew .ensures .0) (c .renew .ensures .1) (l .inv .3) in
     omega (arith, v .room)
 
 append-in-requires-2 : tie.Need-append-in-requires-2 Inv-loop μ-loop
 append-in-requires-2 c κs =
+    let l = c .before .before .before .before .loop in
+    let d = c .before .before .before .before .before .before .before .before .before .before .before .args .d in
+    let v = row-renewed rollIn (iterate (l .at / 48) rollIn (d .mask)) (l .n) (l .row) (l .inv .0) (l .inv .1) (c .before .renew .ensures .0) (c .before .renew .ensures .1) (l .inv .3) in
+    omega (arith, v .room)
+
+add-group-requires : tie.Need-add-group-requires Inv-loop μ-loop
+add-group-requires c κs =
     let l = c .before .before .before .before .before .before .before .loop in
     let d = c .before .before .before .before .before .before .before .before .before .before .before .before .before .before .args .d in
     let v = row-renewed rollIn (iterate (l .at / 48) rollIn (d .mask)) (l .n) (l .row) (l .inv .0) (l .inv .1) (c .before .before .before .before .renew .ensures .0) (c .before .before .before .before .renew .ensures .1) (l .inv .3) in
-    omega (arith, v .room)
+    (l .inv .2 .size, omega (arith, l .inv .2 .fits), omega (arith, v .room))
 
 loop-again : tie.Need-loop-again Inv-loop μ-loop
 loop-again c =
@@ -70,8 +70,8 @@ loop-again c =
     let m = c .before .before .before .before .before .renew .result in (
       omega (arith, v .room),
       omega (arith, v .whole),
-      taken-more d (now (a .s)) (a .closing) (l .sums) (l .at) m _ (omega (arith, l .inv .2 .fits)) (v .row) (c .before .before .add-group .ensures) (l .inv .2),
-      row-next rollIn rolling-in (iterate (l .at / 48) rollIn (d .mask)) m _ v (rolled-on rollIn (d .mask) (l .at) (l .inv .2 .whole)) (c .append-in2 .ensures),
+      taken-more d (now (a .s)) (a .closing) (l .sums) (l .at) m _ (omega (arith, l .inv .2 .fits)) (row-kept rollIn (iterate (l .at / 48) rollIn (d .mask)) m _ v (c .before .before .before .append-in2 .ensures)) (c .add-group .ensures) (l .inv .2),
+      row-next rollIn rolling-in (iterate (l .at / 48) rollIn (d .mask)) m _ v (rolled-on rollIn (d .mask) (l .at) (l .inv .2 .whole)) (c .before .before .before .append-in2 .ensures),
     )
 
 add-state : tie.Need-add-state Inv-loop μ-loop
@@ -100,4 +100,4 @@ returns c =
     (r .ensures ∙ λ t. compressed (aside (p t) (q t)) (closedBy (take (length s - l .at) (drop (l .at) s)) (a .closing)))
 
 pub compress-four-spec : {M : Type 1} → statement M
-compress-four-spec = tie.close (tie.spec Inv-loop μ-loop (λ c κs. search needs) (λ c κs. search needs) loop-holds (λ c. omega arith) (λ c κs. search needs) add-group-requires add-n append-in-requires-2 (λ c. omega arith) (λ c. omega arith) loop-again (λ c κs. search needs) (λ c κs. search needs) (λ c. omega arith) (λ c. omega arith) (λ c. omega arith) (λ c. omega arith) (λ c. omega arith) (λ c κs. search needs) add-state (λ c. omega arith) add-count returns)
+compress-four-spec = tie.close (tie.spec Inv-loop μ-loop (λ c κs. search needs) (λ c κs. search needs) loop-holds (λ c. omega arith) (λ c κs. search needs) add-n append-in-requires-2 add-group-requires (λ c. omega arith) (λ c. omega arith) loop-again (λ c κs. search needs) (λ c κs. search needs) (λ c. omega arith) (λ c. omega arith) (λ c. omega arith) (λ c. omega arith) (λ c. omega arith) (λ c κs. search needs) add-state (λ c. omega arith) add-count returns)

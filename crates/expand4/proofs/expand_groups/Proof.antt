@@ -15,7 +15,7 @@ use Rattle.deck.specs.Deck.{iterate, outputByte, run}
 use Rattle.xoofff.proofs.Leaves.{blocks-most}
 use Rattle.xoodoo4.proofs.Four.{beside-length}
 use Rattle.rows.specs.Row.{stateAt}
-use Rattle.rows.proofs.Rows.{rolling-out, rolled-on, RowFrom, row-state, row-start, row-own, row-renewed, row-next}
+use Rattle.rows.proofs.Rows.{rolling-out, rolled-on, RowFrom, row-state, row-start, row-own, row-renewed, row-next, row-kept}
 use Rattle.expand4.proofs.Expand.{Groups, groups-none, groups-more, groups-all, groups-count, part-added, rest-blocks}
 use Rattle.expand4.proofs.expand_groups.Statement.{statement}
 use Rattle.expand4.proofs.expand_groups.Tie as tie
@@ -36,23 +36,23 @@ loop-holds c =
     let r = row-start rollOut rolling-out (a .y) h w (c .before .before .row-of .ensures) (c .append-out .ensures) in
     (omega arith, refl, search needs, groups-none _ _ _, row-own rollOut rolling-out (a .y) _ r)
 
-four-out-requires : tie.Need-four-out-requires Inv-loop μ-loop
-four-out-requires c κs =
-    let l = c .before .before .before .before .before .before .before .loop in
-    let v = row-renewed rollOut (iterate (l .at / 48) rollOut (stateAt 0 (c .before .before .before .before .before .before .before .before .append-out .last .0))) (l .n) (l .row) (l .inv .0) (l .inv .1) (c .before .before .before .before .renew .ensures .0) (c .before .before .before .before .renew .ensures .1) (l .inv .4) in
-    (l .inv .2, omega (arith, v .room), omega (arith, l .inv .3 .added .size))
-
 add-n : tie.Need-add-n Inv-loop μ-loop
 add-n c =
-    let l = c .before .before .before .before .before .before .before .before .before .before .loop in
-    let v = row-renewed rollOut (iterate (l .at / 48) rollOut (stateAt 0 (c .before .before .before .before .before .before .before .before .before .before .before .append-out .last .0))) (l .n) (l .row) (l .inv .0) (l .inv .1) (c .before .before .before .before .before .before .before .renew .ensures .0) (c .before .before .before .before .before .before .before .renew .ensures .1) (l .inv .4) in
+    let l = c .before .before .before .loop in
+    let v = row-renewed rollOut (iterate (l .at / 48) rollOut (stateAt 0 (c .before .before .before .before .append-out .last .0))) (l .n) (l .row) (l .inv .0) (l .inv .1) (c .renew .ensures .0) (c .renew .ensures .1) (l .inv .4) in
     omega (arith, v .room)
 
 append-out-requires-2 : tie.Need-append-out-requires-2 Inv-loop μ-loop
 append-out-requires-2 c κs =
-    let l = c .before .before .before .before .before .before .before .before .before .before .before .loop in
-    let v = row-renewed rollOut (iterate (l .at / 48) rollOut (stateAt 0 (c .before .before .before .before .before .before .before .before .before .before .before .before .append-out .last .0))) (l .n) (l .row) (l .inv .0) (l .inv .1) (c .before .before .before .before .before .before .before .before .renew .ensures .0) (c .before .before .before .before .before .before .before .before .renew .ensures .1) (l .inv .4) in
+    let l = c .before .before .before .before .loop in
+    let v = row-renewed rollOut (iterate (l .at / 48) rollOut (stateAt 0 (c .before .before .before .before .before .append-out .last .0))) (l .n) (l .row) (l .inv .0) (l .inv .1) (c .before .renew .ensures .0) (c .before .renew .ensures .1) (l .inv .4) in
     omega (arith, v .room)
+
+four-out-requires : tie.Need-four-out-requires Inv-loop μ-loop
+four-out-requires c κs =
+    let l = c .before .before .before .before .before .before .before .before .before .loop in
+    let v = row-renewed rollOut (iterate (l .at / 48) rollOut (stateAt 0 (c .before .before .before .before .before .before .before .before .before .before .append-out .last .0))) (l .n) (l .row) (l .inv .0) (l .inv .1) (c .before .before .before .before .before .before .renew .ensures .0) (c .before .before .before .before .before .before .renew .ensures .1) (l .inv .4) in
+    (l .inv .2, omega (arith, v .room), omega (arith, l .inv .3 .added .size))
 
 loop-again : tie.Need-loop-again Inv-loop μ-loop
 loop-again c =
@@ -63,9 +63,9 @@ loop-again c =
     let m = c .before .before .before .before .before .before .before .before .before .renew .result in (
       omega (arith, v .room),
       omega (arith, v .whole),
-      ap length (c .before .before .before .before .four-out .ensures .0) ∙ beside-length _,
-      groups-more y (now (a .mask)) (now (a .out)) (l .at) m (l .out) _ (omega (arith, l .inv .3 .added .size)) (v .row) (c .before .before .before .before .four-out .ensures .1) (l .inv .3),
-      row-next rollOut rolling-out (iterate (l .at / 48) rollOut y) m _ v (rolled-on rollOut y (l .at) (l .inv .3 .whole)) (c .append-out2 .ensures),
+      ap length (c .before .before .four-out .ensures .0) ∙ beside-length _,
+      groups-more y (now (a .mask)) (now (a .out)) (l .at) m (l .out) _ (omega (arith, l .inv .3 .added .size)) (row-kept rollOut (iterate (l .at / 48) rollOut y) m _ v (c .before .before .before .before .before .before .before .append-out2 .ensures)) (c .before .before .four-out .ensures .1) (l .inv .3),
+      row-next rollOut rolling-out (iterate (l .at / 48) rollOut y) m _ v (rolled-on rollOut y (l .at) (l .inv .3 .whole)) (c .before .before .before .before .before .before .before .append-out2 .ensures),
     )
 
 add-result : tie.Need-add-result Inv-loop μ-loop
@@ -102,4 +102,4 @@ returns c =
     )
 
 pub expand-groups-spec : {M : Type 1} → statement M
-expand-groups-spec = tie.close (tie.spec Inv-loop μ-loop (λ c κs. search needs) (λ c κs. search needs) loop-holds (λ c. search needs) (λ c κs. search needs) four-out-requires add-n append-out-requires-2 (λ c. search needs) (λ c. search needs) loop-again (λ c κs. search needs) (λ c. search needs) (λ c. search needs) (λ c. search needs) (λ c κs. search needs) (λ c. search needs) add-result same-length returns)
+expand-groups-spec = tie.close (tie.spec Inv-loop μ-loop (λ c κs. search needs) (λ c κs. search needs) loop-holds (λ c. search needs) (λ c κs. search needs) add-n append-out-requires-2 four-out-requires (λ c. search needs) (λ c. search needs) loop-again (λ c κs. search needs) (λ c. search needs) (λ c. search needs) (λ c. search needs) (λ c κs. search needs) (λ c. search needs) add-result same-length returns)
