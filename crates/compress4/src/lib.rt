@@ -1,5 +1,5 @@
-// A second compression, which takes four full blocks with four masks side by side and adds the four results (document 02, request 10), and the
-// choice between it and the present one.
+// A second compression, which takes four full blocks with four masks side by side, sums the results of all such groups side by side and adds the four
+// sums at the end (document 02, request 10), and the choice between it and the present one.
 ghost use mathlib.Core.Path.{_≡_};
 ghost use Prim.Native.Nat.{_+_, _<_, _≤_};
 ghost use lib.ListN.{length};
@@ -39,7 +39,7 @@ fn add_row(w: [u32; 48], r: &[u32; 80], n: usize) -> [u32; 48]
     let mut t = [0u32; 48];
     let mut i: usize = 0;
     while i < 12 {
-        let p = n + 3 * (i % 4) + i / 4;
+        let p = 3 * (i % 4) + i / 4 + n;
         t[4 * i] = w[4 * i] ^ r[p];
         t[4 * i + 1] = w[4 * i + 1] ^ r[p + 1];
         t[4 * i + 2] = w[4 * i + 2] ^ r[p + 2];
@@ -90,7 +90,8 @@ pub fn compress_four(d: DeckState, s: &[u8], closing: u8) -> Compressed
     }
     let acc = add_four(x, &sums);
     let mask = rows::state_at(&row, n);
-    let before = d.index + (at / 48) as u32;
+    let taken = (at / 48) as u32;
+    let before = d.index + taken;
     let r = xoofff::compress(
         DeckState {
             acc,
@@ -102,7 +103,7 @@ pub fn compress_four(d: DeckState, s: &[u8], closing: u8) -> Compressed
     );
     let mut state = r.state;
     state.index += before;
-    let count = (at / 48) as u32 + r.count;
+    let count = taken + r.count;
     Compressed { state, count }
 }
 

@@ -21,7 +21,7 @@ use Rattle.xoofff.proofs.Leaves.{added-none, added-on, added-part, added-all, b
 use Rattle.expand4.specs.Four.{fourByte}
 
 -- ---- the output of a rolled state is the output from a later block on
-pub rolled-byte : (y k′ z : List ℕ) (i p k n : ℕ) → z ≡ iterate i rollOut y → p ≡ 48 * i → n ≡ p + k → outputByte z k′ k ≡ outputByte y k′ n
+rolled-byte : (y k′ z : List ℕ) (i p k n : ℕ) → z ≡ iterate i rollOut y → p ≡ 48 * i → n ≡ p + k → outputByte z k′ k ≡ outputByte y k′ n
 unfolding outputByte outputBlock
 rolled-byte y k′ z i p k n ez ep en =
     let q : i + k / 48 ≡ n / 48 = omega arith in
@@ -63,7 +63,7 @@ four-byte f z k′ k e = ap (λ (u : List ℕ). stateByte (sum (perm u) k′) (k
 -- ---- counts
 
 -- the output blocks of two runs, where the second starts a block or is empty
-pub blocks-split : (i m n : ℕ) → (0 < n → (i + m) % 48 ≡ 0) → outputBlocks i m + outputBlocks 0 n ≡ outputBlocks i (m + n)
+blocks-split : (i m n : ℕ) → (0 < n → (i + m) % 48 ≡ 0) → outputBlocks i m + outputBlocks 0 n ≡ outputBlocks i (m + n)
 blocks-split i zero zero h = omega (arith, no-blocks i, no-blocks 0)
 blocks-split i zero (suc n) h =
     let e : 0 + suc n ≡ suc n = omega arith in
@@ -76,12 +76,12 @@ blocks-split i (suc m) (suc n) h =
     omega (arith, a, blocks-of i (suc m) (omega arith), blocks-of 0 (suc n) (omega arith), blocks-of i (suc m + suc n) (omega arith))
 
 -- whole blocks
-pub blocks-whole : (n : ℕ) → n % 48 ≡ 0 → outputBlocks 0 n ≡ n / 48
+blocks-whole : (n : ℕ) → n % 48 ≡ 0 → outputBlocks 0 n ≡ n / 48
 blocks-whole zero h = sym (no-blocks 0)
 blocks-whole (suc n) h = omega (arith, blocks-of 0 (suc n) (omega arith))
 
 -- the place in the block, and not the block, counts
-pub blocks-skip : (i n : ℕ) → outputBlocks (i % 48) n ≡ outputBlocks i n
+blocks-skip : (i n : ℕ) → outputBlocks (i % 48) n ≡ outputBlocks i n
 blocks-skip i zero = sym (no-blocks (i % 48)) ∙ no-blocks i
 blocks-skip i (suc n) = omega (arith, blocks-of (i % 48) (suc n) (omega arith), blocks-of i (suc n) (omega arith))
 

@@ -43,6 +43,7 @@ fn expand_groups(y: [u32; 12], mask: &[u32; 12], out: &mut [u8]) -> u32
     ensures { λ r. ⌜ (now (out .exit) ≡ sum (now (out .entry)) (run (outputByte y (now (mask .entry))) 0 (length (now (out .entry)))))
         × (r ≡ outputBlocks 0 (length (now (out .entry)))) ⌝ }
 {
+    // a copy, which no store to the buffer can alter: it is read once
     let k = *mask;
     let mut w = [0u32; 48];
     let mut row = rows::row_of(y);

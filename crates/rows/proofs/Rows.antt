@@ -11,7 +11,7 @@ use lib.ListN.{length, getD, set, replicate, length-set}
 use lib.Seq.{getD-set-same, getD-set-other}
 use borrow.Author.Tests.{lt-ltb, le-ltb}
 use Rattle.word.specs.Word.{bit}
-use Rattle.word.proofs.Bit.{is-own, is-more, is-word}
+use Rattle.word.proofs.Bit.{word-ext}
 use Rattle.word.proofs.Lists.{Words, Filled, filled-more, tabulate-is}
 use Rattle.state.specs.State.{State, bits, on}
 use Rattle.state.proofs.Lanes.{bits-of-lanes, lanes-words, lanes-length}
@@ -30,7 +30,7 @@ pub record Rolling (f : List ℕ → List ℕ) : Type 0 where
 
 -- words with the same bits
 same-word : {m n : ℕ} → m < 2 ^ 32 → n < 2 ^ 32 → ((z : ℕ) → z < 32 → bit m z ≡ bit n z) → m ≡ n
-same-word hm hn e = is-word (is-more (is-own hm) e) ∙ sym (is-word (is-own hn))
+same-word {m} {n} hm hn e = word-ext m 32 (bit n) hm e ∙ sym (word-ext n 32 (bit n) hn (λ z l. refl))
 
 -- what is moved on bits is moved on lanes
 lanes-moved : (F : State → State) (new : State → ℕ → Bool) → ((A : State) → Rolled A (F A) (new A))

@@ -1,5 +1,6 @@
 -- Rolled states as a row of words. A rolling drops s_0, moves each other lane one place down and appends one word (document 01, "Rolling"), so that
--- states which are rolled one after another are windows of one row: word n is s_0 of the state that was rolled n times. Assumes nothing.
+-- states which are rolled one after another are windows of one row, as those of a feedback shift register are of its sequence: word n is s_0 of the
+-- state that was rolled n times. Assumes nothing.
 use mathlib.Core.Bool.{cond}
 use mathlib.Core.List.{List}
 use Prim.Native.Nat.{ℕ, zero, suc, _+_, _*_, _/_, _%_}
@@ -34,7 +35,7 @@ unfoldable pub moved : ℕ → List ℕ → List ℕ
 moved zero r = r
 moved (suc i) r = set (moved i r) i (getD r (64 + i) 0)
 
--- a row that is used up at word n, the last sixteen words being the state's and four more, starts again
+-- a row that is used up, the state being at word 64, with four words after it, starts again
 abbrev pub renewed : ℕ → List ℕ → List ℕ
 renewed n r = cond (ltb n 64) r (moved 16 r)
 

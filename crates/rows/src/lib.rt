@@ -27,7 +27,7 @@ pub fn state_at(r: &[u32; 80], n: usize) -> [u32; 12]
     let mut k = [0u32; 12];
     let mut i: usize = 0;
     while i < 12 {
-        k[i] = r[n + 3 * (i % 4) + i / 4];
+        k[i] = r[3 * (i % 4) + i / 4 + n];
         i += 1;
     }
     k
@@ -65,7 +65,8 @@ pub fn append_out(r: &mut [u32; 80], n: usize)
     r[n + 15] = k4[11];
 }
 
-// Where the row is used up at word n, its last sixteen words become its first; gives where the state then stands.
+// Where the row is used up, the state at word n being its last one, its last sixteen words become its first; gives where the state then stands. From
+// word 64 on it is taken to be used up; callers go by four words and come to just that one.
 pub fn renew(r: &mut [u32; 80], n: usize) -> usize
     ensures { λ m. ⌜ (m ≡ renewedAt n) × (now (r .exit) ≡ renewed n (now (r .entry))) ⌝ }
 {

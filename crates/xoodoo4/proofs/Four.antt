@@ -117,6 +117,11 @@ pub beside-filled : (f : ℕ → List ℕ) (w : List ℕ) → length w ≡ 48 �
 unfolding beside
 beside-filled f w h d = tabulate-is 48 (besideLane f) w h d
 
+-- four other states, the same ones
+pub beside-ext : (f g : ℕ → List ℕ) → ((j : ℕ) → j < 4 → f j ≡ g j) → beside f ≡ beside g
+unfolding beside
+beside-ext f g e = tabulate-ext 48 _ _ (λ n l. ap (λ (s : List ℕ). getD s (n / 4) 0) (e (n % 4) (omega arith)))
+
 -- ---- steps done to each of the four
 
 each-part : (F : List ℕ → List ℕ) → ((l : List ℕ) → length (F l) ≡ 12) → (j : ℕ) (w : List ℕ) → j < 4 → part j (each F w) ≡ F (part j w)
@@ -125,8 +130,8 @@ each-part F h j w l = beside-part (λ j. F (part j w)) j l (h (part j w))
 
 -- F of t's states is G of w's
 each-ext : (F G : List ℕ → List ℕ) (t w : List ℕ) → ((j : ℕ) → j < 4 → F (part j t) ≡ G (part j w)) → each F t ≡ each G w
-unfolding each beside
-each-ext F G t w e = tabulate-ext 48 _ _ (λ n h. ap (λ (s : List ℕ). getD s (n / 4) 0) (e (n % 4) (omega arith)))
+unfolding each
+each-ext F G t w e = beside-ext (λ j. F (part j t)) (λ j. G (part j w)) e
 
 -- 48 lanes whose states are F of w's
 is-each : (F : List ℕ → List ℕ) (w r : List ℕ) → length r ≡ 48 → ((j : ℕ) → j < 4 → part j r ≡ F (part j w)) → r ≡ each F w
@@ -208,8 +213,8 @@ laid-part w j =
 
 -- a step done to four states that were put side by side, all at once
 pub each-of : (F : List ℕ → List ℕ) (f : ℕ → List ℕ) → ((j : ℕ) → length (f j) ≡ 12) → each F (beside f) ≡ beside (λ j. F (f j))
-unfolding each beside
-each-of F f h = tabulate-ext 48 _ _ (λ n l. ap (λ (s : List ℕ). getD (F s) (n / 4) 0) (beside-part f (n % 4) (omega arith) (h (n % 4))))
+unfolding each
+each-of F f h = beside-ext (λ j. F (part j (beside f))) (λ j. F (f j)) (λ j l. ap F (beside-part f j l (h j)))
 
 -- the permutation of four states that were read one after another
 pub laid-permuted : (n dx dy : ℕ) (a t : List ℕ) {s : List ℕ} → length t ≡ 48 → Filled (besideLane (laid n dx dy a)) t 48 → s ≡ each perm t
@@ -222,11 +227,6 @@ into-sum w v e h = h ∙ ap (λ (b : Bool). into b w v) (sym e)
 
 pub into-place : {b : Bool} (w v : List ℕ) {s : List ℕ} → b ≡ false → s ≡ v → s ≡ into b w v
 into-place w v e h = h ∙ ap (λ (b : Bool). into b w v) (sym e)
-
--- four other states, the same ones
-pub beside-ext : (f g : ℕ → List ℕ) → ((j : ℕ) → j < 4 → f j ≡ g j) → beside f ≡ beside g
-unfolding beside
-beside-ext f g e = tabulate-ext 48 _ _ (λ n l. ap (λ (s : List ℕ). getD s (n / 4) 0) (e (n % 4) (omega arith)))
 
 pub beside-length : (f : ℕ → List ℕ) → length (beside f) ≡ 48
 unfolding beside

@@ -22,7 +22,8 @@ beside f = tabulate 48 (λ n. getD (f (n % 4)) (n / 4) 0)
 unfoldable pub each : (List ℕ → List ℕ) → List ℕ → List ℕ
 each F w = beside (λ j. F (part j w))
 
--- state j of four whose lanes at x of plane y stand, one after another, from place n + dx x + dy y on: 48 lanes side by side are laid with 4 and 16
+-- state j of four whose lanes at x of plane y stand, one after another, from place n + dx x + dy y on: 48 lanes side by side are laid with 4 and 16,
+-- and the states in a row of rolled words with 3 and 1
 unfoldable pub laid : (n dx dy : ℕ) → List ℕ → ℕ → List ℕ
 laid n dx dy a j = tabulate 12 (λ i. getD a (n + dx * (i % 4) + dy * (i / 4) + j) 0)
 

@@ -49,10 +49,11 @@ fn round_four(w: [u32; 48], c: u32) -> [u32; 48]
 fn permute_four(w: [u32; 48]) -> [u32; 48]
     ensures { λ r. ⌜ r ≡ each perm w ⌝ }
 {
+    let constants = xoodoo::CONSTANTS;
     let mut s = w;
     let mut i: usize = 0;
     while i < 6 {
-        let t = round_four(s, xoodoo::CONSTANTS[i]);
+        let t = round_four(s, constants[i]);
         s = t;
         i += 1;
     }
@@ -60,7 +61,7 @@ fn permute_four(w: [u32; 48]) -> [u32; 48]
 }
 
 // The permutation of each of four states that are laid out in a with the steps dx and dy from place n on; the results are added to w, or put in its
-// place. Rounds and results stay in registers only where the compiler finds this function with two callers and both loops in it.
+// place. One function for both leaves, with two loops, for speed: docs/BENCHMARKS.md.
 pub fn permute_into(w: &mut [u32; 48], add: bool, a: &[u32], n: usize, dx: usize, dy: usize)
     requires { ⌜ (length (now w) ≡ 48) × (n + 3 * dx + 2 * dy + 4 ≤ length (now a)) ⌝ }
     ensures { λ _. ⌜ now (w .exit) ≡ into add (now (w .entry)) (beside (λ j. perm (laid n dx dy (now (a .entry)) j))) ⌝ }

@@ -36,8 +36,8 @@ loop-again c =
       omega arith,
       simp length-set (l .inv .1),
       filled-four (λ q. bitXor (getD (a .t1) q 0) (besideLane f q)) (l .t) (l .i) (omega (arith, l .inv .1))
-          (ap₂ (λ (x y : ℕ). bitXor (getD (a .t1) x 0) y) z (lane 0 _ (lit< tt) (omega arith))) (ap (bitXor (getD (a .t1) (4 * l .i + 1) 0)) (lane 1 _ (lit< tt) refl))
-          (ap (bitXor (getD (a .t1) (4 * l .i + 2) 0)) (lane 2 _ (lit< tt) refl)) (ap (bitXor (getD (a .t1) (4 * l .i + 3) 0)) (lane 3 _ (lit< tt) refl)) (l .inv .2),
+          (ap₂ (λ (x y : ℕ). bitXor (getD (a .t1) x 0) y) z (lane 0 _ (lit< tt) (omega arith))) (ap (bitXor (getD (a .t1) (4 * l .i + 1) 0)) (lane 1 _ (lit< tt) (omega arith)))
+          (ap (bitXor (getD (a .t1) (4 * l .i + 2) 0)) (lane 2 _ (lit< tt) (omega arith))) (ap (bitXor (getD (a .t1) (4 * l .i + 3) 0)) (lane 3 _ (lit< tt) (omega arith))) (l .inv .2),
     )
 
 returns : tie.Need-returns Inv-loop μ-loop

@@ -2,7 +2,7 @@
 -- what the whole makes of the argument, and the row has the masks of the next four blocks. Assumes nothing.
 use mathlib.Core.Path.{_≡_, refl, _∙_}
 use mathlib.Core.List.{List}
-use Prim.Native.Nat.{ℕ, _≤_, _+_, _-_, _/_, _%_}
+use Prim.Native.Nat.{ℕ, _≤_, _-_, _/_, _%_}
 use native.Mathlib.Omega.{arith}
 use lib.ListN.{length, take, drop}
 use denote.Ref.{now}
@@ -100,4 +100,4 @@ returns c =
     (r .ensures ∙ λ t. compressed (aside (p t) (q t)) (closedBy (take (length s - l .at) (drop (l .at) s)) (a .closing)))
 
 pub compress-four-spec : {M : Type 1} → statement M
-compress-four-spec = tie.close (tie.spec Inv-loop μ-loop (λ c κs. search needs) (λ c κs. search needs) loop-holds (λ c. omega arith) (λ c κs. search needs) add-n append-in-requires-2 add-group-requires (λ c. omega arith) (λ c. omega arith) loop-again (λ c κs. search needs) (λ c κs. search needs) (λ c. omega arith) (λ c. omega arith) (λ c. omega arith) (λ c. omega arith) (λ c. omega arith) (λ c κs. search needs) add-state (λ c. omega arith) add-count returns)
+compress-four-spec = tie.close (tie.spec Inv-loop μ-loop (λ c κs. search needs) (λ c κs. search needs) loop-holds (λ c. omega arith) (λ c κs. search needs) add-n append-in-requires-2 add-group-requires (λ c. omega arith) (λ c. omega arith) loop-again (λ c κs. search needs) (λ c κs. search needs) (λ c. omega arith) (λ c. omega arith) (λ c. omega arith) (λ c. omega arith) (λ c. omega arith) (λ c κs. search needs) add-state add-count returns)

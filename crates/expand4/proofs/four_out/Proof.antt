@@ -1,5 +1,4 @@
 -- `expand4::four_out` meets its contract. Assumes nothing.
-use native.Mathlib.Omega.{arith}
 use denote.Ref.{now}
 use borrow.Author.Needs.{needs}
 use Rattle.xoodoo4.specs.Four.{laid}

@@ -1,5 +1,5 @@
 -- `rows::state_at` meets its contract. The loop's invariant: the lanes below i stand. Assumes nothing.
-use mathlib.Core.Path.{_≡_, refl, ap}
+use mathlib.Core.Path.{_≡_, ap}
 use Prim.Native.Nat.{ℕ, _≤_, _-_, _+_, _*_, _/_, _%_}
 use native.Mathlib.Omega.{arith}
 use lib.ListN.{length, getD}
@@ -23,7 +23,7 @@ loop-again : tie.Need-loop-again Inv-loop μ-loop
 loop-again c =
     let l = c .before .before .loop in
     let a = c .before .before .before .args in
-    let e : a .n + 3 * (l .i % 4) + l .i / 4 ≡ a .n + 3 * (l .i % 4) + 1 * (l .i / 4) + 0 = omega arith in
+    let e : 3 * (l .i % 4) + l .i / 4 + a .n ≡ a .n + 3 * (l .i % 4) + 1 * (l .i / 4) + 0 = omega arith in
     (omega arith, search needs, filled-more (λ q. getD (now (a .r)) (a .n + 3 * (q % 4) + 1 * (q / 4) + 0) 0) (l .k) (l .i) _ (omega (arith, l .inv .1)) (ap (λ (m : ℕ). getD (now (a .r)) m 0) e) (l .inv .2))
 
 returns : tie.Need-returns Inv-loop μ-loop

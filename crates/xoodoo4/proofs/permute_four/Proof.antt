@@ -12,10 +12,10 @@ use Rattle.xoodoo4.proofs.permute_four.Statement.{statement}
 use Rattle.xoodoo4.proofs.permute_four.Tie as tie
 
 abbrev Inv-loop : tie.InvT-loop
-Inv-loop s₀ i₀ s i = (i ≤ length constants) × (length s ≡ 48) × (each (rounds (drop i constants)) s ≡ each perm s₀)
+Inv-loop cs s₀ i₀ s i = (i ≤ length constants) × (length s ≡ 48) × (each (rounds (drop i constants)) s ≡ each perm s₀)
 
 abbrev μ-loop : tie.MeasureT-loop
-μ-loop s₀ i₀ s i = length constants - i
+μ-loop cs s₀ i₀ s i = length constants - i
 
 loop-holds : tie.Need-loop-holds Inv-loop μ-loop
 unfolding perm

@@ -1,8 +1,8 @@
 -- `xoodoo4::permute_into` meets its contract. The loops' invariants: the lanes of the states below i are read; the lanes below k have their sums.
 -- Assumes nothing.
-use mathlib.Core.Path.{_≡_, refl, ap, _∙_, subst}
+use mathlib.Core.Path.{_≡_, refl, ap, _∙_}
 use mathlib.Core.List.{List}
-use Prim.Native.Nat.{ℕ, _+_, _*_, _≤_, _<_, _-_, _/_, _%_}
+use Prim.Native.Nat.{ℕ, _+_, _*_, _≤_, _-_, _/_, _%_}
 use native.Mathlib.Omega.{arith}
 use lib.Dec.{lit<}
 use lib.ListN.{length, getD}
@@ -12,13 +12,10 @@ use Rattle.word.specs.Lists.{sum}
 use Rattle.word.proofs.Lists.{Filled}
 use Rattle.state.proofs.Bytes.{filled-four}
 use Rattle.xoodoo.specs.Xoodoo.{perm}
-use Rattle.xoodoo4.specs.Four.{beside, each, laid}
+use Rattle.xoodoo4.specs.Four.{beside, laid}
 use Rattle.xoodoo4.proofs.Four.{step-most, besideLane, beside-lane, laid-lane, laid-permuted, into-sum, into-place, Summed, summed-none, summed-more, summed-all}
 use Rattle.xoodoo4.proofs.permute_into.Statement.{statement}
 use Rattle.xoodoo4.proofs.permute_into.Tie as tie
-use Rattle.xoodoo4.proofs.permute_into.Reads as reads
-use Rattle.xoodoo4.proofs.permute_into.Lts as lts
-use Rattle.xoodoo4.proofs.permute_four.Reads as permute-four-reads
 
 abbrev Inv-loop : tie.InvT-loop
 Inv-loop w add a n dx dy t₀ i₀ t i = (i ≤ 12) × (length t ≡ 48) × Filled (besideLane (laid n dx dy a)) t (4 * i)
