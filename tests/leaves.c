@@ -17,8 +17,9 @@ static compression *const compressions[WAYS] = {pevghazo_compress, pevghazo_comp
 static expansion *const expansions[WAYS] = {pevghazo_expand, pevghazo_expand_four};
 static const char *const names[WAYS][2] = {{"compress", "expand"}, {"compress by four", "expand by four"}};
 
-/* All lengths up to 433, and these: 85 groups of four blocks, a block more, and the most that compress takes. */
-static const size_t long_lengths[] = {16319, 16320, 16321, 16368, 16383, 16384, 16401};
+/* All lengths up to 433, and these: sixteen groups of four blocks, behind which a row of masks or states starts again, one group more, twice as many and
+ * one more; 85 groups, a block more, and the most that compress takes. */
+static const size_t long_lengths[] = {3071, 3072, 3073, 3263, 3264, 3265, 6144, 6336, 16319, 16320, 16321, 16368, 16383, 16384, 16401};
 enum { SHORT_LENGTHS = 434, LENGTHS = SHORT_LENGTHS + sizeof long_lengths / sizeof long_lengths[0], LONGEST = 16401, LANES = 48, STARTS = 8 };
 
 static size_t length(int i) { return i < SHORT_LENGTHS ? (size_t)i : long_lengths[i - SHORT_LENGTHS]; }

@@ -20,8 +20,9 @@ const OFFSETS: [usize; 16] = [1, 2, 3, 5, 7, 9, 11, 13, 15, 6, 10, 14, 4, 12, 8,
 /// Turns in which no buffer stands at a multiple of 4.
 const TURNS: Range<usize> = 0..5;
 
-/// Lengths at which a call by four has a group of four blocks, or one more, just not, just so and with a byte behind it; and the longest.
-const FOUR_EDGES: [usize; 7] = [191, 192, 193, 383, 384, 385, 16_384];
+/// Lengths at which a call by four has a group of four blocks, or one more, just not, just so and with a byte behind it; sixteen groups,
+/// behind which the row of its masks or states starts again, and one more; and the longest.
+const FOUR_EDGES: [usize; 9] = [191, 192, 193, 383, 384, 385, 3_072, 3_264, 16_384];
 
 /// The lengths at which blocks of SANE's and of old letters' keystream begin and end: it is the output from byte 16 on.
 const STREAM_EDGES: [usize; 6] = [31, 32, 33, 79, 80, 81];
