@@ -10,7 +10,7 @@ use session::Answer;
 
 // The answer of the nearly-full question: its number (0: answered), whether a group was found, and the group, 0 where none was.
 #[repr(C)]
-#[derive(Drop)]
+#[derive(Clone, Copy)]
 pub struct Found {
     pub number: u32,
     pub found: bool,

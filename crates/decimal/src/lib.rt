@@ -1,12 +1,13 @@
 // Decimal numbers without leading zeros, read from bytes and written to them. A number is read up to a maximum and to the byte that ends
 // it, so that a long run of digits cannot overflow anything; specs/Decimal.antt says what is found, and proofs/Reading.antt that this is just
 // what is spelled there.
+#![tactic(auto)]
 ghost use Rattle.std.specs.Prelude.{◌≡◌, ◌+◌, ◌<◌, ◌≤◌, length};
 ghost use Rattle.decimal.specs.Decimal.{decimal, digit_char, digit_of, no_number, read_decimal};
 ghost use Rattle.decimal.specs.Buffer.{written_at};
 
 // What was found: a number and the place after the byte that ends it; or nothing, and then both are 0.
-#[derive(Drop)]
+#[derive(Clone, Copy)]
 pub struct Number {
     pub found: bool,
     pub value: u32,

@@ -1,6 +1,7 @@
 // Message envelopes (document 01, "Envelope", and document 02, requests 2 and 9): a header `letter,group,A length,M length,`, and then metadata,
 // cryptogram and tag. Reading takes any bytes and hands out the caller's own. Each answer has a number of document 01's "What stops a call", 0 where
 // nothing stopped it. specs/Layout.antt has the layout and Read.antt what is found; the theorems over them are in proofs/.
+#![tactic(auto)]
 ghost use Rattle.std.specs.Prelude.{◌≡◌};
 ghost use Rattle.envelope.specs.Layout.{tag_length};
 ghost use Rattle.envelope.specs.Read.{no_header, read_header, no_parts, read_parts, read_envelope, header_part, metadata_part, cryptogram_part, tag_part};
@@ -22,7 +23,7 @@ pub const LETTER_N: u8 = b'N';
 pub const LETTER_F: u8 = b'F';
 
 // A header: letter, group, the lengths of metadata and message, and the place after it; number 1 and zeros where there is none.
-#[derive(Drop)]
+#[derive(Clone, Copy)]
 pub struct Header {
     pub number: u32,
     pub letter: u8,
@@ -34,7 +35,7 @@ pub struct Header {
 
 // Letter, group, where the parts of an envelope begin, and the place after it; zeros but for the number where it is refused.
 #[repr(C)]
-#[derive(Drop)]
+#[derive(Clone, Copy)]
 pub struct Parts {
     pub number: u32,
     pub letter: u8,
@@ -46,7 +47,7 @@ pub struct Parts {
 }
 
 // What reading answers: the number, the letter, the group and the place after the envelope.
-#[derive(Drop)]
+#[derive(Clone, Copy)]
 pub struct Envelope {
     pub number: u32,
     pub letter: u8,

@@ -1,5 +1,6 @@
 // Runs the crate `envelope` on the cases of standard input, and writes a line for each: scripts/envelope_vectors.py makes the cases and, by an
 // implementation of its own, the lines that are expected. A case is a record of 24 bytes, numbers in it two bytes each, lowest first.
+#![tactic(auto)]
 ghost use Rattle.std.specs.Prelude.{◌<◌};
 
 use libc::STDOUT_FILENO;

@@ -1,6 +1,7 @@
 // Writes envelopes (document 01, "Envelope", and document 02, request 2), and headers alone (request 7), to the start of a lent buffer, but none with the
 // letter F (request 9). Each answer has a number of document 01's "What stops a call", 0 where nothing stopped it. specs/Write.antt says what is
 // written; that reading gives it back is shown in proofs/round_trip.antt.
+#![tactic(auto)]
 ghost use Rattle.std.specs.Prelude.{◌≡◌, ℕ, ◌+◌, ◌≤◌, length};
 ghost use Rattle.decimal.specs.Buffer.{written_at};
 ghost use Rattle.envelope.specs.Layout.{field, header};
@@ -11,7 +12,7 @@ use envelope::{COMMA, LETTER_F, MAX_GROUP, MAX_LENGTH, tag_len};
 
 // What writing answers: the number, and how many bytes were written.
 #[repr(C)]
-#[derive(Drop)]
+#[derive(Clone, Copy)]
 pub struct WriteResult {
     pub number: u32,
     pub len: usize,

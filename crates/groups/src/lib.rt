@@ -2,6 +2,7 @@
 // beside it, its own day's count; the day's allowance is handed to each call. A call for an envelope has its header under the tag (document 02,
 // request 7); whether the header is the call's own, check 1, is the table's to ask. `four` is whether full blocks are taken four side by side (request 10): it
 // alters nothing but the time.
+#![tactic(auto)]
 ghost use Rattle.std.specs.Prelude.{◌≡◌, ◌+◌, ◌≤◌, length};
 ghost use Rattle.modes.specs.Mode.{sanse_count};
 ghost use Rattle.modes.specs.Rules.{growth, first_check_of};
@@ -12,14 +13,14 @@ use sanse::{CallResult, Session};
 
 // A group's record: its session, and the permutations counted for the group since the day began, which are no part of the session.
 #[repr(C)]
-#[derive(Drop)]
+#[derive(Clone, Copy)]
 pub struct Record {
     pub session: Session,
     pub count: u32,
 }
 
 // What a call for a group gives beside the buffers: its number (0: accepted), the permutations done, and the group's record after it.
-#[derive(Drop)]
+#[derive(Clone, Copy)]
 pub struct GroupResult {
     pub number: u32,
     pub count: u32,

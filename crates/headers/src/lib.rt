@@ -1,5 +1,6 @@
 // Whether bytes are the header of a call for an envelope (document 02, request 7): one of the layout (document 01, "Envelope") with the call's letter
 // and lengths, and nothing before or after it. specs/Fits.antt says so by what reading finds, and proofs/Exactly.antt by the layout.
+#![tactic(auto)]
 ghost use Rattle.std.specs.Prelude.{◌≡◌};
 ghost use Rattle.headers.specs.Fits.{found_for, fits, fits_group};
 

@@ -1,4 +1,5 @@
 // What the programs over test vectors share: bytes on standard output as lines of hexadecimal digits, and numbers of two bytes.
+#![tactic(auto)]
 ghost use Rattle.std.specs.Prelude.{◌≡◌, ◌+◌, ◌*◌, ◌<◌, length};
 
 // Writes two digits for each byte; the answer is the number of bytes.

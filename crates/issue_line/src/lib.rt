@@ -1,5 +1,6 @@
 // Issue lines (document 02, request 6): `group,size,first,last,day` and a line feed, as in `7,C,12001,12100,20250304`. Bytes are one line or none:
 // specs/Layout.antt has the layout, specs/Read.antt what is found, and proofs/Reading.antt that this is just what is spelled.
+#![tactic(auto)]
 ghost use Rattle.std.specs.Prelude.{◌≡◌};
 ghost use Rattle.issue_line.specs.Read.{no_size, read_size, read_day, no_line, line_of, read_line};
 
@@ -15,7 +16,7 @@ const COMMA: u8 = b',';
 const LINE_FEED: u8 = 10;
 
 // A line: the group, the size's letter, the first and the last ring, and the day's eight digits as a number; zeros where there is none.
-#[derive(Drop)]
+#[derive(Clone, Copy)]
 pub struct Line {
     pub found: bool,
     pub group: u32,
@@ -26,7 +27,7 @@ pub struct Line {
 }
 
 // A size's letter and the place after its comma; or nothing, and then both are 0.
-#[derive(Drop)]
+#[derive(Clone, Copy)]
 pub struct Size {
     pub found: bool,
     pub letter: u8,

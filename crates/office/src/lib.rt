@@ -1,5 +1,6 @@
 // The office's table: a lent run of 32 records, one for each group, each a session and the group's own day's count; the day's allowance is one
 // for all groups, and handed to each call. A call reads one group's record, calls the function by value, and writes the record back.
+#![tactic(auto)]
 ghost use Rattle.std.specs.Prelude.{◌≡◌};
 ghost use Rattle.sanse.specs.Session.{handed};
 ghost use Rattle.groups.specs.Groups.{record_of};
@@ -14,7 +15,7 @@ const GROUPS: usize = 32;
 const HIGHEST_GROUP: usize = 31;
 
 // The answer of the nearly-full question: check 3, or no group is open with an index above the mark, or the lowest group that is.
-#[derive(Drop)]
+#[derive(Clone, Copy)]
 pub enum NearlyFull {
     Refused,
     None,

@@ -1,5 +1,6 @@
 // Permutations and rollings of the states on standard input, each on a line of hexadecimal digits. A record is an operation (one byte),
 // how often it is done (four bytes, the lowest first) and a state (48 bytes).
+#![tactic(auto)]
 
 // One operation: P for the permutation, C for input rolling, anything else for output rolling.
 fn once(op: u8, s: [u32; 12]) -> [u32; 12] {

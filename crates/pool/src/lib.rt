@@ -1,6 +1,7 @@
 // A pool of unused rings (document 02, request 6): runs of ring numbers, by value. Runs of one size that touch are joined into one.
 // specs/Pool.antt says what each function gives for any pool, specs/Good.antt which pools keep their runs apart and which number a run gets, and
 // proofs/Adding.antt shows both of every addition.
+#![tactic(auto)]
 ghost use Rattle.std.specs.Prelude.{◌≡◌, ◌≤◌, length};
 ghost use Rattle.runs.specs.Runs.{a_run, any_meets, rings_of};
 ghost use Rattle.pool.specs.Pool.{max_runs, runs_of, empty_pool, join_pool, add_run};
@@ -12,14 +13,14 @@ const MAX_RUNS: usize = 256;
 
 // A pool: the runs that stand first, as many as are used. What stands behind them has no meaning.
 #[repr(C)]
-#[derive(Drop)]
+#[derive(Clone, Copy)]
 pub struct Pool {
     pub used: usize,
     pub runs: [Run; 256],
 }
 
 // What adding answers: the number, and the pool afterwards.
-#[derive(Drop)]
+#[derive(Clone, Copy)]
 pub struct Added {
     pub number: u32,
     pub pool: Pool,

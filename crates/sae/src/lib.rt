@@ -1,5 +1,6 @@
 // Farfalle-SAE over Xoofff by value (document 02, request 9): sessions that open old letters of the first version. Start and unwrap over a session record, and a
 // wrap that is always refused. A refused call leaves the record and the buffers as they were; a refused start gives a closed record.
+#![tactic(auto)]
 ghost use Rattle.std.specs.Prelude.{◌≡◌, cond, ◌+◌, ◌≤◌, length};
 ghost use Rattle.word.specs.Lists.{sum};
 ghost use Rattle.deck.specs.Strings.{b};
@@ -16,7 +17,7 @@ use xoofff::Compressed;
 
 // A session of SAE, a type of its own: the accumulator, the mask at the index, the input index, e, which no call alters, and whether it is open.
 #[repr(C)]
-#[derive(Drop)]
+#[derive(Clone, Copy)]
 pub struct SaeSession {
     pub acc: [u32; 12],
     pub mask: [u32; 12],
@@ -26,7 +27,7 @@ pub struct SaeSession {
 }
 
 // What a call gives beside its buffers: its number (0: accepted), the permutations done, and the session after it.
-#[derive(Drop)]
+#[derive(Clone, Copy)]
 pub struct SaeResult {
     pub number: u32,
     pub count: u32,

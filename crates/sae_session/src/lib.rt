@@ -1,6 +1,7 @@
 // Old letters of the first version (document 02, request 9), Farfalle-SAE over Xoofff, over a lent record: start and unwrap, and wrap, which is refused,
 // call the functions by value and store the session that they give. Held alone; the office's table has no such records, and there are no calls for
 // an envelope: its header is not under the tag.
+#![tactic(auto)]
 ghost use Rattle.sae.specs.Session.{handed};
 ghost use Rattle.sae_session.specs.Lent.{Started, Unwrapped, Wrapped};
 

@@ -1,6 +1,7 @@
 // Xoofff-SANE by value (document 02, request 2): start with a nonce, wrap and unwrap over a session record, without an envelope and for one, whose
 // header is under the tag then (request 7). A refused call leaves the record and the buffers as they were; a refused start gives a closed record.
 // `four` is whether full blocks are taken four side by side (request 10): it alters nothing but the time.
+#![tactic(auto)]
 ghost use Rattle.std.specs.Prelude.{◌≡◌, ◌&&◌, cond, [], ◌∷◌, ◌+◌, ◌≤◌, leb, length};
 ghost use Rattle.word.specs.Lists.{sum};
 ghost use Rattle.deck.specs.Strings.{b};
@@ -18,7 +19,7 @@ use xoofff::Compressed;
 
 // A session of SANE, a type of its own: the accumulator, the mask at the index, the input index, e, and whether it is open.
 #[repr(C)]
-#[derive(Drop)]
+#[derive(Clone, Copy)]
 pub struct SaneSession {
     pub acc: [u32; 12],
     pub mask: [u32; 12],
@@ -28,7 +29,7 @@ pub struct SaneSession {
 }
 
 // What a call gives beside its buffers: its number (0: accepted), the permutations done, and the session after it.
-#[derive(Drop)]
+#[derive(Clone, Copy)]
 pub struct SaneResult {
     pub number: u32,
     pub count: u32,

@@ -1,6 +1,7 @@
 // Xoofff-SANSE by value: start, wrap and unwrap over a session record, without an envelope and for one, whose header is under the tag then
 // (document 02, request 7). A refused call leaves the record and the buffers as they were. `four` is whether full blocks are taken four
 // side by side (request 10): it alters nothing but the time.
+#![tactic(auto)]
 ghost use Rattle.std.specs.Prelude.{◌≡◌, false, true, cond, [], ◌∷◌, ◌+◌, ◌≤◌, ◌<◌, length};
 ghost use Rattle.word.specs.Lists.{sum};
 ghost use Rattle.deck.specs.Strings.{b};
@@ -17,7 +18,7 @@ use envelope::LETTER_S;
 
 // A session: the accumulator, the mask at the index, the input index, e, and whether it is open.
 #[repr(C)]
-#[derive(Drop)]
+#[derive(Clone, Copy)]
 pub struct Session {
     pub acc: [u32; 12],
     pub mask: [u32; 12],
@@ -27,7 +28,7 @@ pub struct Session {
 }
 
 // What a call gives beside its buffers: its number (0: accepted), the permutations done, and the session after it.
-#[derive(Drop)]
+#[derive(Clone, Copy)]
 pub struct CallResult {
     pub number: u32,
     pub count: u32,

@@ -2,6 +2,7 @@
 // are taken side by side (1 or 4), the lengths of two parts (two bytes each, the lowest first), the parts and 32 bytes. The parts are key and nothing,
 // metadata and message, or metadata and cryptogram; the 32 bytes are the tag handed to unwrap. Written for each: the number, the count, the index and
 // e; then a line of hexadecimal digits for the output, the tag, the accumulator and the mask.
+#![tactic(auto)]
 ghost use Rattle.std.specs.Prelude.{◌≤◌, ◌<◌, length};
 
 use sanse::{CallResult, Session};

@@ -1,5 +1,6 @@
 // Issue seasons (document 02, request 8): each of the eight sizes has a window, and its rings are issued on the days on which that is open.
 // specs/Seasons.antt says which number a day gets, specs/first_day.antt what the first permitted day is; proofs/ shows both.
+#![tactic(auto)]
 ghost use Rattle.std.specs.Prelude.{◌≤◌, ◌≡◌};
 ghost use Rattle.seasons.specs.Seasons.{window_of, season_number};
 ghost use Rattle.seasons.specs.FirstDay.{FirstDay};
@@ -12,14 +13,14 @@ const LAST_DAY: u32 = 21991231;
 
 // The windows of the sizes A to H.
 #[repr(C)]
-#[derive(Drop)]
+#[derive(Clone, Copy)]
 pub struct Windows {
     pub sizes: [Window; 8],
 }
 
 // The answer to the question for the first permitted day: a number; whether there is a day; and the day, or 0.
 #[repr(C)]
-#[derive(Drop)]
+#[derive(Clone, Copy)]
 pub struct First {
     pub number: u32,
     pub found: bool,

@@ -1,5 +1,6 @@
 // Xoofff-SANSE over a lent record: start, wrap and unwrap, without an envelope and for one, call the functions by value and store the session that
 // they give.
+#![tactic(auto)]
 ghost use Rattle.sanse.specs.Session.{handed, handed_for};
 ghost use Rattle.session.specs.Lent.{Started, Wrapped, Unwrapped};
 
@@ -7,7 +8,7 @@ use sanse::Session;
 
 // What a call gives beside record and buffers: its number (0: accepted), and the permutations done.
 #[repr(C)]
-#[derive(Drop)]
+#[derive(Clone, Copy)]
 pub struct Answer {
     pub number: u32,
     pub count: u32,

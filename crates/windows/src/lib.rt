@@ -1,5 +1,6 @@
 // Windows of the year (document 02, request 8): rings may be issued from an opening to a closing month and day. specs/Windows.antt has the rules,
 // specs/Computed.antt what is computed, and proofs/ that both are the same.
+#![tactic(auto)]
 ghost use Rattle.std.specs.Prelude.{◌+◌, ◌*◌, ◌≡◌};
 ghost use Rattle.windows.specs.Computed.{date_in, open_on, leap_year_has, good_window};
 
@@ -14,7 +15,7 @@ const LAST_OF_FEBRUARY: u32 = 228;
 
 // A window: the month and day on which it opens and on which it closes, both included. One that opens later than it closes runs over New Year.
 #[repr(C)]
-#[derive(Drop)]
+#[derive(Clone, Copy)]
 pub struct Window {
     pub open_month: u8,
     pub open_day: u8,

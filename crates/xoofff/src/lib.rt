@@ -1,4 +1,5 @@
 // The deck function Xoofff, incremental: the leaves that compress a string and expand the output.
+#![tactic(auto)]
 ghost use Rattle.std.specs.Prelude.{◌≡◌, ◌+◌, ◌-◌, ◌/◌, ◌≤◌, ◌<◌, min, length, get_or};
 ghost use Rattle.word.specs.Lists.{sum};
 ghost use Rattle.state.specs.Bytes.{state_byte};
@@ -12,7 +13,7 @@ ghost use Rattle.xoofff.specs.Leaves.{compressed, output_blocks, Added};
 use deck::DeckState;
 
 // The state after one more string, and the permutations done for it.
-#[derive(Drop)]
+#[derive(Clone, Copy)]
 pub struct Compressed {
     pub state: DeckState,
     pub count: u32,

@@ -1,10 +1,11 @@
 // The deck function over the histories on standard input. A record is a header of six bytes and, but for O, so many bytes of data: K sets
 // the key and an empty history; S appends the string of the data and the header's closing byte; O prints index, accumulator, mask and a run
 // of the output, each on a line. The header: the letter, the closing byte, the length and the offset, the lowest byte first.
+#![tactic(auto)]
 use deck::DeckState;
 
 // A header's fields.
-#[derive(Drop)]
+#[derive(Clone, Copy)]
 struct Header {
     letter: u8,
     closing: u8,
