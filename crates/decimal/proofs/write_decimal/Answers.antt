@@ -5,19 +5,11 @@ use mathlib.Core.Path.{◌≡◌, refl, sym, ap, ◌∙◌}
 use mathlib.Core.List.{List, [], ◌∷◌, ◌++◌, append_assoc, append-nil}
 use native.Mathlib.Omega.{arith}
 use lib.ListN.{length, set, length-append, length-set}
-use borrow.Author.Rules.{rules}
 use Rattle.decimal.specs.Decimal.{decimal, digit_char}
 use Rattle.decimal.specs.Buffer.{written_at}
 use Rattle.decimal.proofs.Laws.{decimal-small, decimal-large, decimal-some}
 use Rattle.decimal.proofs.Buffers.{written_at-none, written_at-before}
-use Rattle.decimal.proofs.write_decimal.Statement.{statement}
-use Rattle.decimal.proofs.write_decimal.Tie as tie
-
-abbrev invariant-loop : tie.invariant-loop
-invariant-loop n out₀ at end v₀ i₀ out v i = (tail : List ℕ) × (decimal v ++ tail ≡ decimal n) × (i ≡ at + length (decimal v)) × (out ≡ written_at out₀ i tail) × (length out ≡ length out₀)
-
-abbrev decreases-loop : tie.decreases-loop
-decreases-loop n out₀ at end v₀ i₀ out v i = v
+use Rattle.decimal.proofs.write_decimal.Goals as goal
 
 -- what a turn leaves: one digit more stands in front of those written
 turn : (n at v i d : ℕ) (out₀ out tail : List ℕ) → 10 ≤ v → decimal v ++ tail ≡ decimal n → i ≡ at + length (decimal v) → out ≡ written_at out₀ i tail
@@ -49,31 +41,28 @@ last n at v i d out₀ out tail small spelled place content room is =
     ∙ written_at-before out₀ at d tail fits
     ∙ ap (written_at out₀ at) all
 
-loop-holds : tie.Need-loop-init invariant-loop decreases-loop
-loop-holds c = ([], append-nil _, omega arith, sym (written_at-none _ _), refl)
+pub loop-v-init : goal.loop-v-init
+loop-v-init c = ([], append-nil _, omega arith, sym (written_at-none _ _), refl)
 
-sub-i : tie.Need-overflow-sub-i invariant-loop decreases-loop
-sub-i c = omega (arith, decimal-some c.before.loop.v)
+pub overflow_sub-i : goal.overflow_sub-i
+overflow_sub-i c = omega (arith, decimal-some c.loop-v.v)
 
-slice-write-out : tie.Need-slice-write-out invariant-loop decreases-loop
-slice-write-out c = omega (arith, c.before.before.loop.invariant.2, c.before.before.loop.invariant.4, decimal-some c.before.before.loop.v, ap length c.before.before.loop.invariant.1, length-append (decimal c.before.before.loop.v) c.before.before.loop.invariant.0)
+pub bounds-out-i : goal.bounds-out-i
+bounds-out-i c = omega (arith, c.loop-v.invariant.2, c.loop-v.invariant.4, decimal-some c.loop-v.v, ap length c.loop-v.invariant.1, length-append (decimal c.loop-v.v) c.loop-v.invariant.0)
 
-loop-again : tie.Need-loop-preserved invariant-loop decreases-loop
-loop-again c =
-    let inv = c.before.before.loop.invariant in
-    let t = turn _ _ _ _ _ _ _ inv.0 c.before.loop-test.true inv.1 inv.2 inv.3 c.before.before.before.before.before.requires c.digit_char.ensures in
+pub loop-v-preserved : goal.loop-v-preserved
+loop-v-preserved c =
+    let inv = c.loop-v.invariant in
+    let t = turn _ _ _ _ _ _ _ inv.0 c.loop-v-test.true inv.1 inv.2 inv.3 c.requires c.digit_char.ensures in
     (c.digit_char.result ∷ inv.0, t.0, t.1, t.2, simp length-set inv.4)
 
-slice-write-out-2 : tie.Need-slice-write-out-2 invariant-loop decreases-loop
-slice-write-out-2 c = omega (arith, c.before.before.loop.invariant.4, decimal-some c.before.before.before.before.before.args.n)
+pub bounds-out-at : goal.bounds-out-at
+bounds-out-at c = omega (arith, c.loop-v.invariant.4, decimal-some c.args.n)
 
-same_length : tie.Need-same-length invariant-loop decreases-loop
-same_length c = simp length-set c.before.before.loop.invariant.4
+pub shape_of-out : goal.shape_of-out
+shape_of-out c = simp length-set c.loop-v.invariant.4
 
-returns : tie.Need-returns invariant-loop decreases-loop
+pub returns : goal.returns
 returns c =
-    let inv = c.before.before.loop.invariant in
-    (omega arith, last _ _ _ _ _ _ _ inv.0 c.before.loop-test.false inv.1 inv.2 inv.3 c.before.before.before.before.before.requires c.digit-char2.ensures)
-
-pub write-decimal-spec : {M : Type 1} → statement M
-write-decimal-spec = tie.close (tie.spec invariant-loop decreases-loop (λ c κs. search rules) (λ c. omega arith) loop-holds sub-i (λ c κs. search rules) slice-write-out (λ c. omega arith) loop-again (λ c κs. search rules) slice-write-out-2 same_length returns)
+    let inv = c.loop-v.invariant in
+    (omega arith, last _ _ _ _ _ _ _ inv.0 c.loop-v-test.false inv.1 inv.2 inv.3 c.requires c.digit_char-2.ensures)
