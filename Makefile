@@ -2,7 +2,7 @@
 # test: everything, from nothing; the last line is 'N passed, M failed'.
 # lib: the proved C library target/staticlib/libcapi.a, and what is installed: archive and shared library with the functions in plain C (c/).
 # install, uninstall: library, headers, pkg-config file, command, manual page and completions under PREFIX.
-# clean: removes all that was made, the proofs' results too; `make lib` then proves from nothing.
+# clean: removes all that was made, the proofs' results in crates/*/out too.
 .PHONY: demo test bench lib install uninstall clean
 
 PREFIX ?= /usr/local
@@ -39,7 +39,7 @@ test:
 bench:
 	@bash scripts/tools rt cargo gcc
 	@$(MAKE) --no-print-directory lib
-	rt staticlib bench_exports
+	bash scripts/archive bench_exports
 	bash bench/run
 
 lib: $(ARCHIVE) $(SHARED)
@@ -47,7 +47,7 @@ lib: $(ARCHIVE) $(SHARED)
 # Proves what changed since it was last proved, and makes the library.
 $(LIBRARY): crates.txt toolchain $(shell find crates -name '*.rt' -o -name '*.antt')
 	@bash scripts/tools rt
-	rt staticlib capi
+	bash scripts/archive capi
 
 target/c/%.o: c/%.c $(HEADERS)
 	@mkdir -p $(@D)
@@ -109,4 +109,4 @@ uninstall:
 	if [ -d "$(DESTDIR)$(INCLUDEDIR)/pevghazo" ]; then rmdir --ignore-fail-on-non-empty "$(DESTDIR)$(INCLUDEDIR)/pevghazo"; fi
 
 clean:
-	rm -rf target rust/target
+	rm -rf target rust/target crates/*/out

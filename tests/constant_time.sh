@@ -13,7 +13,7 @@ fail() {
 }
 command -v valgrind >/dev/null || fail "valgrind is missing (Debian package valgrind)"
 [ -f "$lib/libcapi.a" ] || fail "$lib/libcapi.a is missing: run 'make lib'"
-[ -f "$lib/libbench_exports.a" ] || fail "$lib/libbench_exports.a is missing: run 'rt staticlib bench_exports'"
+[ -f "$lib/libbench_exports.a" ] || fail "$lib/libbench_exports.a is missing: run 'scripts/archive bench_exports'"
 mkdir -p "$out"
 echo '#include <valgrind/memcheck.h>' | gcc -fsyntax-only -x c - 2>/dev/null || fail "valgrind/memcheck.h is missing (Debian package valgrind)"
 gcc -O2 -g -std=c89 -Iinclude -c c/stored.c -o "$out/stored.o"

@@ -10,7 +10,7 @@ fail() {
 }
 bash scripts/tools rt cargo gcc
 mkdir -p "$out"
-rt staticlib bench_exports >"$out/log" 2>&1 || {
+bash scripts/archive bench_exports >"$out/log" 2>&1 || {
   cat "$out/log" >&2
   fail "the library of the leaves is not made"
 }

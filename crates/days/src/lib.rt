@@ -2,6 +2,7 @@
 // as 20250304; so a day is before another exactly where its number is less. specs/Calendar.antt has the calendar's rules and specs/Days.antt what is
 // computed; proofs/Rules.antt shows that a day exists exactly where the rules have it, and proofs/Next.antt that the next day is the one after it.
 #![tactic(auto)]
+
 ghost use Rattle.std.specs.Prelude.{◌≡◌, ◌≤◌};
 ghost use Rattle.days.specs.Days.{is_leap, month_length, is_day, next_day};
 

@@ -2,6 +2,7 @@
 // specs/Pool.antt says what each function gives for any pool, specs/Good.antt which pools keep their runs apart and which number a run gets, and
 // proofs/Adding.antt shows both of every addition.
 #![tactic(auto)]
+
 ghost use Rattle.std.specs.Prelude.{◌≡◌, ◌≤◌, length};
 ghost use Rattle.runs.specs.Runs.{a_run, any_meets, rings_of};
 ghost use Rattle.pool.specs.Pool.{max_runs, runs_of, empty_pool, join_pool, add_run};

@@ -31,10 +31,12 @@ holds-some (here i) = omega arith
 holds-some (there h) = omega arith
 
 valid-of : {q : Run} {l : List Run} → GoodRuns l → Among q l → Valid q
+valid-of {q = q} good_none x3 = elim x3 [ ]
 valid-of (good_more v a g) (first_one e) = subst Valid e v
 valid-of (good_more v a g) (later-one m) = valid-of g m
 
 apart_of : {h q : Run} {l : List Run} → Away h l → Among q l → Apart h q
+apart_of {h = h} {q = q} away-none x3 = elim x3 [ ]
 apart_of {h} (away-more a rest) (first_one e) = subst (Apart h) e a
 apart_of (away-more a rest) (later-one m) = apart_of rest m
 
@@ -47,6 +49,7 @@ apart-back q k a same = go (a (sym same))
 
 -- two runs of a good list are one, or apart
 one-or-apart : {q k : Run} {l : List Run} → GoodRuns l → Among q l → Among k l → (k ≡ q) ⊎ Apart q k
+one-or-apart {q = q} {k = k} good_none x5 _ = elim x5 [ ]
 one-or-apart (good_more v a g) (first_one e) (first_one f) = inl (sym f ∙ e)
 one-or-apart {q} {k} (good_more v a g) (first_one e) (later-one m) = inr (subst (λ (r : Run). Apart r k) e (apart_of a m))
 one-or-apart {q} {k} (good_more v a g) (later-one n) (first_one f) = inr (apart-back k q (subst (λ (r : Run). Apart r q) f (apart_of a n)))

@@ -66,6 +66,7 @@ rings-with r (q ∷ l) vr (good_more vq aq g) =
 -- It holds the numbers of both, and no others.
 pub holds-with : (size x : ℕ) (r : Run) (l : List Run) → Valid r → GoodRuns l → Holds size x l ⊎ In size x r → Holds size x (with_run r l)
 unfolding with_run
+holds-with size x r [] vr g (inl x5) = elim x5 [ ]
 holds-with size x r [] vr g (inr i) = here i
 holds-with size x r (q ∷ l) vr (good_more vq aq g) h =
     go (touches q r) refl (λ (v : Valid (join q r)) (s : Holds size x l ⊎ In size x (join q r)). holds-with size x (join q r) l v g s)
@@ -83,6 +84,7 @@ holds-with size x r (q ∷ l) vr (good_more vq aq g) h =
 
 pub holds-only : (size x : ℕ) (r : Run) (l : List Run) → Valid r → GoodRuns l → Holds size x (with_run r l) → Holds size x l ⊎ In size x r
 unfolding with_run
+holds-only size x r [] vr g (there x7) = elim x7 [ ]
 holds-only size x r [] vr g (here i) = inr i
 holds-only size x r (q ∷ l) vr (good_more vq aq g) h =
     go (touches q r) refl (λ (v : Valid (join q r)) (s : Holds size x (with_run (join q r) l)). holds-only size x (join q r) l v g s)
@@ -126,6 +128,7 @@ meets-some r (q ∷ l) vr (good_more vq aq g) e = go (or_cases (meets q r) (any_
     go (inr m) ih = let k = ih m in (k.0, k.1, there k.2)
 
 pub clear-disjoint : (r : Run) (l : List Run) → Clear r l → (x : ℕ) → In r.size x r → Holds r.size x l → ⊥
+clear-disjoint r [] _ x i x6 = elim x6 [ ]
 clear-disjoint r (q ∷ l) (clear-more d c) x i (here j) = go (d j.0)
   where
     go : (q.last < r.first) ⊎ (r.last < q.first) → ⊥

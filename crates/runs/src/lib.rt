@@ -1,6 +1,7 @@
 // Runs of ring numbers (document 02, request 6): the numbers first to last of one size. Two runs may meet or touch, and two that touch are
 // joined into one. specs/Runs.antt says so of lists of runs too, specs/Meaning.antt which numbers a list holds, and proofs/ what follows.
 #![tactic(auto)]
+
 ghost use Rattle.std.specs.Prelude.{◌≡◌};
 ghost use Rattle.runs.specs.Runs.{meets, touches, join};
 

@@ -1,6 +1,7 @@
 // Windows of the year (document 02, request 8): rings may be issued from an opening to a closing month and day. specs/Windows.antt has the rules,
 // specs/Computed.antt what is computed, and proofs/ that both are the same.
 #![tactic(auto)]
+
 ghost use Rattle.std.specs.Prelude.{◌+◌, ◌*◌, ◌≡◌};
 ghost use Rattle.windows.specs.Computed.{date_in, open_on, leap_year_has, good_window};
 
