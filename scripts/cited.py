@@ -78,9 +78,9 @@ def cells(line):
 
 
 def listed():
-    """crate -> the crates that it reads, the kit's left out, as crates.txt has them."""
+    """crate -> the crates that it reads, the kit's left out, as crates.txt has them; a static library has that word after its name there."""
     lines = [line.split(":") for line in read(os.path.join(ROOT, "crates.txt")).split("\n") if ":" in line and not line.startswith("#")]
-    return {name: set(reads.split()) - KIT for name, reads in lines}
+    return {name.split()[0]: set(reads.split()) - KIT for name, reads in lines}
 
 
 def wrong_map(crates):

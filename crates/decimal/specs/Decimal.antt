@@ -1,7 +1,7 @@
 -- Decimal numbers in bytes, as document 01 has them in "Envelope": decimal without leading zeros, zero being `0`.
 -- First what the bytes of a number are; then what a reader finds who looks for a number up to a maximum and the byte that ends it.
 -- proofs/Reading.antt shows that the reader finds exactly the numbers that are spelled so. Assumes nothing.
-use Rattle.std.specs.Prelude.{ℕ, suc, zero, ◌+◌, ◌-◌, ◌*◌, ◌/◌, ◌%◌, ◌≤◌, ◌≡◌, Bool, true, false, cond, List, [], ◌∷◌, ◌++◌, drop, ltb, leb, eqb}
+use Rattle.std.specs.Prelude.{ℕ, suc, zero, ◌+◌, ◌-◌, ◌*◌, ◌/◌, ◌%◌, ◌≤◌, ◌≡◌, true, false, cond, List, [], ◌∷◌, ◌++◌, drop, ltb, leb, eqb}
 use Rattle.decimal.specs.declared.Number.{Number}
 
 -- the character of a digit 0 to 9

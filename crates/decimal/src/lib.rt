@@ -2,6 +2,7 @@
 // it, so that a long run of digits cannot overflow anything; specs/Decimal.antt says what is found, and proofs/Reading.antt that this is just
 // what is spelled there.
 #![tactic(auto)]
+
 ghost use Rattle.std.specs.Prelude.{◌≡◌, ◌+◌, ◌<◌, ◌≤◌, length};
 ghost use Rattle.decimal.specs.Decimal.{decimal, digit_char, digit_of, no_number, read_decimal};
 ghost use Rattle.decimal.specs.Buffer.{written_at};

@@ -1,5 +1,5 @@
 -- Strings, their padding and their blocks (001, section 3, pad10* and Algorithm 1; document 01, "The deck function"). Assumes nothing.
-use Rattle.std.specs.Prelude.{Bool, true, false, List, [], ◌∷◌, ◌++◌, ℕ, zero, suc, ◌+◌, ◌*◌, ◌-◌, ◌/◌, ◌%◌, length, get_or, replicate}
+use Rattle.std.specs.Prelude.{Bool, true, false, List, [], ◌∷◌, ◌++◌, ℕ, ◌+◌, ◌*◌, ◌-◌, ◌/◌, ◌%◌, length, get_or, replicate}
 use Rattle.word.specs.Word.{bit}
 use Rattle.state.specs.Bytes.{from_string}
 

@@ -2,6 +2,7 @@
 // cryptogram and tag. Reading takes any bytes and hands out the caller's own. Each answer has a number of document 01's "What stops a call", 0 where
 // nothing stopped it. specs/Layout.antt has the layout and Read.antt what is found; the theorems over them are in proofs/.
 #![tactic(auto)]
+
 ghost use Rattle.std.specs.Prelude.{◌≡◌};
 ghost use Rattle.envelope.specs.Layout.{tag_length};
 ghost use Rattle.envelope.specs.Read.{no_header, read_header, no_parts, read_parts, read_envelope, header_part, metadata_part, cryptogram_part, tag_part};

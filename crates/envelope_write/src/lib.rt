@@ -2,6 +2,7 @@
 // letter F (request 9). Each answer has a number of document 01's "What stops a call", 0 where nothing stopped it. specs/Write.antt says what is
 // written; that reading gives it back is shown in proofs/round_trip.antt.
 #![tactic(auto)]
+
 ghost use Rattle.std.specs.Prelude.{◌≡◌, ℕ, ◌+◌, ◌≤◌, length};
 ghost use Rattle.decimal.specs.Buffer.{written_at};
 ghost use Rattle.envelope.specs.Layout.{field, header};

@@ -3,7 +3,7 @@
 use Prim.Native.Nat.{ℕ, ◌≤◌}
 use mathlib.Core.Path.{◌≡◌, refl, sym, ap, ◌∙◌, subst}
 use mathlib.Core.Logic.{◌↔◌}
-use mathlib.Core.Bool.{Bool, true, ◌&&◌, and-eq-true_iff}
+use mathlib.Core.Bool.{true, ◌&&◌, and-eq-true_iff}
 use mathlib.Core.List.{List, [], ◌++◌, append-nil}
 use native.Mathlib.Omega.{arith}
 use lib.ListN.{length, drop}
@@ -15,7 +15,7 @@ use Rattle.decimal.proofs.Laws.{decimal-some}
 use Rattle.envelope.specs.Layout.{letter_s, letter_n, max_group, max_length, header, InRange, Begins}
 use Rattle.envelope.specs.Read.{a_header, read_header, read_envelope, header_part, metadata_part, cryptogram_part}
 use Rattle.envelope.specs.declared.Header.{Header}
-use Rattle.envelope.proofs.Headers.{Stands, header-sound, header-complete}
+use Rattle.envelope.proofs.Headers.{header-sound, header-complete}
 use Rattle.envelope.proofs.Layouts.{header-length, header-longest, header-of-17, tag-of-S, tag-of-N}
 use Rattle.envelope.proofs.Reading.{envelope-sound}
 use Rattle.envelope.proofs.Spelling.{header-part-is}

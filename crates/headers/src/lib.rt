@@ -1,12 +1,14 @@
 // Whether bytes are the header of a call for an envelope (document 02, request 7): one of the layout (document 01, "Envelope") with the call's letter
 // and lengths, and nothing before or after it. specs/Fits.antt says so by what reading finds, and proofs/Exactly.antt by the layout.
 #![tactic(auto)]
+
 ghost use Rattle.std.specs.Prelude.{◌≡◌};
 ghost use Rattle.headers.specs.Fits.{found_for, fits, fits_group};
 
 use envelope::{Header, read_header};
 
 // Whether a header that was read from n bytes has the letter and the lengths, and nothing follows it.
+#[tactic(auto, unfolding(crate::specs::Fits::found_for))]
 fn found_for(letter: u8, alen: usize, mlen: usize, n: usize, h: Header) -> bool
     ensures { result ≡ found_for letter alen mlen n h }
 {

@@ -116,9 +116,9 @@ module _ (n : ℕ) (g : Number) (z : Size) (f l d : Number) where
   unfolding is_line
   no-group e = refused (simp e)
 
-  pub no_size : z.found ≡ false → line_of n g z f l d ≡ no_line
+  pub no_such_size : z.found ≡ false → line_of n g z f l d ≡ no_line
   unfolding is_line
-  no_size e = refused (simp (e, and-false))
+  no_such_size e = refused (simp (e, and-false))
 
   pub no-first : f.found ≡ false → line_of n g z f l d ≡ no_line
   unfolding is_line

@@ -76,11 +76,15 @@ module _ {k : Kind} {p : Promises k} where
   snoc (Run.wrapped w q) r = Run.wrapped w (snoc q r)
   snoc (Run.unwrapped w q) r = Run.unwrapped w (snoc q r)
 
+  -- no call before a run
+  past_none : {cs : List Call} {from mid to : Records k} {os : List (Outcome DeckState)} → Run k p [] from [] mid → Run k p cs mid os to → Run k p cs from os to
+  past_none Run.none r = r
+
   -- a call before a run
   before : {cs : List Call} {from mid to : Records k} {os : List (Outcome DeckState)} {c : Call} {o : Outcome DeckState}
       → Run k p (c ∷ []) from (o ∷ []) mid → Run k p cs mid os to → Run k p (c ∷ cs) from (o ∷ os) to
-  before (Run.wrapped w Run.none) r = Run.wrapped w r
-  before (Run.unwrapped w Run.none) r = Run.unwrapped w r
+  before (Run.wrapped w q) r = Run.wrapped w (past_none q r)
+  before (Run.unwrapped w q) r = Run.unwrapped w (past_none q r)
 
   -- without the codes
   without : {codes : Codes k} {rs : List Request} {from to : Records k} {os : List (Outcome DeckState)} {gs : List CodeOutcome}
@@ -180,7 +184,7 @@ module _ {k : Kind} {starts : Starts k} {p : Promises k} {codes : Codes k} (s : 
   each : {cs : List Call} {os ps : List (Outcome DeckState)} {rs : List Request} {gs : List CodeOutcome} {from to : Records k}
       → Run k p cs (left_by k one two) os from → CodeRun k p codes rs from ps gs to → EachCode key cs os rs ps gs
   each r CodeRun.none = EachCode.none
-  each r (CodeRun.called w q) = EachCode.called (each (snoc r w) q)
+  each {cs} r (CodeRun.called {c = c} w q) = EachCode.called (each {cs = cs ++ c ∷ []} (snoc r w) q)
   each r (CodeRun.asked {x = x} {packet = packet} {out = out} {g = o} w q) = EachCode.asked (there r x packet out o w) (each r q)
 
 pub with-codes-of : {k : Kind} {starts : Starts k} {p : Promises k} {codes : Codes k} → StartByRules k starts → ByRules sanse p → CodesByRules k codes

@@ -88,6 +88,7 @@ module _ (add : Adding) (takes : Takes add) where
     where
       back : InPool p size x ⊎ Held size x [] → InPool p size x
       back (inl h) = h
+      back (inr h) = elim h [ ]
   after_holds p (bytes ∷ rest) good size x =
       go (eqb (add p bytes).number 0) refl (after_holds (add p bytes).pool rest (step-good p bytes good) size x)
     where

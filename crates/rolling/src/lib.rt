@@ -1,5 +1,6 @@
 // The rolling functions of Xoofff, on states of twelve lanes: the lane at x of plane y is element x + 4 y.
 #![tactic(auto)]
+
 ghost use Rattle.std.specs.Prelude.{◌≡◌};
 ghost use Rattle.word.specs.Word.{bit};
 ghost use Rattle.state.specs.State.{on};

@@ -1,6 +1,7 @@
 // Rolled states as a row of words: a rolling appends one word, and states that are rolled one after another are windows of the row. So four of them
 // side by side are read without being written first (document 02, request 10). A row has room for a state, sixteen times four rollings and four words.
 #![tactic(auto)]
+
 ghost use Rattle.std.specs.Prelude.{◌≡◌, ◌+◌, ◌≤◌, replicate};
 ghost use Rattle.rolling.specs.Rolling.{roll_in, roll_out};
 ghost use Rattle.rows.specs.Row.{begun, state_at, appended, renewed, renewed_at};

@@ -157,28 +157,40 @@ unfolding letters_of
 letters-box key h [] AllFit.none = Box.finished
 letters-box key h (m ∷ ms) (AllFit.more f a) = Box.letter f (letters-box key (history_after key h m) ms a)
 
+fit_in_box : {key : List ℕ} {h : List Str} {cs : List SaeCall} {ms : List Message} → Box key h cs ms → AllFit key h ms
+fit_in_box Box.finished = AllFit.none
+fit_in_box (Box.letter f b) = AllFit.more f (fit_in_box b)
+fit_in_box (Box.other s b) = fit_in_box b
+fit_in_box (Box.wrap-tried b) = fit_in_box b
+
 pub box-fits : BoxFits
-box-fits key h [] [] Box.finished = AllFit.none
-box-fits key h (unwrap i ∷ cs) (m ∷ ms) (Box.letter f b) = AllFit.more f (box-fits key (history_after key h m) cs ms b)
-box-fits key h (unwrap i ∷ cs) ms (Box.other s b) = box-fits key h cs ms b
-box-fits key h (wrap i ∷ cs) ms (Box.wrap-tried b) = box-fits key h cs ms b
+box-fits key h cs ms b = fit_in_box b
 
 -- ---- what comes back
 
 pub back-in-order : BackInOrder
 back-in-order [] [] [] Back.finished = AllBack.none
+back-in-order [] [] (o ∷ os) b = elim b [ ]
+back-in-order [] (m ∷ ms) os b = elim b [ ]
+back-in-order (c ∷ cs) ms [] b = elim b [ ]
 back-in-order (c ∷ cs) (m ∷ ms) (o ∷ os) (Back.comes_back n e b) = rw (eq-eqb o.number 0 n) (AllBack.more n e (back-in-order cs ms os b))
 back-in-order (c ∷ cs) ms (o ∷ os) (Back.refused n b) = rw (ne_eqb o.number 0 n) (back-in-order cs ms os b)
 
 -- there are no more messages than calls
 no_more : (cs : List SaeCall) (ms : List Message) (os : List (Outcome DeckState)) → Back cs ms os → length ms ≤ length cs
 no_more [] [] [] Back.finished = omega arith
+no_more [] [] (o ∷ os) b = elim b [ ]
+no_more [] (m ∷ ms) os b = elim b [ ]
+no_more (c ∷ cs) ms [] b = elim b [ ]
 no_more (c ∷ cs) (m ∷ ms) (o ∷ os) (Back.comes_back n e b) = omega (arith, no_more cs ms os b)
 no_more (c ∷ cs) ms (o ∷ os) (Back.refused n b) = omega (arith, no_more cs ms os b)
 
 -- so where there are no more calls than messages, none is refused
 pub all_back : (cs : List SaeCall) (ms : List Message) (os : List (Outcome DeckState)) → Back cs ms os → length cs ≤ length ms → AllBack ms os
 all_back [] [] [] Back.finished l = AllBack.none
+all_back [] [] (o ∷ os) b l = elim b [ ]
+all_back [] (m ∷ ms) os b l = elim b [ ]
+all_back (c ∷ cs) ms [] b l = elim b [ ]
 all_back (c ∷ cs) (m ∷ ms) (o ∷ os) (Back.comes_back n e b) l = AllBack.more n e (all_back cs ms os b (omega arith))
 all_back (c ∷ cs) ms (o ∷ os) (Back.refused n b) l = let none : ⊥ = omega (arith, no_more cs ms os b) in absurd none
 

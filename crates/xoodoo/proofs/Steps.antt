@@ -12,8 +12,8 @@ use lib.Bits.{bit_and, bit_xor}
 use Rattle.word.specs.Word.{bit, rotate_left, ◌⊕◌}
 use Rattle.word.proofs.Lists.{Words}
 use Rattle.word.proofs.Bit.{Is, is_eq, is-own, is-more, is_zero, is-xor, is-and, is-not}
-use Rattle.state.specs.State.{State, plane, shift, bits, lane, on}
-use Rattle.state.proofs.Lanes.{Agree, Local, shifted, next, twelve, lanes-are}
+use Rattle.state.specs.State.{shift, bits, lane, on}
+use Rattle.state.proofs.Lanes.{Local, shifted, next, twelve, lanes-are}
 use Rattle.xoodoo.specs.Xoodoo.{P, theta, rho_west, C, iota, B, chi, rho_east, round, rounds}
 
 -- one lane of chi

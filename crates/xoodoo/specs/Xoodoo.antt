@@ -1,6 +1,6 @@
 -- The permutation Xoodoo (003, section 2, Algorithm 1), by bits at (x, y, z), line by line and by the paper's names. On bits the
 -- paper's + is ⊕, its · is && and its bar is not. Assumes nothing.
-use Rattle.std.specs.Prelude.{Bool, not, ◌&&◌, List, [], ◌∷◌, ℕ, eqb}
+use Rattle.std.specs.Prelude.{not, ◌&&◌, List, [], ◌∷◌, ℕ, eqb}
 use Rattle.word.specs.Word.{bit, ◌⊕◌}
 use Rattle.state.specs.State.{Plane, State, plane, planes, shift, on}
 

@@ -1,5 +1,6 @@
 // The permutation Xoodoo[6], on states of twelve lanes: the lane at x of plane y is element x + 4 y.
 #![tactic(auto)]
+
 ghost use Rattle.std.specs.Prelude.{◌≡◌};
 ghost use Rattle.word.specs.Word.{bit, of_bits, rotate_left, ◌⊕◌};
 ghost use Rattle.state.specs.State.{lane, on};

@@ -1,6 +1,7 @@
 // The permutation Xoodoo[6] of four states side by side in 48 lanes: lane i of state j is element 4 i + j, so that a processor which
 // works on four lanes together does a step of all four states at once.
 #![tactic(auto)]
+
 ghost use Rattle.std.specs.Prelude.{◌≡◌, ◌+◌, ◌*◌, ◌<◌, ◌≤◌, length};
 ghost use Rattle.xoodoo.specs.Xoodoo.{round, perm};
 ghost use Rattle.xoodoo4.specs.Four.{part, put, beside, each, laid, into};

@@ -1,5 +1,6 @@
 // The deck function Xoofff, incremental: the leaves that compress a string and expand the output.
 #![tactic(auto)]
+
 ghost use Rattle.std.specs.Prelude.{◌≡◌, ◌+◌, ◌-◌, ◌/◌, ◌≤◌, ◌<◌, min, length, get_or};
 ghost use Rattle.word.specs.Lists.{sum};
 ghost use Rattle.state.specs.Bytes.{state_byte};

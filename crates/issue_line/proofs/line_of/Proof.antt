@@ -2,7 +2,7 @@
 use mathlib.Core.Path.{sym, ◌∙◌}
 use borrow.Author.Rules.{rules}
 use borrow.Author.Tests.{not-true, not-false}
-use Rattle.issue_line.proofs.Steps.{no-group, no_size, no-first, no_last, no_such_day, first-zero, not-in-order, more-follows, line_read}
+use Rattle.issue_line.proofs.Steps.{no-group, no_such_size, no-first, no_last, no_such_day, first-zero, not-in-order, more-follows, line_read}
 use Rattle.issue_line.proofs.line_of.Statement.{statement}
 use Rattle.issue_line.proofs.line_of.Tie as tie
 
@@ -10,7 +10,7 @@ returns : tie.Need-returns
 returns c = c.no_line.ensures ∙ sym (no-group _ _ _ _ _ _ (not-true _ c.before.if1.true))
 
 returns-2 : tie.Need-returns-2
-returns-2 c = c.no-line2.ensures ∙ sym (no_size _ _ _ _ _ _ (not-true _ c.before.if2.true))
+returns-2 c = c.no-line2.ensures ∙ sym (no_such_size _ _ _ _ _ _ (not-true _ c.before.if2.true))
 
 returns-3 : tie.Need-returns-3
 returns-3 c = c.no-line3.ensures ∙ sym (no-first _ _ _ _ _ _ (not-true _ c.before.if3.true))

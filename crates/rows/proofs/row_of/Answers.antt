@@ -1,0 +1,24 @@
+-- `rows::row_of` meets its contract. The loop's invariant: the words below p stand. Assumes nothing.
+use mathlib.Core.Path.{◌≡◌, sym, ap, ◌∙◌}
+use mathlib.Core.List.{List}
+use Prim.Native.Nat.{ℕ}
+use native.Mathlib.Omega.{arith}
+use lib.ListN.{get_or, set, replicate}
+use Rattle.rows.specs.Row.{lane_of, begun}
+use Rattle.rows.proofs.Rows.{begun-none, begun_more}
+use Rattle.rows.proofs.row_of.Goals as goal
+
+pub loop-p-init : goal.loop-p-init
+loop-p-init c = (omega arith, sym (begun-none _ _))
+
+pub loop-p-preserved : goal.loop-p-preserved
+loop-p-preserved c =
+    let l = c.loop-p in
+    let k = c.args.k in
+    (omega arith, ap (λ (m : List ℕ). set m l.p (get_or k (lane_of l.p) 0)) l.invariant.1 ∙ sym (begun_more l.p k (replicate 80 0)))
+
+pub returns : goal.returns
+returns c =
+    let l = c.loop-p in
+    let k = c.args.k in
+    let e : l.p ≡ 12 = omega arith in l.invariant.1 ∙ ap (λ (n : ℕ). begun n k (replicate 80 0)) e
