@@ -1,6 +1,7 @@
 // Issue lines (document 02, request 6): `group,size,first,last,day` and a line feed, as in `7,C,12001,12100,20250304`. Bytes are one line or none:
 // specs/Layout.antt has the layout, specs/Read.antt what is found, and proofs/Reading.antt that this is just what is spelled.
 #![tactic(auto)]
+
 ghost use Rattle.std.specs.Prelude.{◌≡◌};
 ghost use Rattle.issue_line.specs.Read.{no_size, read_size, read_day, no_line, line_of, read_line};
 
@@ -120,6 +121,7 @@ fn no_line() -> Line
 }
 
 // The line of n bytes in which these fields were read.
+#[tactic(auto, unfolding(crate::specs::Read::line_of, crate::specs::Read::is_line))]
 fn line_of(n: usize, g: Number, z: Size, f: Number, l: Number, d: Number) -> Line
     ensures { result ≡ line_of n g z f l d }
 {
