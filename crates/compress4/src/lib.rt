@@ -1,6 +1,7 @@
 // A second compression, which takes four full blocks with four masks side by side, sums the results of all such groups side by side and adds the four
 // sums at the end (document 02, request 10), and the choice between it and the present one.
 #![tactic(auto)]
+
 ghost use Rattle.std.specs.Prelude.{◌≡◌, ◌+◌, ◌<◌, ◌≤◌, length};
 ghost use Rattle.word.specs.Lists.{sum};
 ghost use Rattle.xoodoo.specs.Xoodoo.{perm};

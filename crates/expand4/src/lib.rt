@@ -1,5 +1,6 @@
 // A second expansion, which makes four output blocks side by side (document 02, request 10), and the choice between it and the present one.
 #![tactic(auto)]
+
 ghost use Rattle.std.specs.Prelude.{◌≡◌, ◌+◌, ◌<◌, ◌≤◌, length};
 ghost use Rattle.word.specs.Lists.{sum};
 ghost use Rattle.state.specs.Bytes.{state_byte};

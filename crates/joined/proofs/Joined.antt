@@ -15,8 +15,7 @@ use Rattle.deck.specs.Strings.{Str, b}
 use Rattle.deck.specs.Closing.{closed_by, frame_bits}
 use Rattle.deck.specs.Deck.{index_growth}
 use Rattle.deck.specs.Incremental.{append}
-use Rattle.deck.proofs.Strings.{blocks-front, closed-blocks}
-use Rattle.deck.proofs.Deck.{closed-growth}
+use Rattle.deck.proofs.Strings.{blocks-front}
 use Rattle.deck.proofs.Incremental.{append-front}
 use Rattle.xoofff.specs.declared.Compressed.{Compressed}
 use Rattle.xoofff.specs.Leaves.{compressed}

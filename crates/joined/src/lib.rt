@@ -1,5 +1,6 @@
 // One more string of two runs of bytes, compressed where they stand: only the block in which they meet is assembled.
 #![tactic(auto)]
+
 ghost use Rattle.std.specs.Prelude.{◌≡◌, ◌++◌, ◌+◌, ◌≤◌, ◌<◌, length, get_or, take};
 ghost use Rattle.deck.specs.Closing.{closed_by};
 ghost use Rattle.xoofff.specs.Leaves.{compressed};

@@ -1,6 +1,7 @@
 // Issue seasons (document 02, request 8): each of the eight sizes has a window, and its rings are issued on the days on which that is open.
-// specs/Seasons.antt says which number a day gets, specs/first_day.antt what the first permitted day is; proofs/ shows both.
+// specs/Seasons.antt says which number a day gets, specs/FirstDay.antt what the first permitted day is; proofs/ shows both.
 #![tactic(auto)]
+
 ghost use Rattle.std.specs.Prelude.{◌≤◌, ◌≡◌};
 ghost use Rattle.seasons.specs.Seasons.{window_of, season_number};
 ghost use Rattle.seasons.specs.FirstDay.{FirstDay};

@@ -1,0 +1,27 @@
+-- `steps::copy` meets its contract. The loop's invariant: the first i bytes are the text's, and the rest is as it was. Assumes nothing.
+use mathlib.Core.Path.{◌≡◌, refl, ap, ◌∙◌}
+use mathlib.Core.List.{List, ◌++◌}
+use Prim.Native.Nat.{ℕ, ◌≤◌, ◌-◌}
+use native.Mathlib.Omega.{arith}
+use lib.ListN.{length, take, drop, set, get_or, length-set}
+use Rattle.steps.proofs.Buffers.{front-more, front-all}
+use Rattle.steps.proofs.copy.Goals as goal
+
+pub loop-i-init : goal.loop-i-init
+loop-i-init c = (omega arith, refl, refl)
+
+pub loop-i-preserved : goal.loop-i-preserved
+loop-i-preserved c =
+    let l = c.loop-i in
+    let a = c.args in
+    let v = get_or a.text.now l.i 0 in (
+      omega arith,
+      length-set l.out l.i v ∙ l.invariant.1,
+      ap (λ (x : List ℕ). set x l.i v) l.invariant.2 ∙ front-more a.text.now a.out.now l.i (omega arith) (omega arith),
+    )
+
+pub returns : goal.returns
+returns c =
+    let l = c.loop-i in
+    let a = c.args in
+    l.invariant.2 ∙ front-all a.text.now a.out.now l.i (omega arith)

@@ -1,0 +1,13 @@
+-- `steps::index_growth` meets its contract. Assumes nothing.
+use borrow.Author.Rules.{rules}
+use Rattle.steps.proofs.History.{growth-bare, growth-text, growth-both}
+use Rattle.steps.proofs.index_growth.Goals as goal
+
+pub returns-then-mlen-eq0 : goal.returns-then-mlen-eq0
+returns-then-mlen-eq0 c = growth-bare _ _ c.if-mlen-eq0.true
+
+pub returns-then-alen-eq0 : goal.returns-then-alen-eq0
+returns-then-alen-eq0 c = growth-text _ _ c.if-mlen-eq0.false c.if-alen-eq0.true
+
+pub returns : goal.returns
+returns c = growth-both _ _ c.if-mlen-eq0.false c.if-alen-eq0.false
