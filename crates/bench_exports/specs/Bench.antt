@@ -1,6 +1,5 @@
 -- One string compressed from index 0, with no frame bits. Assumes nothing.
 use Rattle.std.specs.Prelude.{List, ℕ}
-use Rattle.deck.specs.declared.DeckState.{DeckState}
 use Rattle.deck.specs.Closing.{closed_by}
 use Rattle.xoofff.specs.declared.Compressed.{Compressed}
 use Rattle.xoofff.specs.Leaves.{compressed}

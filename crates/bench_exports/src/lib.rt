@@ -1,5 +1,6 @@
 // What the benchmark and a test call, exported to C: the leaves, as the crates above them call them.
 #![tactic(auto)]
+
 ghost use Rattle.std.specs.Prelude.{◌≡◌, ◌≤◌, ◌+◌, length};
 ghost use Rattle.word.specs.Lists.{sum};
 ghost use Rattle.xoodoo.specs.Xoodoo.{perm};

@@ -31,25 +31,26 @@ fn number(a: u8, b: u8, c: u8, d: u8) -> u32 {
 }
 
 // A record's answer on a line.
-fn answer(record: &[u8; 5], state: &[u8; 48]) {
+fn answer(rt: &impl Print, record: &[u8; 5], state: &[u8; 48]) {
     let times = number(record[1], record[2], record[3], record[4]);
     let s = repeated(record[0], times, state::from_bytes(state));
     let out = state::to_bytes(&s);
-    hexline::print_line(&out);
+    hexline::print_line(rt, &out);
 }
 
-fn main() {
+fn main(rt: HostRuntime) {
+    let mut input = rt.stdin();
     let mut left: u32 = 4096;
     while 0 < left {
         let mut record = [0u8; 5];
         let mut state = [0u8; 48];
-        if io::read_full(0, &mut record) < 5 {
+        if hexline::read_full(&mut input, &mut record) < 5 {
             return;
         }
-        if io::read_full(0, &mut state) < 48 {
+        if hexline::read_full(&mut input, &mut state) < 48 {
             return;
         }
-        answer(&record, &state);
+        answer(&rt, &record, &state);
         left -= 1;
     }
 }

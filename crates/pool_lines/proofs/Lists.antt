@@ -1,7 +1,7 @@
 -- Every list of byte strings, added to the empty pool one after the other, by any way to add that takes the run of a line or refuses: the pool holds
 -- just the numbers and the rings of the accepted lines, and the next byte string gets the number that these lines alone decide. Assumes nothing
 -- but what its modules name.
-use Prim.Native.Nat.{ℕ, ◌+◌, ◌-◌, ◌≤◌}
+use Prim.Native.Nat.{ℕ, ◌+◌, ◌≤◌}
 use mathlib.Core.Path.{◌≡◌, refl, sym, ap, ◌∙◌, subst}
 use mathlib.Core.Bool.{Bool, true, false, cond}
 use mathlib.Core.Logic.{◌↔◌, ◌⊎◌, inl, inr}

@@ -1,6 +1,7 @@
 // Issue lines added to a pool of unused rings (document 02, request 6): reading a line is the crate `issue_line`, adding a run the crate `pool`,
 // and here they are put together. specs/Lines.antt says what one line leads to and specs/History.antt what every list of lines does; proofs/ has it.
 #![tactic(auto)]
+
 ghost use Rattle.std.specs.Prelude.{◌≡◌};
 ghost use Rattle.pool_lines.specs.Lines.{add_line};
 

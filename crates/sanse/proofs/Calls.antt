@@ -1,6 +1,6 @@
 -- What `start`, `wrap` and `unwrap` compute, step by step, is what the rules say; over plain values, so that a function's proof only hands
 -- its facts over. Assumes nothing.
-use mathlib.Core.Path.{◌≡◌, sym, ap, ap₂, ◌∙◌}
+use mathlib.Core.Path.{◌≡◌, refl, sym, ap, ap₂, ◌∙◌}
 use mathlib.Core.Logic.{◌≢◌}
 use mathlib.Core.Bool.{Bool, true, false, not, ◌||◌, ◌&&◌, cond}
 use mathlib.Core.List.{List, [], ◌∷◌}
@@ -8,6 +8,7 @@ use Prim.Native.Nat.{ℕ, zero, suc, ◌+◌, ◌≤◌}
 use native.Mathlib.Omega.{arith}
 use lib.Dec.{leb}
 use lib.ListN.{length, take}
+use Rattle.std.proofs.Common.{length-take-le}
 use borrow.Author.Tests.{le-leb}
 use Rattle.word.specs.Lists.{sum}
 use Rattle.deck.specs.declared.DeckState.{DeckState}
@@ -21,7 +22,7 @@ use Rattle.xoofff.specs.Leaves.{compressed, output_blocks}
 use Rattle.deck.proofs.Strings.{closed-blocks}
 use Rattle.xoofff.proofs.Leaves.{blocks-most}
 use Rattle.modes.specs.Call.{CallInput}
-use Rattle.modes.specs.Mode.{is_empty, incremental, with_a, with_text, tag_of, step_result, siv_body, siv_wrap, siv_unwrap, sanse, sanse_parameters, sanse_count}
+use Rattle.modes.specs.Mode.{Mode, is_empty, incremental, with_a, with_text, tag_of, step_result, siv_body, siv_wrap, siv_unwrap, sanse, sanse_parameters, sanse_count}
 use Rattle.modes.specs.Rules.{SessionState, Opening, metadata_string, written, wrap_steps, unwrap_steps, start_at, new_session, closed}
 use Rattle.modes.proofs.Steps.{ShortFrames}
 use Rattle.steps.specs.Steps.{compressed_if, output_count}
@@ -130,6 +131,57 @@ module _ {s : SessionState DeckState} {i : CallInput} {n : ℕ} {d : DeckState} 
   unfolding siv_unwrap
   unwrap-worked e f =
       worked (e ∙ added-taken (output (append with_metadata (framed i.tag (sanse_parameters.frame_t s.toggle)))) 0 i.text i.out o (worked e f).body) f
+
+-- what wrap knows: the history gained the message, and the tag that was found
+pub wrap-done : {s : SessionState DeckState} {i : CallInput} {n : ℕ} {d : DeckState} {ca : ℕ} {h : Compressed} {cm : ℕ} {g : Compressed} {t : List ℕ} {q ct : ℕ} {o : List ℕ} {r : ℕ}
+    → Begun sanse s i n d ca h → cm ≡ closing_byte (sanse_parameters.frame_m s.toggle) → g ≡ compressed_if (not (is_empty i.text)) h.state (closed_by i.text cm)
+    → (t ≡ run (output g.state) 0 (length i.tag)) × (q ≡ output_count 0 (length i.tag)) → length t ≡ length i.tag
+    → ct ≡ closing_byte (sanse_parameters.frame_t s.toggle)
+    → (o ≡ written (sum i.text (run (output (append h.state (closed_by t ct))) 0 (length i.text))) i.out)
+    × (r ≡ cond (is_empty i.text) 0 (b (length t) + output_count 0 (length i.text)))
+    → Done s i n d ca h i.text cm g (length i.tag) t q t ct o r
+wrap-done {s = s} {i = i} begun closes_m is_m is_tag long closes_t streamed =
+    let w = within sanse s i begun.checked begun.none in
+    record {
+      begun = begun;
+      closes_m = closes_m;
+      is_m = is_m;
+      sized = refl;
+      is_tag = is_tag;
+      fills = w.tag;
+      closes_t = closes_t;
+      tagged = long ∙ w.tag;
+      streamed = streamed;
+    }
+
+-- the message is as long as the cryptogram, since the output buffer holds it
+pub taken : (m : Mode) (s : SessionState DeckState) (i : CallInput) {n : ℕ} {d : DeckState} {ca : ℕ} {h : Compressed} → Begun m s i n d ca h → (o : List ℕ) → length o ≡ length i.out
+    → length (take (length i.text) o) ≡ length i.text
+taken m s i begun o long =
+    let w = within m s i begun.checked begun.none in
+    length-take-le _ _ (omega (arith, w.holds))
+
+-- what unwrap knows: the history gained the message at the output buffer's start, under the tag that arrived
+pub unwrap-done : {s : SessionState DeckState} {i : CallInput} {n : ℕ} {d : DeckState} {ca : ℕ} {h : Compressed} {cm : ℕ} {g : Compressed} {t : List ℕ} {q ct : ℕ} {o : List ℕ} {r : ℕ}
+    → Begun sanse s i n d ca h → length o ≡ length i.out → cm ≡ closing_byte (sanse_parameters.frame_m s.toggle)
+    → g ≡ compressed_if (not (is_empty (take (length i.text) o))) h.state (closed_by (take (length i.text) o) cm)
+    → (t ≡ run (output g.state) 0 32) × (q ≡ output_count 0 32) → ct ≡ closing_byte (sanse_parameters.frame_t s.toggle)
+    → (o ≡ written (sum i.text (run (output (append h.state (closed_by i.tag ct))) 0 (length i.text))) i.out)
+    × (r ≡ cond (is_empty i.text) 0 (b (length i.tag) + output_count 0 (length i.text)))
+    → Done s i n d ca h (take (length i.text) o) cm g 32 t q i.tag ct o r
+unwrap-done {s = s} {i = i} {o = o} begun long closes_m is_m is_tag closes_t streamed =
+    let w = within sanse s i begun.checked begun.none in
+    record {
+      begun = begun;
+      closes_m = closes_m;
+      is_m = is_m;
+      sized = taken sanse s i begun o long;
+      is_tag = is_tag;
+      fills = refl;
+      closes_t = closes_t;
+      tagged = w.tag;
+      streamed = streamed;
+    }
 
 -- ---- start
 

@@ -14,6 +14,7 @@ use contract.Lifetimes.{Lfts}
 use contract.Monad.{Fun}
 use contract.Notation.{connectives}
 use denote.Ref.{Bor}
+use denote.MutBor.{MutBor}
 use denote.Triple.Clauses.{AtExit}
 use denote.Triple.Entry.{Args, Res}
 use borrow.Fn.Kinds.{Dens, ended_of}
@@ -223,9 +224,12 @@ envelope_promises four = record { wraps = WrapEnvelopePromise four; unwraps = Un
 abbrev pub promises : Bool → Promises sanse_kind
 promises four = both_sorts sanse_kind (bare_promises four) (envelope_promises four)
 
--- some reference to these bytes, and some lifetimes, one for each slice that wrap or unwrap is handed
+-- some reference to these bytes, read only or lent, and some lifetimes, one for each slice that wrap or unwrap is handed
 abbrev to : List ℕ → Bor (List ℕ)
 to x = record { ref_ptr = (0, 0); now = x }
+
+abbrev lent : List ℕ → MutBor (List ℕ)
+lent x = record { ref_ptr = (0, 0); ghost_name = 0; now = x }
 
 abbrev lifetimes : Lfts 4
 lifetimes = ([], ([], ([], ([], tt))))
@@ -246,8 +250,8 @@ module _ (four : Bool) (s : Session) (i : CallInput) (r : CallResult) (out tag :
         sym (λ j. call_result r (p.is_out j) (p.is_tag j)) ∙ p.met
         ∙ (λ j. wrap_at sanse incremental (state_of (p.is_record j)) (p.is_input j)),
     λ e.
-        wrap-kept lifetimes (s, (to i.metadata, (to i.text, (to i.out, (to i.tag, (four, tt))))))
-        (s, (to i.metadata, (to i.text, (to out, (to tag, (four, tt)))))) r e,
+        wrap-kept lifetimes (s, (to i.metadata, (to i.text, (lent i.out, (lent i.tag, (four, tt))))))
+        (s, (to i.metadata, (to i.text, (lent out, (lent tag, (four, tt)))))) r e,
   )
 
   pub unwrap-is : UnwrapPromise four s (with_header bare i) r out tag ↔ (call_result r out tag ≡ unwrap_at sanse incremental (state_of s) (with_header bare i))
@@ -258,8 +262,8 @@ module _ (four : Bool) (s : Session) (i : CallInput) (r : CallResult) (out tag :
     λ e.
         let t : i.tag ≡ tag = tag-kept bare e in
         subst (UnwrapPromise four s (with_header bare i) r out) t
-        (unwrap-kept lifetimes (s, (to i.metadata, (to i.text, (to i.tag, (to i.out, (four, tt))))))
-        (s, (to i.metadata, (to i.text, (to i.tag, (to out, (four, tt)))))) r (ap (call_result r out) t ∙ e)),
+        (unwrap-kept lifetimes (s, (to i.metadata, (to i.text, (to i.tag, (lent i.out, (four, tt))))))
+        (s, (to i.metadata, (to i.text, (to i.tag, (lent out, (four, tt)))))) r (ap (call_result r out) t ∙ e)),
   )
 
   -- under the header x
@@ -271,8 +275,8 @@ module _ (four : Bool) (s : Session) (i : CallInput) (r : CallResult) (out tag :
           sym (λ j. call_result r (p.is_out j) (p.is_tag j)) ∙ p.met
           ∙ (λ j. wrap_at sanse incremental (state_of (p.is_record j)) (p.is_input j)),
       λ e.
-          wrap-envelope-kept ([], lifetimes) (s, (to x, (to i.metadata, (to i.text, (to i.out, (to i.tag, (four, tt)))))))
-          (s, (to x, (to i.metadata, (to i.text, (to out, (to tag, (four, tt))))))) r e,
+          wrap-envelope-kept ([], lifetimes) (s, (to x, (to i.metadata, (to i.text, (lent i.out, (lent i.tag, (four, tt)))))))
+          (s, (to x, (to i.metadata, (to i.text, (lent out, (lent tag, (four, tt))))))) r e,
     )
 
     pub unwrap-envelope-is : UnwrapEnvelopePromise four s (with_header (under x) i) r out tag
@@ -284,6 +288,6 @@ module _ (four : Bool) (s : Session) (i : CallInput) (r : CallResult) (out tag :
       λ e.
           let t : i.tag ≡ tag = tag-kept (under x) e in
           subst (UnwrapEnvelopePromise four s (with_header (under x) i) r out) t
-          (unwrap-envelope-kept ([], lifetimes) (s, (to x, (to i.metadata, (to i.text, (to i.tag, (to i.out, (four, tt)))))))
-          (s, (to x, (to i.metadata, (to i.text, (to i.tag, (to out, (four, tt))))))) r (ap (call_result r out) t ∙ e)),
+          (unwrap-envelope-kept ([], lifetimes) (s, (to x, (to i.metadata, (to i.text, (to i.tag, (lent i.out, (four, tt)))))))
+          (s, (to x, (to i.metadata, (to i.text, (to i.tag, (lent out, (four, tt))))))) r (ap (call_result r out) t ∙ e)),
     )

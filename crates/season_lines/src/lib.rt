@@ -1,7 +1,8 @@
 // Issue lines added to a pool of unused rings in their season, and the first permitted day of one (document 02, request 8). The numbers in their order:
 // 13 is of the crate `issue_line`, 16 and 17 of `seasons`, 14 and 15 of `pool`. specs/Lines.antt says what one line leads to, specs/History.antt what
-// every list of lines does, specs/first_day.antt what the first permitted day is; proofs/ has it.
+// every list of lines does, specs/FirstDay.antt what the first permitted day is; proofs/ has it.
 #![tactic(auto)]
+
 ghost use Rattle.std.specs.Prelude.{◌≡◌};
 ghost use Rattle.season_lines.specs.Lines.{add_in_season};
 ghost use Rattle.season_lines.specs.FirstDay.{LineFirst};

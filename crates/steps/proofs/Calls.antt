@@ -223,6 +223,24 @@ module _ (m : Mode) (s : SessionState DeckState) (head metadata text out tag : L
   unfolding metadata_string
   string-long h w = omega (arith, w.metadata, length-append head metadata)
 
+  -- what the code knows once no check was met and A is in the history
+  pub begun-of : {n c : ℕ} {d : DeckState} {h : Compressed}
+      → n ≡ first_check_of s.opened (s.history.index + growth (length head + length metadata) (length text)) m.parameters.tag_length
+      (length metadata) (length text) (length tag) (length out) → n ≡ 0 → d ≡ s.history → c ≡ closing_byte (m.parameters.frame_a s.toggle) → length head ≤ 17
+      → h ≡ compressed_if (not (is_empty (head ++ metadata)) || is_empty text) d (closed_by (head ++ metadata) c)
+      → Begun m s (headed (under head) metadata text out tag) n d c h
+  unfolding metadata_string
+  begun-of e z held closes l is =
+      let k = first-of e in
+      record {
+        checked = k;
+        none = z;
+        held = held;
+        closes = closes;
+        long = string-long l (within m s (headed (under head) metadata text out tag) k z);
+        is_a = is;
+      }
+
 -- the header plays no part in what a refusal leaves
 pub same-unless : (n : ℕ) (s : SessionState DeckState) (h g : CallHeader) (metadata text out tag : List ℕ) (o : Outcome DeckState)
     → if_no_check n s (headed h metadata text out tag) o ≡ if_no_check n s (headed g metadata text out tag) o

@@ -2,7 +2,9 @@
 // the key and an empty history; S appends the string of the data and the header's closing byte; O prints index, accumulator, mask and a run
 // of the output, each on a line. The header: the letter, the closing byte, the length and the offset, the lowest byte first.
 #![tactic(auto)]
+
 use deck::DeckState;
+use std::io::Read;
 
 // A header's fields.
 #[derive(Clone, Copy)]
@@ -23,9 +25,9 @@ fn parse(h: &[u8; 6]) -> Header {
 }
 
 // A state on a line.
-fn print_state(s: [u32; 12]) {
+fn print_state(rt: &impl Print, s: [u32; 12]) {
     let b = state::to_bytes(&s);
-    hexline::print_line(&b);
+    hexline::print_line(rt, &b);
 }
 
 // The run of the output from byte `from` on, added to the buffer.
@@ -40,16 +42,16 @@ fn fill(y: [u32; 12], mask: &[u32; 12], from: usize, out: &mut [u8]) {
 }
 
 // The lines of an O.
-fn print_output(d: DeckState, from: usize, out: &mut [u8]) {
-    io::print_decimal(1, d.index as u64);
-    io::write_all(1, b"\n");
+fn print_output(rt: &impl Print, d: DeckState, from: usize, out: &mut [u8]) {
+    let index = d.index;
+    let _ = println!(rt; "{index}");
     let acc = d.acc;
     let mask = d.mask;
-    print_state(acc);
-    print_state(mask);
+    print_state(rt, acc);
+    print_state(rt, mask);
     let y = xoodoo::permute(acc);
     fill(y, &mask, from, out);
-    hexline::print_line(out);
+    hexline::print_line(rt, out);
 }
 
 // The state under a key, before the first string.
@@ -82,12 +84,18 @@ fn appended(d: DeckState, s: &[u8], closing: u8) -> DeckState {
 }
 
 // The state after a record.
-fn record(d: DeckState, h: Header, data: &mut [u8]) -> DeckState {
+fn record(
+    rt: &impl Print,
+    input: &mut impl Read,
+    d: DeckState,
+    h: Header,
+    data: &mut [u8],
+) -> DeckState {
     if h.letter == b'O' {
-        print_output(d, h.from, data);
+        print_output(rt, d, h.from, data);
         return d;
     }
-    io::read_full(0, data);
+    hexline::read_full(input, data);
     if h.letter == b'K' {
         return opening(data, d);
     }
@@ -95,15 +103,22 @@ fn record(d: DeckState, h: Header, data: &mut [u8]) -> DeckState {
 }
 
 // The same, with a buffer that is to hold the record's bytes; a longer record is passed over.
-fn within(d: DeckState, h: Header, buffer: &mut [u8]) -> DeckState {
+fn within(
+    rt: &impl Print,
+    input: &mut impl Read,
+    d: DeckState,
+    h: Header,
+    buffer: &mut [u8],
+) -> DeckState {
     let n = h.len;
     if buffer.len() < n {
         return d;
     }
-    record(d, h, &mut buffer[..n])
+    record(rt, input, d, h, &mut buffer[..n])
 }
 
-fn main() {
+fn main(rt: HostRuntime) {
+    let mut input = rt.stdin();
     let z = [0u32; 12];
     let k = [0u32; 12];
     let mut d = DeckState {
@@ -114,11 +129,11 @@ fn main() {
     let mut left: u32 = 4096;
     while 0 < left {
         let mut head = [0u8; 6];
-        if io::read_full(0, &mut head) < 6 {
+        if hexline::read_full(&mut input, &mut head) < 6 {
             return;
         }
         let mut data = [0u8; 16401];
-        let t = within(d, parse(&head), &mut data);
+        let t = within(&rt, &mut input, d, parse(&head), &mut data);
         d = t;
         left -= 1;
     }

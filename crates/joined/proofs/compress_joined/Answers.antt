@@ -27,12 +27,12 @@ returns-then-n-lt48 c =
 pub overflow_add-state : goal.overflow_add-state
 overflow_add-state c =
     let q = c in
-    omega (arith, q.requires.2, q.requires.3, compressed-index _ _ _ c.compress_by-rest.ensures, c.compress_by-arg-1.given)
+    omega (arith, q.requires.2, q.requires.3, compressed-index _ _ _ c.compress_by-rest.ensures)
 
 pub overflow_add-count : goal.overflow_add-count
 overflow_add-count c =
     let q = c in
-    omega (arith, q.requires.2, compressed-count _ _ _ c.compress_by-rest.ensures, c.compress_by-arg-1.given)
+    omega (arith, q.requires.2, compressed-count _ _ _ c.compress_by-rest.ensures)
 
 pub returns : goal.returns
 returns c =
