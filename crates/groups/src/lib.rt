@@ -3,6 +3,7 @@
 // request 7); whether the header is the call's own, check 1, is the table's to ask. `four` is whether full blocks are taken four side by side (request 10): it
 // alters nothing but the time.
 #![tactic(auto)]
+
 ghost use Rattle.std.specs.Prelude.{◌≡◌, ◌+◌, ◌≤◌, length};
 ghost use Rattle.modes.specs.Mode.{sanse_count};
 ghost use Rattle.modes.specs.Rules.{growth, first_check_of};
