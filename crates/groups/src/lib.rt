@@ -124,6 +124,7 @@ fn charged(r: CallResult, allowance: u32, spent: u32) -> GroupResult
 // ---- the calls
 
 // Opens a group: a fresh session in the record, its count plus 1. The record stays as it was where 4 or 10 refuses.
+#[tactic(auto, using(crate::proofs::Laws::open_long))]
 pub fn open(r: Record, allowance: u32, key: &[u8]) -> GroupResult
     ensures { group_opening_result result ≡ open_on_day allowance (record_of r) key.now }
 {
