@@ -1,9 +1,10 @@
 // Runs the crate `envelope` on the cases of standard input, and writes a line for each: scripts/envelope_vectors.py makes the cases and, by an
 // implementation of its own, the lines that are expected. A case is a record of 24 bytes, numbers in it two bytes each, lowest first.
 #![tactic(auto)]
+
 ghost use Rattle.std.specs.Prelude.{◌<◌};
 
-use libc::STDOUT_FILENO;
+use std::io::Read;
 
 // Byte j of the strings that the cases are made of.
 fn pattern(j: usize) -> u8 {
@@ -11,9 +12,8 @@ fn pattern(j: usize) -> u8 {
 }
 
 // Writes a number and a space.
-fn put(n: usize) {
-    io::print_decimal(STDOUT_FILENO, n as u64);
-    io::write_all(STDOUT_FILENO, b" ");
+fn put(rt: &impl Print, n: usize) {
+    let _ = print!(rt; "{n} ");
 }
 
 // A byte as a number.
@@ -43,21 +43,21 @@ fn checksum(s: &[u8]) -> usize {
 }
 
 // Writes the length of a part and a sum over it.
-fn put_part(s: &[u8]) {
-    put(s.len());
-    put(checksum(s));
+fn put_part(rt: &impl Print, s: &[u8]) {
+    put(rt, s.len());
+    put(rt, checksum(s));
 }
 
 // Reads the envelope at the start of some bytes, and writes number, letter, group, place and the three parts.
-fn put_read(s: &[u8]) {
+fn put_read(rt: &impl Print, s: &[u8]) {
     let e = envelope::read_envelope(s);
-    put(e.number as usize);
-    put(wide(e.letter));
-    put(e.group as usize);
-    put(e.place);
-    put_part(envelope::metadata(s));
-    put_part(envelope::cryptogram(s));
-    put_part(envelope::tag(s));
+    put(rt, e.number as usize);
+    put(rt, wide(e.letter));
+    put(rt, e.group as usize);
+    put(rt, e.place);
+    put_part(rt, envelope::metadata(s));
+    put_part(rt, envelope::cryptogram(s));
+    put_part(rt, envelope::tag(s));
 }
 
 // Puts a string of the cases from a place of a buffer on.
@@ -82,7 +82,7 @@ fn copy_header(case: &[u8; 24], out: &mut [u8]) {
 }
 
 // Record 0: byte 1 is how many of the bytes from 2 on are the header (20 at most), and at 22 stands how many bytes follow it.
-fn put_case(case: &[u8; 24], bytes: &mut [u8]) {
+fn put_case(rt: &impl Print, case: &[u8; 24], bytes: &mut [u8]) {
     let head = wide(case[1]);
     let n = head + word(case, 22);
     if bytes.len() < n {
@@ -90,17 +90,17 @@ fn put_case(case: &[u8; 24], bytes: &mut [u8]) {
     }
     copy_header(case, bytes);
     fill(bytes, head);
-    put_read(&bytes[..n]);
+    put_read(rt, &bytes[..n]);
 }
 
-fn read_case(case: &[u8; 24]) {
+fn read_case(rt: &impl Print, case: &[u8; 24]) {
     let mut bytes = [0u8; 33000];
-    put_case(case, &mut bytes);
+    put_case(rt, case, &mut bytes);
 }
 
 // Writes an envelope to the first bytes of a buffer, with parts of a string; then writes number, length, a sum over the buffer, and what is
 // read from it. Byte 1 of the case is the letter; at 2, 4, 6, 8 and 10 stand the group and the lengths of metadata, cryptogram, tag and buffer.
-fn put_write(case: &[u8; 24], source: &[u8], out: &mut [u8]) {
+fn put_write(rt: &impl Print, case: &[u8; 24], source: &[u8], out: &mut [u8]) {
     let a = word(case, 4);
     let c = word(case, 6) + 7;
     let t = word(case, 8) + 11;
@@ -125,38 +125,39 @@ fn put_write(case: &[u8; 24], source: &[u8], out: &mut [u8]) {
         &source[11..t],
         &mut out[..room],
     );
-    put(w.number as usize);
-    put(w.len);
-    put(checksum(out));
-    put_read(out);
+    put(rt, w.number as usize);
+    put(rt, w.len);
+    put(rt, checksum(out));
+    put_read(rt, out);
 }
 
 // Record 1. The buffers have room for the longest envelope and some more.
-fn write_case(case: &[u8; 24]) {
+fn write_case(rt: &impl Print, case: &[u8; 24]) {
     let mut source = [0u8; 33000];
     let mut out = [0u8; 33000];
     fill(&mut source, 0);
     fill(&mut out, 1);
-    put_write(case, &source, &mut out);
+    put_write(rt, case, &source, &mut out);
 }
 
 // One case; false at the end of the input.
-fn one_case() -> bool {
+fn one_case(rt: &impl Print, input: &mut impl Read) -> bool {
     let mut case = [0u8; 24];
-    if io::read_full(0, &mut case) < 24 {
+    if hexline::read_full(input, &mut case) < 24 {
         return false;
     }
     if case[0] == 0 {
-        read_case(&case);
+        read_case(rt, &case);
     } else {
-        write_case(&case);
+        write_case(rt, &case);
     }
-    io::write_all(STDOUT_FILENO, b"\n")
+    println!(rt; "").is_ok()
 }
 
-fn main() {
+fn main(rt: HostRuntime) {
+    let mut input = rt.stdin();
     let mut turns = u64::MAX;
-    while turns > 0 && one_case() {
+    while turns > 0 && one_case(&rt, &mut input) {
         turns -= 1;
     }
 }
