@@ -12,7 +12,7 @@ use types.Logic.{Logic}
 use contract.Lifetimes.{Lfts}
 use contract.Monad.{Fun}
 use contract.Notation.{connectives}
-use denote.Ref.{Bor}
+use denote.MutBor.{MutBor}
 use denote.Triple.Clauses.{AtExit}
 use denote.Triple.Entry.{Args, Res}
 use borrow.Fn.Kinds.{Dens, ended_of}
@@ -79,8 +79,8 @@ code-kept κs args exits r h =
     record { κs = κs; args = args; exits = exits; answer = r; is_record = refl; is_packet = refl; is_out = refl; gave = refl; met = h }
 
 -- some reference to these bytes
-abbrev to : List ℕ → Bor (List ℕ)
-to x = record { ref_ptr = (0, 0); now = x }
+abbrev to : List ℕ → MutBor (List ℕ)
+to x = record { ref_ptr = (0, 0); ghost_name = 0; now = x }
 
 -- what it says: just the equation with the definition
 pub code_is : (s : Session) (packet : ℕ) (out : List ℕ) (g : CodeOutcome)

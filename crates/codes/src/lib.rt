@@ -1,6 +1,7 @@
 // Codes of packets: 8 bytes of the deck function of a session's history, by value and of a record that is lent to be read. No session is
 // altered, and nothing is counted for a day.
 #![tactic(auto)]
+
 ghost use Rattle.std.specs.Prelude.{◌≡◌, ◌+◌, ◌*◌, ◌≤◌, length};
 ghost use Rattle.deck.specs.Deck.{run};
 ghost use Rattle.deck.specs.Incremental.{output};

@@ -176,9 +176,9 @@ module _ (allowance : ℕ) (g : Record) (key : List ℕ) where
       → group_opening_result r ≡ open_on_day allowance (record_of g) key
   open-short r h e = open-refused-by 4 (λ z. omega (arith, z)) (rw (lt-leb 16 (length key) h)) r e
 
-  pub open-long : (r : GroupResult) → 16 ≤ length key → 47 < length key → r ≡ record { number = 4; count = 0; left = g }
+  pub open_long : (r : GroupResult) → 16 ≤ length key → 47 < length key → r ≡ record { number = 4; count = 0; left = g }
       → group_opening_result r ≡ open_on_day allowance (record_of g) key
-  open-long r l h e = open-refused-by 4 (λ z. omega (arith, z)) (rw (le-leb 16 (length key) l, lt-leb (length key) 47 h)) r e
+  open_long r l h e = open-refused-by 4 (λ z. omega (arith, z)) (rw (le-leb 16 (length key) l, lt-leb (length key) 47 h)) r e
 
   module _ (l : 16 ≤ length key) (h : length key ≤ 47) (t : Bool) (above : t ≡ above_allowance allowance g.count 1) where
     open-check : open_check allowance g.count key ≡ cond t 10 0

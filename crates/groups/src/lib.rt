@@ -3,6 +3,7 @@
 // request 7); whether the header is the call's own, check 1, is the table's to ask. `four` is whether full blocks are taken four side by side (request 10): it
 // alters nothing but the time.
 #![tactic(auto)]
+
 ghost use Rattle.std.specs.Prelude.{◌≡◌, ◌+◌, ◌≤◌, length};
 ghost use Rattle.modes.specs.Mode.{sanse_count};
 ghost use Rattle.modes.specs.Rules.{growth, first_check_of};
@@ -123,6 +124,7 @@ fn charged(r: CallResult, allowance: u32, spent: u32) -> GroupResult
 // ---- the calls
 
 // Opens a group: a fresh session in the record, its count plus 1. The record stays as it was where 4 or 10 refuses.
+#[tactic(auto, using(crate::proofs::Laws::open_long))]
 pub fn open(r: Record, allowance: u32, key: &[u8]) -> GroupResult
     ensures { group_opening_result result ≡ open_on_day allowance (record_of r) key.now }
 {

@@ -7,6 +7,7 @@ use Prim.Native.Nat.{ℕ, zero, suc, ◌<◌, ◌≤◌, ◌*◌, ◌^◌}
 use native.Mathlib.Omega.{arith}
 use lib.Dec.{T as Holds, ltb, eqb}
 use lib.ListN.{length, get_or, set, length-map, get_or-map}
+use Rattle.std.proofs.lemmas.List.{get_or_default}
 use borrow.Author.Tests.{ltb-false, eqb-true, eq-eqb, ne_eqb}
 use Rattle.deck.specs.declared.DeckState.{DeckState}
 use Rattle.envelope.specs.Layout.{letter_s}
@@ -67,6 +68,10 @@ start_fits n g z = let w = in_table n g z in omega (arith, w.1)
 pub group_at_lem : (l : List Record) (g : ℕ) → record_of (get_or l g zero_record) ≡ group_at (table_of l) g
 group_at_lem l g = sym (get_or-map record_of l g zero_record)
 
+-- a group within the table, by whatever is read past its end
+pub group_read : (l : List Record) (g : ℕ) (d : Record) → g < length l → record_of (get_or l g d) ≡ group_at (table_of l) g
+group_read l g d less = ap record_of (get_or_default l g d zero_record less) ∙ group_at_lem l g
+
 set-table : (l : List Record) (g : ℕ) (r : Record) → table_of (set l g r) ≡ set (table_of l) g (record_of r)
 set-table [] g r = refl
 set-table (x ∷ l) zero r = refl
@@ -101,11 +106,11 @@ module _ (lone : SessionState DeckState → CallInput → Outcome DeckState) (al
   call-refused (suc n) e z r is = ap (λ (r : Answer). table_result r l i.out i.tag) is ∙ call_by (suc n) e
 
   -- what a group's call gave, with its record written back, is what the rules say of the whole table
-  pub call-stored : stop ≡ 0 → (r : GroupResult) {out tag : List ℕ} → group_result r out tag ≡ own (record_of (get_or l g zero_record))
+  pub call-stored : stop ≡ 0 → g < length l → (r : GroupResult) (d : Record) {out tag : List ℕ} → group_result r out tag ≡ own (record_of (get_or l g d))
       → table_result (record { number = r.number; count = r.count }) (set l g r.left) out tag ≡ whole
-  call-stored e r {out} {tag} met =
+  call-stored e less r d {out} {tag} met =
       ap (λ (t : Table). record { number = r.number; count = r.count; table = t; out = out; tag = tag }) (set-table l g r.left)
-      ∙ ap (written_back (table_of l) g) (met ∙ ap own (group_at_lem l g))
+      ∙ ap (written_back (table_of l) g) (met ∙ ap own (group_read l g d less))
       ∙ call_by 0 e
 
 -- a call that is handed no header, by check 3 alone
@@ -117,10 +122,10 @@ module _ (lone : SessionState DeckState → CallInput → Outcome DeckState) (al
   pub bare-refused : no_group_outcome (length l) g ≡ true → (r : Answer) → r ≡ refused3 → table_result r l i.out i.tag ≡ whole lone allowance i l g
   bare-refused e r is = call-refused lone allowance i l g 3 (bare-stop true e) (λ z. omega (arith, z)) r is
 
-  pub bare-stored : no_group_outcome (length l) g ≡ false → (r : GroupResult) {out tag : List ℕ}
-      → group_result r out tag ≡ own lone allowance i l g (record_of (get_or l g zero_record))
+  pub bare-stored : no_group_outcome (length l) g ≡ false → (r : GroupResult) (d : Record) {out tag : List ℕ}
+      → group_result r out tag ≡ own lone allowance i l g (record_of (get_or l g d))
       → table_result (record { number = r.number; count = r.count }) (set l g r.left) out tag ≡ whole lone allowance i l g
-  bare-stored e r met = call-stored lone allowance i l g (bare-stop false e) r met
+  bare-stored e r d met = call-stored lone allowance i l g (bare-stop false e) (inside (length l) g e) r d met
 
 -- ---- opening a group
 
@@ -136,9 +141,9 @@ module _ (allowance : ℕ) (key : List ℕ) (l : List Record) (g : ℕ) where
   pub open-refused : no_group_outcome (length l) g ≡ true → (r : Answer) → r ≡ refused3 → opening_result r l ≡ open_group_at allowance (table_of l) g key
   open-refused e r is = ap (λ (r : Answer). opening_result r l) is ∙ open_by true e
 
-  pub open-stored : no_group_outcome (length l) g ≡ false → (r : GroupResult) → group_opening_result r ≡ open_on_day allowance (record_of (get_or l g zero_record)) key
+  pub open-stored : no_group_outcome (length l) g ≡ false → (r : GroupResult) (d : Record) → group_opening_result r ≡ open_on_day allowance (record_of (get_or l g d)) key
       → opening_result (record { number = r.number; count = r.count }) (set l g r.left) ≡ open_group_at allowance (table_of l) g key
-  open-stored e r met =
+  open-stored e r d met =
       ap (λ (t : Table). record { number = r.number; count = r.count; table = t }) (set-table l g r.left)
-      ∙ ap (opened_back (table_of l) g) (met ∙ ap (λ (r : GroupState). open_on_day allowance r key) (group_at_lem l g))
+      ∙ ap (opened_back (table_of l) g) (met ∙ ap (λ (r : GroupState). open_on_day allowance r key) (group_read l g d (inside (length l) g e)))
       ∙ open_by false e

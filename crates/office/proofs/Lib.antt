@@ -1,10 +1,8 @@
 -- Laws that belong to no one function, and the theorems.
 pub mod Laws
-pub mod Turns
 pub mod Search
 pub mod Lowest
 pub mod Days
-pub mod Walk
 pub mod Contracts
 pub mod Exactly
 pub mod NewTable

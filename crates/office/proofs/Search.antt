@@ -3,7 +3,7 @@
 use mathlib.Core.Path.{◌≡◌, refl, sym, ap, ◌∙◌, subst}
 use mathlib.Core.Bool.{Bool, true, false, not, ◌&&◌, cond}
 use mathlib.Core.List.{List, [], ◌∷◌}
-use Prim.Native.Nat.{ℕ, zero, suc, ◌+◌, ◌-◌, ◌^◌, ◌<◌}
+use Prim.Native.Nat.{ℕ, zero, suc, ◌+◌, ◌<◌, ◌≤◌}
 use native.Mathlib.Omega.{arith}
 use lib.Dec.{T as Holds}
 use lib.ListN.{length, get_or, length-map}
@@ -12,8 +12,8 @@ use borrow.Author.Count.{below_more}
 use Rattle.groups.specs.declared.Record.{Record}
 use Rattle.groups.specs.Groups.{GroupState, record_of}
 use Rattle.office.specs.declared.NearlyFull.TheVariants.{Refused, None, Group}
-use Rattle.office.specs.Table.{Table, session_at, above_mark, TableFinding, group_named, none_named, refused_finding, search_from, nearly_full_at, zero_record, table_of, nearly_full_result}
-use Rattle.office.proofs.Laws.{group_at_lem}
+use Rattle.office.specs.Table.{Table, session_at, above_mark, TableFinding, group_named, none_named, refused_finding, search_from, nearly_full_at, table_of, nearly_full_result}
+use Rattle.office.proofs.Laws.{group_read}
 
 pub never : {A : Type 0} → true ≡ false → A
 never e = absurd (subst Holds e tt)
@@ -66,39 +66,33 @@ module _ (t : Table) (mark : ℕ) where
 
 -- ---- the loop
 
--- record g is open above the mark
-abbrev pub over : List Record → (mark g : ℕ) → Bool
-over l mark g = above_mark (record_of (get_or l g zero_record)).session mark
+-- record g is open above the mark, where d is what is read past the end
+abbrev pub over : List Record → (mark g : ℕ) → (d : Record) → Bool
+over l mark g d = above_mark (record_of (get_or l g d)).session mark
 
-over-is : (l : List Record) (mark g : ℕ) → above_mark (session_at (table_of l) g) mark ≡ over l mark g
-over-is l mark g = ap (λ (r : GroupState). above_mark r.session mark) (sym (group_at_lem l g))
+over-is : (l : List Record) (mark g : ℕ) (d : Record) → g < length l → above_mark (session_at (table_of l) g) mark ≡ over l mark g d
+over-is l mark g d less = ap (λ (r : GroupState). above_mark r.session mark) (sym (group_read l g d less))
 
--- a turn: t records are left from g on, and no group below g is open above the mark
-abbrev pub Turn : List Record → (mark t g : ℕ) → Type 0
-Turn l mark t g = (g + t ≡ length l) × NoneBelow (table_of l) mark g
-
-pub in-run : (l t g : ℕ) → g + t ≡ l → (g ≡ l → ⊥) → g < l
-in-run l t g e other = omega arith
-
-pub at-most-fits : (l t g : ℕ) → l < 2 ^ 64 → g + t ≡ l → g < 2 ^ 64
-at-most-fits l t g room e = omega arith
+-- a turn: no group below g is open above the mark
+abbrev pub Turn : List Record → (mark g : ℕ) → Type 0
+Turn l mark g = (g ≤ length l) × NoneBelow (table_of l) mark g
 
 pub says-refused : (l : List Record) (mark : ℕ) → (length l ≡ 32 → ⊥) → nearly_full_result Refused ≡ nearly_full_at (table_of l) mark
 says-refused l mark other = sym (refused (table_of l) mark (λ e. other (sym (length-map l record_of) ∙ e)))
 
-module _ (l : List Record) (mark t g : ℕ) (inv : Turn l mark t g) where
-  pub goes_on : g < length l → over l mark g ≡ false → Turn l mark (t - 1) (g + 1)
-  goes_on less e = let z : g + t ≡ length l = inv.0 in (omega arith, below_more _ g inv.1 (over-is l mark g ∙ e))
+module _ (l : List Record) (mark g : ℕ) (inv : Turn l mark g) where
+  pub goes_on : g < length l → (d : Record) → over l mark g d ≡ false → Turn l mark (g + 1)
+  goes_on less d e = (omega arith, below_more _ g inv.1 (over-is l mark g d less ∙ e))
 
   module _ (is32 : length l ≡ 32) where
     search : search_from 0 (table_of l) mark ≡ nearly_full_at (table_of l) mark
     search = sym (asked (table_of l) mark (length-map l record_of ∙ is32))
 
-    pub says-group : g < length l → over l mark g ≡ true → nearly_full_result (Group g) ≡ nearly_full_at (table_of l) mark
-    says-group less e =
+    pub says-group : g < length l → (d : Record) → over l mark g d ≡ true → nearly_full_result (Group g) ≡ nearly_full_at (table_of l) mark
+    says-group less d e =
         let within : g < length (table_of l) = subst (λ (n : ℕ). g < n) (sym (length-map l record_of)) less in
         let same : g ≡ 0 + g = omega arith in
-        ap group_named same ∙ sym (names 0 (table_of l) mark g within inv.1 (over-is l mark g ∙ e)) ∙ search
+        ap group_named same ∙ sym (names 0 (table_of l) mark g within inv.1 (over-is l mark g d less ∙ e)) ∙ search
 
     pub says_none : g ≡ length l → nearly_full_result None ≡ nearly_full_at (table_of l) mark
     says_none end =

@@ -1,6 +1,7 @@
 // The office's table: a lent run of 32 records, one for each group, each a session and the group's own day's count; the day's allowance is one
 // for all groups, and handed to each call. A call reads one group's record, calls the function by value, and writes the record back.
 #![tactic(auto)]
+
 ghost use Rattle.std.specs.Prelude.{◌≡◌};
 ghost use Rattle.sanse.specs.Session.{handed};
 ghost use Rattle.groups.specs.Groups.{record_of};

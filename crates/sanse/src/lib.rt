@@ -2,6 +2,7 @@
 // (document 02, request 7). A refused call leaves the record and the buffers as they were. `four` is whether full blocks are taken four
 // side by side (request 10): it alters nothing but the time.
 #![tactic(auto)]
+
 ghost use Rattle.std.specs.Prelude.{◌≡◌, false, true, cond, [], ◌∷◌, ◌+◌, ◌≤◌, ◌<◌, length};
 ghost use Rattle.word.specs.Lists.{sum};
 ghost use Rattle.deck.specs.Strings.{b};

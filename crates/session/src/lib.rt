@@ -1,6 +1,7 @@
 // Xoofff-SANSE over a lent record: start, wrap and unwrap, without an envelope and for one, call the functions by value and store the session that
 // they give.
 #![tactic(auto)]
+
 ghost use Rattle.sanse.specs.Session.{handed, handed_for};
 ghost use Rattle.session.specs.Lent.{Started, Wrapped, Unwrapped};
 

@@ -2,6 +2,7 @@
 // mode's closing bytes, the length of its tag and the offset of its keystream are parameters; so is, as `four`, whether full blocks are taken four
 // side by side (document 02, request 10), of which no contract speaks: it alters nothing but the time.
 #![tactic(auto)]
+
 ghost use Rattle.std.specs.Prelude.{◌≡◌, not, ◌||◌, ◌++◌, ◌+◌, ◌≤◌, ◌<◌, length, replicate};
 ghost use Rattle.word.specs.Lists.{sum};
 ghost use Rattle.deck.specs.Deck.{run};

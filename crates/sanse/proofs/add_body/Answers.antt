@@ -2,7 +2,6 @@
 use Prim.Native.Nat.{◌+◌}
 use native.Mathlib.Omega.{arith}
 use lib.ListN.{length}
-use borrow.Author.Rules.{rules}
 use Rattle.deck.specs.Strings.{b}
 use Rattle.deck.specs.Incremental.{append, output}
 use Rattle.deck.specs.Closing.{closed_by}

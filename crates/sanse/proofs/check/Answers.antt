@@ -1,7 +1,6 @@
 -- `sanse::check` meets its contract. Assumes nothing.
 use mathlib.Core.Path.{ap, ◌∙◌}
 use Prim.Native.Nat.{ℕ}
-use borrow.Author.Rules.{rules}
 use Rattle.modes.specs.Rules.{first_check_of}
 use Rattle.sanse.proofs.check.Goals as goal
 

@@ -3,7 +3,6 @@ use mathlib.Core.Path.{ap, ap₂}
 use mathlib.Core.Bool.{Bool, ◌&&◌}
 use lib.Dec.{leb}
 use lib.ListN.{length}
-use borrow.Author.Rules.{rules}
 use borrow.Author.Tests.{le-leb, lt-leb}
 use Rattle.sanse.proofs.Calls.{start-accepted, start-refused}
 use Rattle.sanse.proofs.start.Goals as goal

@@ -1,7 +1,6 @@
 -- `sanse::unwrap_string` meets its contract. Assumes nothing.
-use mathlib.Core.Path.{◌≡◌, refl, sym, ap, ◌∙◌}
+use mathlib.Core.Path.{refl, sym, ap, ◌∙◌}
 use native.Mathlib.Omega.{arith}
-use lib.ListN.{length}
 use Rattle.deck.proofs.Closing.{closing-pos}
 use Rattle.modes.specs.Mode.{sanse, sanse_parameters}
 use Rattle.steps.proofs.Calls.{begins, begun-index, within, first-of, begun-of, unwrap-refused, unwrap-accepted, unwrap-wrong}
@@ -46,8 +45,7 @@ append_text-g-requires c =
     let a = c.args in
     let i = handed_for a.head.now a.metadata.now a.cryptogram.now a.out.now a.tag.now in
     let s = state_of a.s in
-    let h = begun-of sanse s a.head.now a.metadata.now a.cryptogram.now a.out.now a.tag.now c.check-number.ensures c.if-number-ne0.false c.deck_of-d.ensures c.closing_a.ensures c.requires c.append_metadata-h.ensures in
-    (
+    let h = begun-of sanse s a.head.now a.metadata.now a.cryptogram.now a.out.now a.tag.now c.check-number.ensures c.if-number-ne0.false c.deck_of-d.ensures c.closing_a.ensures c.requires c.append_metadata-h.ensures in (
       omega (arith, c.closing_m.ensures, closing-pos (sanse_parameters.frame_m a.s.toggle)),
       omega (arith, taken sanse s i h _ c.add_body-c.auto.out, (within sanse s i h.checked h.none).text),
       begun-index short h,

@@ -1,6 +1,5 @@
 -- `sanse::wrap_envelope` meets its contract: check 1, and then A is the header's bytes and the metadata. Assumes nothing.
 use mathlib.Core.Path.{sym, ap, ◌∙◌}
-use lib.ListN.{length}
 use Rattle.envelope.specs.Layout.{letter_s}
 use Rattle.headers.proofs.Exactly.{fits-short}
 use Rattle.modes.specs.Mode.{sanse}

@@ -1,12 +1,9 @@
 -- `sanse::wrap_string` meets its contract. Assumes nothing.
-use mathlib.Core.Path.{◌≡◌, refl, ap, ◌∙◌}
+use mathlib.Core.Path.{refl, ap, ◌∙◌}
 use native.Mathlib.Omega.{arith}
-use lib.ListN.{length}
-use Rattle.deck.specs.declared.DeckState.{DeckState}
-use Rattle.xoofff.specs.declared.Compressed.{Compressed}
 use Rattle.deck.proofs.Closing.{closing-pos}
 use Rattle.modes.specs.Mode.{sanse, sanse_parameters}
-use Rattle.steps.proofs.Calls.{Begun, begins, begun-index, within, first-of, begun-of, wrap-refused, wrap-accepted}
+use Rattle.steps.proofs.Calls.{begins, begun-index, within, first-of, begun-of, wrap-refused, wrap-accepted}
 use Rattle.sanse.specs.declared.CallResult.{CallResult}
 use Rattle.sanse.specs.Session.{state_of, call_result, handed_for}
 use Rattle.sanse.proofs.Calls.{short, wrap-done, done-most, wrap-worked}

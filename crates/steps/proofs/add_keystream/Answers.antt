@@ -1,7 +1,6 @@
 -- `steps::add_keystream` meets its contract. Assumes nothing.
 use mathlib.Core.Path.{sym, ap, ◌∙◌}
 use native.Mathlib.Omega.{arith}
-use borrow.Author.Rules.{rules}
 use Rattle.deck.specs.Incremental.{output}
 use Rattle.steps.specs.Steps.{output_count}
 use Rattle.steps.proofs.Buffers.{part-added, part_length}

@@ -4,7 +4,6 @@ use mathlib.Core.List.{List}
 use Prim.Native.Nat.{ℕ, ◌+◌}
 use native.Mathlib.Omega.{arith}
 use lib.ListN.{length}
-use borrow.Author.Rules.{rules}
 use Rattle.word.specs.Lists.{sum}
 use Rattle.deck.specs.Deck.{run, output_byte}
 use Rattle.deck.specs.Incremental.{output}

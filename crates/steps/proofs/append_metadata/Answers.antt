@@ -1,7 +1,6 @@
 -- `steps::append_metadata` meets its contract. Assumes nothing.
 use mathlib.Core.Logic.{inl, inr}
 use mathlib.Core.List.{◌++◌}
-use borrow.Author.Rules.{rules}
 use Rattle.deck.specs.Closing.{closed_by}
 use Rattle.steps.proofs.History.{headed-a, bare-a, appended-a, skipped-a}
 use Rattle.steps.proofs.append_metadata.Goals as goal

@@ -1,5 +1,4 @@
 -- `steps::append_text` meets its contract. Assumes nothing.
-use borrow.Author.Rules.{rules}
 use Rattle.deck.specs.Closing.{closed_by}
 use Rattle.steps.proofs.History.{appended-text, skipped-text}
 use Rattle.steps.proofs.append_text.Goals as goal

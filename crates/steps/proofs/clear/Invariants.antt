@@ -1,11 +1,8 @@
 -- `steps::clear` meets its contract. The loop's invariant: the first i bytes are zero, and the rest is as it was. Assumes nothing.
-use mathlib.Core.Path.{◌≡◌, refl, ap, ◌∙◌}
-use mathlib.Core.List.{List, ◌++◌}
-use Prim.Native.Nat.{ℕ, ◌≤◌, ◌-◌}
-use native.Mathlib.Omega.{arith}
-use lib.ListN.{length, replicate, drop, set, length-set}
-use borrow.Author.Fill.{fill_none, fill_more}
-use Rattle.steps.proofs.Buffers.{zeros-all}
+use mathlib.Core.Path.{◌≡◌}
+use mathlib.Core.List.{◌++◌}
+use Prim.Native.Nat.{◌≤◌, ◌-◌}
+use lib.ListN.{length, replicate, drop}
 use Rattle.steps.proofs.clear.Given as goal
 
 abbrev pub invariant-loop-i : goal.invariant-loop-i

@@ -1,9 +1,9 @@
 -- `steps::copy` meets its contract. The loop's invariant: the first i bytes are the text's, and the rest is as it was. Assumes nothing.
-use mathlib.Core.Path.{◌≡◌, refl, ap, ◌∙◌}
-use mathlib.Core.List.{List, ◌++◌}
-use Prim.Native.Nat.{ℕ, ◌≤◌, ◌-◌}
+use mathlib.Core.Path.{refl, ap, ◌∙◌}
+use mathlib.Core.List.{List}
+use Prim.Native.Nat.{ℕ}
 use native.Mathlib.Omega.{arith}
-use lib.ListN.{length, take, drop, set, get_or, length-set}
+use lib.ListN.{set, get_or, length-set}
 use Rattle.steps.proofs.Buffers.{front-more, front-all}
 use Rattle.steps.proofs.copy.Goals as goal
 

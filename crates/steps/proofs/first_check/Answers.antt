@@ -1,5 +1,4 @@
 -- `steps::first_check` meets its contract. Assumes nothing.
-use borrow.Author.Rules.{rules}
 use borrow.Author.Tests.{lt-ltb, le-ltb, eq-eqb, ne_eqb}
 use Rattle.steps.proofs.first_check.Goals as goal
 

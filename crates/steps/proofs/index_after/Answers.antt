@@ -1,6 +1,5 @@
 -- `steps::index_after` meets its contract. Assumes nothing.
 use native.Mathlib.Omega.{arith}
-use borrow.Author.Rules.{rules}
 use Rattle.modes.proofs.Sessions.{growth-most}
 use Rattle.steps.proofs.index_after.Goals as goal
 

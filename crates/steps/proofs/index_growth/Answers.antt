@@ -1,5 +1,4 @@
 -- `steps::index_growth` meets its contract. Assumes nothing.
-use borrow.Author.Rules.{rules}
 use Rattle.steps.proofs.History.{growth-bare, growth-text, growth-both}
 use Rattle.steps.proofs.index_growth.Goals as goal
 

@@ -1,11 +1,7 @@
 -- `steps::same_bytes` meets its contract. The loop's invariant: no bit is set where all bytes so far are equal, and some bit where one
 -- differs. Assumes nothing.
-use mathlib.Core.Path.{◌≡◌, refl}
-use Prim.Native.Nat.{◌≤◌, ◌-◌}
+use mathlib.Core.Path.{refl}
 use native.Mathlib.Omega.{arith}
-use lib.Dec.{eqb}
-use lib.ListN.{length, take}
-use Rattle.modes.specs.Rules.{same_bytes}
 use Rattle.steps.proofs.Buffers.{same_more, same-all}
 use Rattle.steps.proofs.same_bytes.Goals as goal
 

@@ -1,12 +1,10 @@
 -- `steps::same_bytes` meets its contract. The loop's invariant: no bit is set where all bytes so far are equal, and some bit where one
 -- differs. Assumes nothing.
-use mathlib.Core.Path.{◌≡◌, refl}
+use mathlib.Core.Path.{◌≡◌}
 use Prim.Native.Nat.{◌≤◌, ◌-◌}
-use native.Mathlib.Omega.{arith}
 use lib.Dec.{eqb}
 use lib.ListN.{length, take}
 use Rattle.modes.specs.Rules.{same_bytes}
-use Rattle.steps.proofs.Buffers.{same_more, same-all}
 use Rattle.steps.proofs.same_bytes.Given as goal
 
 abbrev pub invariant-loop-j : goal.invariant-loop-j

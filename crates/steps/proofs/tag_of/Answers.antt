@@ -1,6 +1,5 @@
 -- `steps::tag_of` meets its contract. Assumes nothing.
 use mathlib.Core.Path.{ap, ◌∙◌}
-use borrow.Author.Rules.{rules}
 use Rattle.deck.specs.Incremental.{output}
 use Rattle.steps.specs.Steps.{output_count}
 use Rattle.steps.proofs.Buffers.{tag-filled}
