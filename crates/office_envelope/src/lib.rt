@@ -2,6 +2,7 @@
 // before the metadata under the tag. A header that is not the layout's with letter S, the call's group and its own lengths is refused by 1, before
 // every other check.
 #![tactic(auto)]
+
 ghost use Rattle.std.specs.Prelude.{◌≡◌};
 ghost use Rattle.envelope.specs.Layout.{letter_s};
 ghost use Rattle.headers.specs.Fits.{fits_group};
