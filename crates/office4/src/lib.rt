@@ -1,6 +1,7 @@
 // The office's table with full blocks taken four side by side (document 02, request 10): wrap and unwrap for a group, without an envelope and for one.
 // Each has the whole contract of the function of `office` or `office_envelope` without `_four`: it alters nothing but the time.
 #![tactic(auto)]
+
 ghost use Rattle.std.specs.Prelude.{◌≡◌};
 ghost use Rattle.sanse.specs.Session.{handed, handed_for};
 ghost use Rattle.office.specs.Table.{table_of, table_result, wrap_group_at, unwrap_group_at};
