@@ -11,7 +11,7 @@ use prog.Routine.{Routine}
 use types.Logic.{Logic}
 use contract.Lifetimes.{Lfts}
 use contract.Monad.{Fun}
-use contract.Notation.{Connectives, connectives}
+use contract.Notation.{connectives}
 use denote.Triple.Clauses.{AtExit}
 use denote.Triple.Entry.{Args, Res}
 use Rattle.modes.specs.Call.{CallHeader, bare, under, with_header}
