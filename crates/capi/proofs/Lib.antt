@@ -1,2 +1,1 @@
--- What the walks of all areas share.
-pub mod Pass
+-- What the clauses of the exported functions are stands by area.

@@ -36,6 +36,7 @@ pub fn fits(letter: u8, header: &[u8], alen: usize, mlen: usize) -> bool
 }
 
 // Whether bytes are a header with this letter, this group and these lengths of metadata and message.
+#[tactic(auto, unfolding(crate::specs::Fits::fits_group, crate::specs::Fits::fits))]
 pub fn fits_group(letter: u8, group: usize, header: &[u8], alen: usize, mlen: usize) -> bool
     ensures { result ≡ fits_group letter group alen mlen header.now }
 {

@@ -1,6 +1,7 @@
 // A pool of unused rings that is lent (document 02, request 6): it stays in the caller's memory, to be altered or to be read. Each function is the
 // one by value, on the whole record.
 #![tactic(auto)]
+
 ghost use Rattle.std.specs.Prelude.{◌≡◌};
 ghost use Rattle.runs.specs.Runs.{a_run, any_meets, rings_of};
 ghost use Rattle.pool.specs.Pool.{runs_of};

@@ -1,6 +1,7 @@
 // Issue seasons over records that are lent (document 02, request 8): a pool stays in the caller's memory, to be altered, and so do windows, to be read.
 // Each function is the one by value, on the whole records.
 #![tactic(auto)]
+
 ghost use Rattle.std.specs.Prelude.{◌≡◌};
 ghost use Rattle.lent_pool.specs.Lent.{added_result};
 ghost use Rattle.season_lines.specs.Lines.{add_in_season};

@@ -12,7 +12,7 @@ use types.Logic.{Logic}
 use contract.Lifetimes.{Lfts}
 use contract.Monad.{Fun}
 use contract.Notation.{connectives}
-use denote.Ref.{Bor}
+use denote.Ref.{Bor, MutBor}
 use denote.Triple.Clauses.{AtExit}
 use denote.Triple.Entry.{Args, Res}
 use borrow.Fn.Kinds.{Dens, ended_of}
@@ -144,6 +144,9 @@ promises = record { wraps = WrapPromise; unwraps = UnwrapPromise }
 abbrev to : List ℕ → Bor (List ℕ)
 to x = record { ref_ptr = (0, 0); now = x }
 
+abbrev into : List ℕ → MutBor (List ℕ)
+into x = record { ref_ptr = (0, 0); ghost_name = 0; now = x }
+
 abbrev lifetimes : Lfts 4
 lifetimes = ([], ([], ([], ([], tt))))
 
@@ -155,7 +158,7 @@ start_is key nonce tag r tag' = (
   λ p.
       sym (λ j. nonce_result r (p.is_left j)) ∙ p.met
       ∙ (λ j. nonce_start_at sae_parameters (p.is_key j) (p.is_nonce j) (p.is_tag j)),
-  λ e. start-kept ([], ([], ([], tt))) (to key, (to nonce, (to tag, tt))) (to key, (to nonce, (to tag', tt))) r e,
+  λ e. start-kept ([], ([], ([], tt))) (to key, (to nonce, (into tag, tt))) (to key, (to nonce, (into tag', tt))) r e,
 )
 
 module _ (s : SaeSession) (i : Handed) (r : SaeResult) (out tag : List ℕ) where
@@ -167,8 +170,8 @@ module _ (s : SaeSession) (i : Handed) (r : SaeResult) (out tag : List ℕ) wher
   wrap-is = (
     λ p. sym (λ j. call_result r (p.is_out j) (p.is_tag j)) ∙ p.met ∙ (λ j. sae_wrap_at (state_of (p.is_record j)) (p.is_input j)),
     λ e.
-        wrap-kept lifetimes (s, (to i.metadata, (to i.text, (to i.out, (to i.tag, tt)))))
-        (s, (to i.metadata, (to i.text, (to out, (to tag, tt))))) r e,
+        wrap-kept lifetimes (s, (to i.metadata, (to i.text, (into i.out, (into i.tag, tt)))))
+        (s, (to i.metadata, (to i.text, (into out, (into tag, tt))))) r e,
   )
 
   pub unwrap-is : UnwrapPromise s i r out tag ↔ (call_result r out tag ≡ sae_unwrap_at incremental (state_of s) i)
@@ -177,6 +180,6 @@ module _ (s : SaeSession) (i : Handed) (r : SaeResult) (out tag : List ℕ) wher
     λ e.
         let t : i.tag ≡ tag = tag-kept e in
         subst (UnwrapPromise s i r out) t
-        (unwrap-kept lifetimes (s, (to i.metadata, (to i.text, (to i.tag, (to i.out, tt)))))
-        (s, (to i.metadata, (to i.text, (to i.tag, (to out, tt))))) r (ap (call_result r out) t ∙ e)),
+        (unwrap-kept lifetimes (s, (to i.metadata, (to i.text, (to i.tag, (into i.out, tt)))))
+        (s, (to i.metadata, (to i.text, (to i.tag, (into out, tt))))) r (ap (call_result r out) t ∙ e)),
   )

@@ -1,6 +1,7 @@
 // Farfalle-SAE over Xoofff by value (document 02, request 9): sessions that open old letters of the first version. Start and unwrap over a session record, and a
 // wrap that is always refused. A refused call leaves the record and the buffers as they were; a refused start gives a closed record.
 #![tactic(auto)]
+
 ghost use Rattle.std.specs.Prelude.{◌≡◌, cond, ◌+◌, ◌≤◌, length};
 ghost use Rattle.word.specs.Lists.{sum};
 ghost use Rattle.deck.specs.Strings.{b};

@@ -2,6 +2,7 @@
 // call the functions by value and store the session that they give. Held alone; the office's table has no such records, and there are no calls for
 // an envelope: its header is not under the tag.
 #![tactic(auto)]
+
 ghost use Rattle.sae.specs.Session.{handed};
 ghost use Rattle.sae_session.specs.Lent.{Started, Unwrapped, Wrapped};
 

@@ -2,11 +2,12 @@
 -- its facts over. Assumes nothing.
 use mathlib.Core.Path.{◌≡◌, refl, sym, ap, ap₂, ◌∙◌}
 use mathlib.Core.Logic.{◌≢◌}
-use mathlib.Core.Bool.{true, false, not}
+use mathlib.Core.Bool.{true, false, not, cond}
 use mathlib.Core.List.{List, [], ◌∷◌}
 use Prim.Native.Nat.{ℕ, zero, suc, ◌+◌, ◌≤◌}
 use native.Mathlib.Omega.{arith}
 use lib.ListN.{length, take}
+use Rattle.word.specs.Lists.{sum}
 use Rattle.deck.specs.declared.DeckState.{DeckState}
 use Rattle.xoofff.specs.declared.Compressed.{Compressed}
 use Rattle.deck.specs.Strings.{Str, b, blocks}
@@ -17,14 +18,14 @@ use Rattle.xoofff.specs.Leaves.{compressed}
 use Rattle.state.specs.State.{zeros}
 use Rattle.envelope.specs.Layout.{letter_n}
 use Rattle.modes.specs.Call.{CallInput}
-use Rattle.modes.specs.Mode.{incremental, tag_of, sane, sane_parameters}
-use Rattle.modes.specs.Rules.{SessionState, wrap_steps, unwrap_steps, closed, key_fits, nonce_check, nonce_session, nonce_opening, nonce_start_at}
+use Rattle.modes.specs.Mode.{is_empty, incremental, with_text, tag_of, sane, sane_parameters}
+use Rattle.modes.specs.Rules.{SessionState, written, wrap_steps, unwrap_steps, closed, key_fits, nonce_check, nonce_session, nonce_opening, nonce_start_at}
 use Rattle.modes.specs.NonceStart.{NonceFits}
 use Rattle.modes.proofs.Steps.{ShortFrames}
 use Rattle.modes.proofs.NonceStart.{nonce-exactly}
 use Rattle.modes.proofs.Leaves.{closed-N, nonce-leaf-counts}
 use Rattle.steps.specs.Steps.{output_count}
-use Rattle.steps.proofs.Calls.{Worked}
+use Rattle.steps.proofs.Calls.{Begun, Worked}
 use Rattle.steps.proofs.Stream as stream
 
 -- its frame bits leave room for the padding bit in one byte
@@ -36,6 +37,16 @@ short = record { of_a = λ e. omega arith; of_m = λ e. omega arith; of_t = λ e
 -- what is known once the tag is found, as of every mode with these steps
 abbrev pub Done : (s : SessionState DeckState) (i : CallInput) (n : ℕ) (d : DeckState) (c : ℕ) (h : Compressed) (q : ℕ) (o y : List ℕ) (g : Compressed) (t : List ℕ) → Type 0
 Done = stream.Done letter_n (λ e. false ∷ e ∷ []) (λ e. true ∷ e ∷ []) not
+
+-- from what the code knows once the tag is found
+pub done-of : {s : SessionState DeckState} {i : CallInput} {n : ℕ} {d : DeckState} {c : ℕ} {h : Compressed} {q : ℕ} {o y : List ℕ} {g : Compressed} {t : List ℕ}
+    → Begun sane s i n d c h
+    → (o ≡ written (sum i.text (run (output d) 16 (length i.text))) i.out) × (q ≡ cond (is_empty i.text) 0 (output_count 16 (length i.text)))
+    → length y ≡ length i.text
+    → (g.state ≡ with_text sane_parameters incremental h.state s.toggle y) × (t ≡ tag_of sane_parameters incremental g.state)
+    × (g.count ≡ cond (is_empty y) 0 (b (length y)) + output_count 0 16)
+    → Done s i n d c h q o y g t
+done-of b q z f = record { begun = b; streamed = q; sized = z; finished = f }
 
 module _ {s : SessionState DeckState} {i : CallInput} {n : ℕ} {d : DeckState} {c : ℕ} {h : Compressed} {q : ℕ} {o y : List ℕ} {g : Compressed} {t : List ℕ}
     (k : Done s i n d c h q o y g t) where

@@ -13,7 +13,7 @@ use types.Logic.{Logic}
 use contract.Lifetimes.{Lfts}
 use contract.Monad.{Fun}
 use contract.Notation.{connectives}
-use denote.Ref.{Bor}
+use denote.Ref.{Bor, MutBor}
 use denote.Triple.Clauses.{AtExit}
 use denote.Triple.Entry.{Args, Res}
 use borrow.Fn.Kinds.{Dens, ended_of}
@@ -233,6 +233,9 @@ promises four = both_sorts sane_kind (bare_promises four) (envelope_promises fou
 abbrev to : List ℕ → Bor (List ℕ)
 to x = record { ref_ptr = (0, 0); now = x }
 
+abbrev into : List ℕ → MutBor (List ℕ)
+into x = record { ref_ptr = (0, 0); ghost_name = 0; now = x }
+
 abbrev lifetimes : Lfts 4
 lifetimes = ([], ([], ([], ([], tt))))
 
@@ -244,7 +247,7 @@ start_is key nonce tag r tag' = (
   λ p.
       sym (λ j. nonce_result r (p.is_left j)) ∙ p.met
       ∙ (λ j. nonce_start_at sane_parameters (p.is_key j) (p.is_nonce j) (p.is_tag j)),
-  λ e. start-kept ([], ([], ([], tt))) (to key, (to nonce, (to tag, tt))) (to key, (to nonce, (to tag', tt))) r e,
+  λ e. start-kept ([], ([], ([], tt))) (to key, (to nonce, (into tag, tt))) (to key, (to nonce, (into tag', tt))) r e,
 )
 
 module _ (four : Bool) (s : SaneSession) (i : CallInput) (r : SaneResult) (out tag : List ℕ) where
@@ -258,8 +261,8 @@ module _ (four : Bool) (s : SaneSession) (i : CallInput) (r : SaneResult) (out t
         sym (λ j. call_result r (p.is_out j) (p.is_tag j)) ∙ p.met
         ∙ (λ j. wrap_at sane incremental (state_of (p.is_record j)) (p.is_input j)),
     λ e.
-        wrap-kept lifetimes (s, (to i.metadata, (to i.text, (to i.out, (to i.tag, (four, tt))))))
-        (s, (to i.metadata, (to i.text, (to out, (to tag, (four, tt)))))) r e,
+        wrap-kept lifetimes (s, (to i.metadata, (to i.text, (into i.out, (into i.tag, (four, tt))))))
+        (s, (to i.metadata, (to i.text, (into out, (into tag, (four, tt)))))) r e,
   )
 
   pub unwrap-is : UnwrapPromise four s (with_header bare i) r out tag ↔ (call_result r out tag ≡ unwrap_at sane incremental (state_of s) (with_header bare i))
@@ -270,8 +273,8 @@ module _ (four : Bool) (s : SaneSession) (i : CallInput) (r : SaneResult) (out t
     λ e.
         let t : i.tag ≡ tag = tag-kept bare e in
         subst (UnwrapPromise four s (with_header bare i) r out) t
-        (unwrap-kept lifetimes (s, (to i.metadata, (to i.text, (to i.tag, (to i.out, (four, tt))))))
-        (s, (to i.metadata, (to i.text, (to i.tag, (to out, (four, tt)))))) r (ap (call_result r out) t ∙ e)),
+        (unwrap-kept lifetimes (s, (to i.metadata, (to i.text, (to i.tag, (into i.out, (four, tt))))))
+        (s, (to i.metadata, (to i.text, (to i.tag, (into out, (four, tt)))))) r (ap (call_result r out) t ∙ e)),
   )
 
   -- under the header x
@@ -283,8 +286,8 @@ module _ (four : Bool) (s : SaneSession) (i : CallInput) (r : SaneResult) (out t
           sym (λ j. call_result r (p.is_out j) (p.is_tag j)) ∙ p.met
           ∙ (λ j. wrap_at sane incremental (state_of (p.is_record j)) (p.is_input j)),
       λ e.
-          wrap-envelope-kept ([], lifetimes) (s, (to x, (to i.metadata, (to i.text, (to i.out, (to i.tag, (four, tt)))))))
-          (s, (to x, (to i.metadata, (to i.text, (to out, (to tag, (four, tt))))))) r e,
+          wrap-envelope-kept ([], lifetimes) (s, (to x, (to i.metadata, (to i.text, (into i.out, (into i.tag, (four, tt)))))))
+          (s, (to x, (to i.metadata, (to i.text, (into out, (into tag, (four, tt))))))) r e,
     )
 
     pub unwrap-envelope-is : UnwrapEnvelopePromise four s (with_header (under x) i) r out tag
@@ -296,6 +299,6 @@ module _ (four : Bool) (s : SaneSession) (i : CallInput) (r : SaneResult) (out t
       λ e.
           let t : i.tag ≡ tag = tag-kept (under x) e in
           subst (UnwrapEnvelopePromise four s (with_header (under x) i) r out) t
-          (unwrap-envelope-kept ([], lifetimes) (s, (to x, (to i.metadata, (to i.text, (to i.tag, (to i.out, (four, tt)))))))
-          (s, (to x, (to i.metadata, (to i.text, (to i.tag, (to out, (four, tt))))))) r (ap (call_result r out) t ∙ e)),
+          (unwrap-envelope-kept ([], lifetimes) (s, (to x, (to i.metadata, (to i.text, (to i.tag, (into i.out, (four, tt)))))))
+          (s, (to x, (to i.metadata, (to i.text, (to i.tag, (into out, (four, tt))))))) r (ap (call_result r out) t ∙ e)),
     )

@@ -2,6 +2,7 @@
 // header is under the tag then (request 7). A refused call leaves the record and the buffers as they were; a refused start gives a closed record.
 // `four` is whether full blocks are taken four side by side (request 10): it alters nothing but the time.
 #![tactic(auto)]
+
 ghost use Rattle.std.specs.Prelude.{◌≡◌, ◌&&◌, cond, [], ◌∷◌, ◌+◌, ◌≤◌, leb, length};
 ghost use Rattle.word.specs.Lists.{sum};
 ghost use Rattle.deck.specs.Strings.{b};

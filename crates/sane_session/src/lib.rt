@@ -1,6 +1,7 @@
 // Xoofff-SANE over a lent record: start, and wrap and unwrap without an envelope and for one, call the functions by value and store the session that
 // they give. Held alone; the office's table has no such records.
 #![tactic(auto)]
+
 ghost use Rattle.sane.specs.Session.{handed, handed_for};
 ghost use Rattle.sane_session.specs.Lent.{Started, Wrapped, Unwrapped};
 

@@ -1,6 +1,7 @@
 // Xoofff-SANE over a lent record with full blocks taken four side by side (document 02, request 10): wrap and unwrap, without an envelope and for
 // one. Each has the whole contract of the function of `sane_session` without `_four`: it alters nothing but the time.
 #![tactic(auto)]
+
 ghost use Rattle.sane.specs.Session.{handed, handed_for};
 ghost use Rattle.sane_session.specs.Lent.{Wrapped, Unwrapped};
 

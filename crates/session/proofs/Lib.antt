@@ -1,4 +1,3 @@
--- What the walks share, and the theorems.
-pub mod Env
+-- What the clauses are, and the theorems.
 pub mod Contracts
 pub mod Demands

@@ -1,5 +1,6 @@
 // States of twelve lanes, the lane at x of plane y being element x + 4 y: their sum, and states as 48 bytes.
 #![tactic(auto)]
+
 ghost use Rattle.std.specs.Prelude.{◌≡◌, [], ◌∷◌, ◌+◌, ◌≤◌, length, drop};
 ghost use Rattle.word.specs.Lists.{sum};
 ghost use Rattle.state.specs.State.{lane};

@@ -1,5 +1,6 @@
 // Words of 32 bits: what the language's own operators leave out.
 #![tactic(auto)]
+
 ghost use Rattle.std.specs.Prelude.{◌≡◌, ◌<◌};
 ghost use Rattle.word.specs.Word.{bit, of_bits, rotate_left};
 

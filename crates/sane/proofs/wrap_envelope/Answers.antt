@@ -1,0 +1,25 @@
+-- `sane::wrap_envelope` meets its contract: check 1, and then A is the header's bytes and the metadata. Assumes nothing.
+use mathlib.Core.Path.{sym, ap, ◌∙◌}
+use Rattle.envelope.specs.Layout.{letter_n}
+use Rattle.headers.proofs.Exactly.{fits-short}
+use Rattle.modes.specs.Mode.{sane}
+use Rattle.steps.proofs.Calls.{fitted-wrap, unfitted-wrap}
+use Rattle.sane.specs.declared.SaneResult.{SaneResult}
+use Rattle.sane.specs.Session.{state_of, call_result, handed_for}
+use Rattle.sane.proofs.wrap_envelope.Goals as goal
+
+pub returns-then-not-fits : goal.returns-then-not-fits
+returns-then-not-fits c =
+    let a = c.args in
+    let i = handed_for a.header.now a.metadata.now a.message.now a.out.now a.tag.now in
+    ap (λ (r : SaneResult). call_result r i.out i.tag) c.result.ensures
+    ∙ unfitted-wrap sane (state_of a.s) i c.deck_of-d.result c.deck_of-d.ensures (sym c.fits.ensures ∙ c.if-not-fits.true)
+
+pub wrap_string-requires : goal.wrap_string-requires
+wrap_string-requires c = fits-short letter_n _ _ _ (sym c.fits.ensures ∙ c.if-not-fits.false)
+
+pub returns : goal.returns
+returns c =
+    let a = c.args in
+    let i = handed_for a.header.now a.metadata.now a.message.now a.out.now a.tag.now in
+    c.wrap_string.ensures ∙ fitted-wrap sane (state_of a.s) i (sym c.fits.ensures ∙ c.if-not-fits.false)
