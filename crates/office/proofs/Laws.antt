@@ -3,7 +3,7 @@ use mathlib.Core.Path.{◌≡◌, refl, sym, ap, ap₂, ◌∙◌, subst}
 use mathlib.Core.Logic.{◌≢◌}
 use mathlib.Core.Bool.{Bool, true, false, not, ◌||◌, cond}
 use mathlib.Core.List.{List, [], ◌∷◌}
-use Prim.Native.Nat.{ℕ, zero, suc, ◌<◌, ◌≤◌, ◌*◌, ◌^◌}
+use Prim.Native.Nat.{ℕ, zero, suc, ◌<◌, ◌≤◌}
 use native.Mathlib.Omega.{arith}
 use lib.Dec.{T as Holds, ltb, eqb}
 use lib.ListN.{length, get_or, set, length-map, get_or-map}
@@ -19,23 +19,6 @@ use Rattle.groups.specs.declared.Record.{Record}
 use Rattle.groups.specs.declared.GroupResult.{GroupResult}
 use Rattle.groups.specs.Groups.{GroupState, GroupOutcome, on_day, open_on_day, record_of, group_result, group_opening_result}
 use Rattle.office.specs.Table.{Table, no_group_outcome, group_at, session_at, TableOutcome, header_passes, table_check, if_group, written_back, call_group_at, opened_back, open_group_at, zero_record, refused3, table_of, table_result, opening_result}
-
--- ---- how a test comes out
-
-pub is_true : (t : Bool) → Holds t → t ≡ true
-is_true true _ = refl
-is_true false z = absurd z
-
-pub is_false : (t : Bool) → Holds (not t) → t ≡ false
-is_false true z = absurd z
-is_false false _ = refl
-
--- the program's answer t to a test u
-pub met : {t u : Bool} → t ≡ u → Holds t → u ≡ true
-met {t} e z = sym e ∙ is_true t z
-
-pub unmet : {t u : Bool} → t ≡ u → Holds (not t) → u ≡ false
-unmet {t} e z = sym e ∙ is_false t z
 
 -- ---- check 3
 
@@ -58,10 +41,6 @@ in_table n g = go (eqb n 32) (ltb 31 g) refl refl
 
 pub inside : (n g : ℕ) → no_group_outcome n g ≡ false → g < n
 inside n g z = let w = in_table n g z in omega (arith, w.0, w.1)
-
--- the byte at which record g begins is a usize
-pub start_fits : (n g : ℕ) → no_group_outcome n g ≡ false → g * 108 < 2 ^ 64
-start_fits n g z = let w = in_table n g z in omega (arith, w.1)
 
 -- ---- the program's records and the table's
 
