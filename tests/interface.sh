@@ -6,12 +6,13 @@
 set -eu
 export LC_ALL=C
 cd "$(dirname "$0")/.."
-out=$PWD/target/interface
-prefix=$out/prefix
-rm -rf "$out"
-mkdir -p "$out"
+# Outside the repository: what is installed has links, and rt ci refuses those below the folder that it is run in.
 outside=$(mktemp -d)
 trap 'rm -rf "$outside"' EXIT
+out=$outside/interface
+prefix=$out/prefix
+rm -rf target/interface
+mkdir -p "$out"
 
 fail() {
   echo "interface: $*" >&2
