@@ -1,5 +1,5 @@
 # demo: proves the library and plays a season with the command line over it.
-# test: everything, from nothing; the last line is 'N passed, M failed'.
+# test: everything, proved from nothing where nothing on the machine has kept it; the last line is 'N passed, M failed'.
 # lib: the proved C library target/staticlib/libcapi.a, and what is installed: archive and shared library with the functions in plain C (c/).
 # install, uninstall: library, headers, pkg-config file, command, manual page and completions under PREFIX.
 # clean: removes all that was made, the proofs' results in crates/*/out too.
@@ -45,7 +45,7 @@ bench:
 lib: $(ARCHIVE) $(SHARED)
 
 # Proves what changed since it was last proved, and makes the library.
-$(LIBRARY): crates.txt toolchain $(shell find crates -name '*.rt' -o -name '*.antt')
+$(LIBRARY): crates.txt toolchain $(shell find crates -name out -prune -o -name '*.rt' -print -o -name '*.antt' -print)
 	@bash scripts/tools rt
 	bash scripts/archive capi
 

@@ -26,7 +26,8 @@ def read(path):
 def sources():
     """path -> text of every Rattle and antt file of the crates."""
     found = {}
-    for folder, _, files in os.walk(os.path.join(ROOT, "crates")):
+    for folder, inner, files in os.walk(os.path.join(ROOT, "crates")):
+        inner[:] = [name for name in inner if name != "out"]
         for name in files:
             if name.endswith((".antt", ".rt")):
                 path = os.path.join(folder, name)
@@ -68,7 +69,7 @@ def known(name, files, crates):
     if name.startswith("."):
         return any(declares(t, name[1:]) for t in files.values())
     if name.endswith((".md", ".txt", ".h", ".py", ".in", ".pc")) or os.path.exists(os.path.join(ROOT, name)):
-        return any(os.path.exists(os.path.join(ROOT, p, name)) for p in ("", "docs", "include", "scripts", "scripts/walk"))
+        return any(os.path.exists(os.path.join(ROOT, p, name)) for p in ("", "docs", "include", "scripts", "tools"))
     return any(declares(t, name.split(" ")[0]) for t in files.values())
 
 
