@@ -1,0 +1,2 @@
+-- What contracts cite of the numbers of refusals.
+pub mod Numbers
