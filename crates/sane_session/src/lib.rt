@@ -1,5 +1,6 @@
 // Xoofff-SANE over a lent record: start, and wrap and unwrap without an envelope and for one, call the functions by value and store the session that
-// they give. Held alone; the office's table has no such records.
+// they give. Held alone; the office's table has no such records. `four` is whether full blocks are taken four side by side (document 02, request
+// 10): it alters nothing but the time, and no clause speaks of it.
 #![tactic(auto)]
 
 ghost use Rattle.sane.specs.Session.{handed, handed_for};
@@ -28,11 +29,12 @@ pub fn wrap(
     message: &[u8],
     out: &mut [u8],
     tag: &mut [u8],
+    four: bool,
 ) -> Answer
     ensures { Wrapped s.old (handed metadata.now message.now out.old tag.old)
         result s.new out.new tag.new }
 {
-    let r = sane::wrap(*s, metadata, message, out, tag, false);
+    let r = sane::wrap(*s, metadata, message, out, tag, four);
     *s = r.session;
     Answer {
         number: r.number,
@@ -47,11 +49,12 @@ pub fn unwrap(
     cryptogram: &[u8],
     tag: &[u8],
     out: &mut [u8],
+    four: bool,
 ) -> Answer
     ensures { Unwrapped s.old (handed metadata.now cryptogram.now out.old tag.now)
         result s.new out.new tag.now }
 {
-    let r = sane::unwrap(*s, metadata, cryptogram, tag, out, false);
+    let r = sane::unwrap(*s, metadata, cryptogram, tag, out, four);
     *s = r.session;
     Answer {
         number: r.number,
@@ -70,12 +73,13 @@ pub fn wrap_envelope(
     message: &[u8],
     out: &mut [u8],
     tag: &mut [u8],
+    four: bool,
 ) -> Answer
     ensures { Wrapped s.old
         (handed_for header.now metadata.now message.now out.old tag.old)
         result s.new out.new tag.new }
 {
-    let r = sane::wrap_envelope(*s, header, metadata, message, out, tag, false);
+    let r = sane::wrap_envelope(*s, header, metadata, message, out, tag, four);
     *s = r.session;
     Answer {
         number: r.number,
@@ -92,12 +96,13 @@ pub fn unwrap_envelope(
     cryptogram: &[u8],
     tag: &[u8],
     out: &mut [u8],
+    four: bool,
 ) -> Answer
     ensures { Unwrapped s.old
         (handed_for header.now metadata.now cryptogram.now out.old tag.now)
         result s.new out.new tag.now }
 {
-    let r = sane::unwrap_envelope(*s, header, metadata, cryptogram, tag, out, false);
+    let r = sane::unwrap_envelope(*s, header, metadata, cryptogram, tag, out, four);
     *s = r.session;
     Answer {
         number: r.number,

@@ -1,5 +1,6 @@
 // Xoofff-SANSE over a lent record: start, wrap and unwrap, without an envelope and for one, call the functions by value and store the session that
-// they give.
+// they give. `four` is whether full blocks are taken four side by side (document 02, request 10): it alters nothing but the time, and no clause
+// speaks of it.
 #![tactic(auto)]
 
 ghost use Rattle.sanse.specs.Session.{handed, handed_for};
@@ -34,11 +35,12 @@ pub fn wrap(
     message: &[u8],
     out: &mut [u8],
     tag: &mut [u8],
+    four: bool,
 ) -> Answer
     ensures { Wrapped s.old (handed metadata.now message.now out.old tag.old)
         result s.new out.new tag.new }
 {
-    let r = sanse::wrap(*s, metadata, message, out, tag, false);
+    let r = sanse::wrap(*s, metadata, message, out, tag, four);
     *s = r.session;
     Answer {
         number: r.number,
@@ -53,11 +55,12 @@ pub fn unwrap(
     cryptogram: &[u8],
     tag: &[u8],
     out: &mut [u8],
+    four: bool,
 ) -> Answer
     ensures { Unwrapped s.old (handed metadata.now cryptogram.now out.old tag.now)
         result s.new out.new tag.now }
 {
-    let r = sanse::unwrap(*s, metadata, cryptogram, tag, out, false);
+    let r = sanse::unwrap(*s, metadata, cryptogram, tag, out, four);
     *s = r.session;
     Answer {
         number: r.number,
@@ -76,12 +79,13 @@ pub fn wrap_envelope(
     message: &[u8],
     out: &mut [u8],
     tag: &mut [u8],
+    four: bool,
 ) -> Answer
     ensures { Wrapped s.old
         (handed_for header.now metadata.now message.now out.old tag.old)
         result s.new out.new tag.new }
 {
-    let r = sanse::wrap_envelope(*s, header, metadata, message, out, tag, false);
+    let r = sanse::wrap_envelope(*s, header, metadata, message, out, tag, four);
     *s = r.session;
     Answer {
         number: r.number,
@@ -97,12 +101,13 @@ pub fn unwrap_envelope(
     cryptogram: &[u8],
     tag: &[u8],
     out: &mut [u8],
+    four: bool,
 ) -> Answer
     ensures { Unwrapped s.old
         (handed_for header.now metadata.now cryptogram.now out.old tag.now)
         result s.new out.new tag.now }
 {
-    let r = sanse::unwrap_envelope(*s, header, metadata, cryptogram, tag, out, false);
+    let r = sanse::unwrap_envelope(*s, header, metadata, cryptogram, tag, out, four);
     *s = r.session;
     Answer {
         number: r.number,
