@@ -7,7 +7,7 @@ ghost use Rattle.sane.specs.Session.{handed, handed_for};
 ghost use Rattle.sane_session.specs.Lent.{Started, Wrapped, Unwrapped};
 
 use sane::SaneSession;
-use session::Answer;
+use steps::Answer;
 
 // Opens a session in the place of the record, under a key of 16 to 47 bytes and with a nonce of up to 16,384 bytes that was not used under this
 // key before. The tag of the start fills `tag`, which has 16 bytes. Checks 4, 6 and 7; a refused start closes the record and keeps `tag`.
@@ -15,11 +15,8 @@ pub fn start(s: &mut SaneSession, key: &[u8], nonce: &[u8], tag: &mut [u8]) -> A
     ensures { Started key.now nonce.now tag.old result s.new tag.new }
 {
     let r = sane::start(key, nonce, tag);
-    *s = r.session;
-    Answer {
-        number: r.number,
-        count: r.count,
-    }
+    *s = r.left;
+    r.into()
 }
 
 // Wraps a message: the cryptogram goes to the start of `out`, and the tag fills `tag`. Checks 5 to 9.
@@ -35,11 +32,8 @@ pub fn wrap(
         result s.new out.new tag.new }
 {
     let r = sane::wrap(*s, metadata, message, out, tag, four);
-    *s = r.session;
-    Answer {
-        number: r.number,
-        count: r.count,
-    }
+    *s = r.left;
+    r.into()
 }
 
 // Unwraps a cryptogram: the message goes to the start of `out`. Checks 5 to 9 and 11.
@@ -55,11 +49,8 @@ pub fn unwrap(
         result s.new out.new tag.now }
 {
     let r = sane::unwrap(*s, metadata, cryptogram, tag, out, four);
-    *s = r.session;
-    Answer {
-        number: r.number,
-        count: r.count,
-    }
+    *s = r.left;
+    r.into()
 }
 
 // ---- calls for an envelope
@@ -80,11 +71,8 @@ pub fn wrap_envelope(
         result s.new out.new tag.new }
 {
     let r = sane::wrap_envelope(*s, header, metadata, message, out, tag, four);
-    *s = r.session;
-    Answer {
-        number: r.number,
-        count: r.count,
-    }
+    *s = r.left;
+    r.into()
 }
 
 // Unwraps the cryptogram of the envelope with this header. Check 1 where the header is not the layout's with letter N and the lengths of metadata
@@ -103,9 +91,6 @@ pub fn unwrap_envelope(
         result s.new out.new tag.now }
 {
     let r = sane::unwrap_envelope(*s, header, metadata, cryptogram, tag, out, four);
-    *s = r.session;
-    Answer {
-        number: r.number,
-        count: r.count,
-    }
+    *s = r.left;
+    r.into()
 }

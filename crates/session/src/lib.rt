@@ -7,25 +7,15 @@ ghost use Rattle.sanse.specs.Session.{handed, handed_for};
 ghost use Rattle.session.specs.Lent.{Started, Wrapped, Unwrapped};
 
 use sanse::Session;
-
-// What a call gives beside record and buffers: its number (0: accepted), and the permutations done.
-#[repr(C)]
-#[derive(Clone, Copy)]
-pub struct Answer {
-    pub number: u32,
-    pub count: u32,
-}
+use steps::Answer;
 
 // Opens a session under a key of 16 to 47 bytes in the place of the record. Another length is refused by 4, and the record is closed then.
 pub fn start(s: &mut Session, key: &[u8]) -> Answer
     ensures { Started key.now result s.new }
 {
     let r = sanse::start(key);
-    *s = r.session;
-    Answer {
-        number: r.number,
-        count: r.count,
-    }
+    *s = r.left;
+    r.into()
 }
 
 // Wraps a message: the cryptogram goes to the start of `out`, and the tag fills `tag`. Checks 5 to 9.
@@ -41,11 +31,8 @@ pub fn wrap(
         result s.new out.new tag.new }
 {
     let r = sanse::wrap(*s, metadata, message, out, tag, four);
-    *s = r.session;
-    Answer {
-        number: r.number,
-        count: r.count,
-    }
+    *s = r.left;
+    r.into()
 }
 
 // Unwraps a cryptogram: the message goes to the start of `out`. Checks 5 to 9 and 11.
@@ -61,11 +48,8 @@ pub fn unwrap(
         result s.new out.new tag.now }
 {
     let r = sanse::unwrap(*s, metadata, cryptogram, tag, out, four);
-    *s = r.session;
-    Answer {
-        number: r.number,
-        count: r.count,
-    }
+    *s = r.left;
+    r.into()
 }
 
 // ---- calls for an envelope
@@ -86,11 +70,8 @@ pub fn wrap_envelope(
         result s.new out.new tag.new }
 {
     let r = sanse::wrap_envelope(*s, header, metadata, message, out, tag, four);
-    *s = r.session;
-    Answer {
-        number: r.number,
-        count: r.count,
-    }
+    *s = r.left;
+    r.into()
 }
 
 // Unwraps the cryptogram of the envelope with this header. Check 1, and then 5 to 9 and 11.
@@ -108,9 +89,6 @@ pub fn unwrap_envelope(
         result s.new out.new tag.now }
 {
     let r = sanse::unwrap_envelope(*s, header, metadata, cryptogram, tag, out, four);
-    *s = r.session;
-    Answer {
-        number: r.number,
-        count: r.count,
-    }
+    *s = r.left;
+    r.into()
 }
