@@ -2,8 +2,8 @@
 // joined into one. specs/Runs.antt says so of lists of runs too, specs/Meaning.antt which numbers a list holds, and proofs/ what follows.
 #![tactic(auto)]
 
-ghost use Rattle.std.specs.Prelude.{◌≡◌};
-ghost use Rattle.runs.specs.Runs.{meets, touches, join};
+ghost use Rattle.std.specs.Prelude.{◌≡◌, ◌≤◌};
+ghost use Rattle.runs.specs.Runs.{meets, touches, join, rings_in};
 
 // The ring numbers first to last of a size, which is the byte of its letter. C has these records, in a pool.
 #[repr(C)]
@@ -49,5 +49,13 @@ impl Run {
                 ..other
             }
         }
+    }
+
+    // How many rings a run has: none where its first number is above its last.
+    pub fn rings(self) -> u64
+        ensures value { result ≡ rings_in self }
+        ensures few { result ≤ 4294967296 }
+    {
+        (u64::from(self.last) + 1).saturating_sub(u64::from(self.first))
     }
 }
