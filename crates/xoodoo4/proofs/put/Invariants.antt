@@ -7,5 +7,3 @@ use Rattle.xoodoo4.proofs.put.Given as goal
 abbrev pub invariant-loop-i : goal.invariant-loop-i
 invariant-loop-i l = (l.i ≤ 12) × (l.w ≡ put l.i l.j l.s l.initial.w)
 
-abbrev pub decreases-loop-i : goal.decreases-loop-i
-decreases-loop-i l = 12 - l.i

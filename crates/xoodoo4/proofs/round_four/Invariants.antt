@@ -7,5 +7,3 @@ use Rattle.xoodoo4.proofs.round_four.Given as goal
 abbrev pub invariant-loop-j : goal.invariant-loop-j
 invariant-loop-j l = (l.j ≤ 4) × Done (round l.c) l.w l.j l.r
 
-abbrev pub decreases-loop-j : goal.decreases-loop-j
-decreases-loop-j l = 4 - l.j
