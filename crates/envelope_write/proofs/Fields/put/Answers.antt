@@ -1,4 +1,4 @@
--- `envelope_write::put_header` meets its contract: letter and comma, and then the three numbers, one behind the other, are the header. Assumes nothing.
+-- `envelope_write::Fields::put` meets its contract: letter and comma, and then the three numbers, one behind the other, are the header. Assumes nothing.
 use mathlib.Core.Path.{refl, ap, ◌∙◌}
 use mathlib.Core.List.{List, [], ◌∷◌, ◌++◌, append_assoc}
 use Prim.Native.Nat.{ℕ}
@@ -9,13 +9,13 @@ use Rattle.decimal.proofs.Buffers.{written_at-pair}
 use Rattle.envelope.specs.Layout.{field, header}
 use Rattle.envelope.proofs.Layouts.{field-length, header-length}
 use Rattle.envelope_write.proofs.WriteSteps.{written-behind}
-use Rattle.envelope_write.proofs.put_header.Goals as goal
+use Rattle.envelope_write.proofs.Fields.put.Goals as goal
 
 pub returns : goal.returns
 unfolding header
 returns c =
-    let a = c.args in
-    let out = a.out.now in
+    let a = c.args.self in
+    let out = c.args.out.now in
     let group = field a.group in
     let alen = field a.alen in
     let mlen = field a.mlen in
