@@ -1,9 +1,10 @@
 -- The size and the day of a line are found exactly where they are spelled. Assumes nothing.
 use Rattle.std.specs.Prelude.{Option, Some, None}
+use Rattle.std.specs.Bool.{then_some}
 use Rattle.std.proofs.lemmas.Option.{option_and_then_some}
 use Prim.Native.Nat.{ℕ, zero, suc, ◌+◌, ◌*◌, ◌/◌, ◌%◌, ◌^◌, ◌<◌, ◌≤◌}
 use mathlib.Core.Path.{◌≡◌, refl, sym, ap, ap₂, ◌∙◌, subst}
-use mathlib.Core.Bool.{Bool, true, false, cond}
+use mathlib.Core.Bool.{Bool, true, false}
 use mathlib.Core.Logic.{◌⊎◌, inl, inr}
 use mathlib.Core.List.{List, [], ◌∷◌, ◌++◌, append_assoc}
 use native.Mathlib.Omega.{arith}
@@ -24,8 +25,8 @@ use Rattle.issue_line.specs.Layout.{comma, line_feed, letter_a, letter_h, last_d
 use Rattle.issue_line.specs.Read.{read_size, read_digits, read_day}
 use Rattle.issue_line.specs.declared.FoundSize.{FoundSize}
 
--- what was chosen by a test, where one of two was found: the test held
-pub found-held : {A : Type 0} (t : Bool) (x y : A) → cond t (Some x) None ≡ Some y → (t ≡ true) × (x ≡ y)
+-- something was found that a test lets through: the test held
+pub found-held : {A : Type 0} (t : Bool) (x y : A) → then_some t x ≡ Some y → (t ≡ true) × (x ≡ y)
 found-held true x y e = (refl, cc)
 found-held false x y e = let no : ⊥ = cc in absurd no
 
@@ -51,7 +52,7 @@ two-places s at e = go (lt-or-le (at + 1) (length s))
 pub size-sound : (s : List ℕ) (at : ℕ) (z : FoundSize) → read_size s at ≡ Some z → SizeStands s at z
 unfolding read_size
 size-sound s at z e =
-    option_and_then_some (λ (size : Size). cond (eqb (get_or s (at + 1) 0) comma) (Some (size_at at size)) None) (size_of (get_or s at 0)) z e (λ size is h.
+    option_and_then_some (λ (size : Size). then_some (eqb (get_or s (at + 1) 0) comma) (size_at at size)) (size_of (get_or s at 0)) z e (λ size is h.
     let ends = found-held (eqb (get_or s (at + 1) 0) comma) (size_at at size) z h in
     let letter = ((size-exactly (get_or s at 0)).one size).0 is in
     subst (SizeStands s at) ends.1

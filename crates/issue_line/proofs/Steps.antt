@@ -1,5 +1,6 @@
 -- What each test of the code that reads a line comes to. Assumes nothing.
-use Rattle.std.proofs.Common.{ℕ, zero, suc, ◌+◌, ◌-◌, ◌*◌, ◌^◌, ◌<◌, ◌≤◌, ◌≡◌, refl, ap, ◌∙◌, cond, List, [], ◌∷◌, length, drop, get_or, eqb, add-one, arith}
+use Rattle.std.specs.Bool.{then_some}
+use Rattle.std.proofs.Common.{sym, ℕ, zero, suc, ◌+◌, ◌-◌, ◌*◌, ◌^◌, ◌<◌, ◌≤◌, ◌≡◌, refl, ap, ◌∙◌, List, [], ◌∷◌, length, drop, get_or, eqb, add-one, arith}
 use Rattle.std.specs.Prelude.{Option, Some, None, option_and_then}
 use native.Mathlib.Nat.{pow-suc, pow-le-pow_right}
 use lib.ListN.{get_or-eq_default, length-drop}
@@ -43,17 +44,17 @@ module _ (t : List ℕ) (at v k : ℕ) where
       ∙ ap (read_digits (suc (8 - (k + 1))) v (at + k)) (from_place t k inside)
       ∙ ap (λ (i : ℕ). option_and_then (λ d. read_digits (8 - (k + 1)) (v * 10 + d) i (drop (k + 1) t)) (digit_of (get_or t k 0))) place
 
-  -- after eight digits
-  pub day-end : k ≡ 8 → k < length t
-      → read_digits (8 - k) v (at + k) (drop k t) ≡ cond (eqb (get_or t 8 0) line_feed) (Some (record { value = v; next = at + 9 })) None
+  -- after eight digits, by the byte x behind them
+  pub day-end : k ≡ 8 → 8 < length t → (x : ℕ) → x ≡ get_or t 8 0
+      → then_some (eqb x line_feed) (record { value = v; next = at + 9 }) ≡ read_digits (8 - k) v (at + k) (drop k t)
   unfolding read_digits
-  day-end eight inside =
-      let left : 8 - k ≡ 0 = omega arith in
-      let place : at + k + 1 ≡ at + 9 = omega arith in
-      ap (λ (n : ℕ). read_digits n v (at + k) (drop k t)) left
-      ∙ ap (read_digits 0 v (at + k)) (from_place t k inside)
-      ∙ ap (λ (n : ℕ). cond (eqb (get_or t n 0) line_feed) (Some (record { value = v; next = at + k + 1 })) None) eight
-      ∙ ap (λ (i : ℕ). cond (eqb (get_or t 8 0) line_feed) (Some (record { value = v; next = i })) None) place
+  day-end eight inside x is =
+      let place : at + 8 + 1 ≡ at + 9 = omega arith in
+      ap (λ (b : ℕ). then_some (eqb b line_feed) (record { value = v; next = at + 9 })) is
+      ∙ sym
+      (ap (λ (n : ℕ). read_digits (8 - n) v (at + n) (drop n t)) eight
+      ∙ ap (read_digits 0 v (at + 8)) (from_place t 8 inside)
+      ∙ ap (λ (i : ℕ). then_some (eqb (get_or t 8 0) line_feed) (record { value = v; next = i })) place)
 
 pub day-start : (s : List ℕ) (at : ℕ) → read_digits (8 - 0) 0 (at + 0) (drop 0 (drop at s)) ≡ read_day s at
 unfolding read_day

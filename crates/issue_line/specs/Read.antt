@@ -1,6 +1,7 @@
 -- What a reader of issue lines finds in some bytes, and what is claimed of it: document 02, request 6, 13. proofs/Reading.antt has the proof that
 -- this is exactly what the layout says. Assumes nothing.
-use Rattle.std.specs.Prelude.{ℕ, zero, suc, ◌+◌, ◌*◌, ◌≡◌, Bool, true, false, cond, ◌&&◌, ◌↔◌, Option, Some, None, option_and_then, List, [], ◌∷◌, length, drop, get_or, leb, eqb}
+use Rattle.std.specs.Prelude.{ℕ, zero, suc, ◌+◌, ◌*◌, ◌≡◌, Bool, true, false, ◌&&◌, ◌↔◌, Option, Some, None, option_and_then, List, [], ◌∷◌, length, drop, get_or, leb, eqb}
+use Rattle.std.specs.Bool.{then_some}
 use Rattle.decimal.specs.Decimal.{digit_of, read_decimal}
 use Rattle.decimal.specs.declared.Number.{Number}
 use Rattle.sizes.specs.Sizes.{letter_of, size_of}
@@ -11,12 +12,12 @@ use Rattle.issue_line.specs.declared.FoundSize.{FoundSize}
 -- the size at the place `at` of the bytes s: a letter A to H and a comma
 unfoldable pub read_size : List ℕ → ℕ → Option FoundSize
 read_size s at =
-    option_and_then (λ size. cond (eqb (get_or s (at + 1) 0) comma) (Some (record { size = size; next = at + 2 })) None) (size_of (get_or s at 0))
+    option_and_then (λ size. then_some (eqb (get_or s (at + 1) 0) comma) (record { size = size; next = at + 2 })) (size_of (get_or s at 0))
 
 -- digits that are left to read, and a line feed: `value` is the number so far, `i` the place of the first of these bytes
 unfoldable pub read_digits : (left value i : ℕ) → List ℕ → Option Number
 read_digits zero value i [] = None
-read_digits zero value i (b ∷ s) = cond (eqb b line_feed) (Some (record { value = value; next = i + 1 })) None
+read_digits zero value i (b ∷ s) = then_some (eqb b line_feed) (record { value = value; next = i + 1 })
 read_digits (suc left) value i [] = None
 read_digits (suc left) value i (b ∷ s) = option_and_then (λ d. read_digits left (value * 10 + d) (i + 1) s) (digit_of b)
 
@@ -27,8 +28,8 @@ read_day s at = read_digits 8 0 at (drop at s)
 -- these fields of n bytes make a line: the first ring is at least 1 and not above the last, and the line ends with the bytes
 unfoldable pub line_of : (n : ℕ) → Number → FoundSize → Number → Number → Number → Option LineFields
 line_of n g z f l d =
-    cond (leb 1 f.value && (leb f.value l.value && eqb d.next n))
-    (Some (record { group = g.value; size = z.size; first = f.value; last = l.value; day = d.value })) None
+    then_some (leb 1 f.value && (leb f.value l.value && eqb d.next n))
+    (record { group = g.value; size = z.size; first = f.value; last = l.value; day = d.value })
 
 -- the fields of the line that the bytes s are: each is read at the place after the one before it
 unfoldable pub read_fields : List ℕ → Option LineFields

@@ -18,7 +18,7 @@ const MAX_RUNS: usize = 256;
 #[derive(Clone, Copy)]
 pub struct Pool {
     pub used: usize,
-    pub runs: [Run; 256],
+    pub runs: [Run; MAX_RUNS],
 }
 
 impl Pool {

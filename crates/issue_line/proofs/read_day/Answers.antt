@@ -1,5 +1,5 @@
 -- `issue_line::read_day` meets its contract. Assumes nothing.
-use Rattle.std.proofs.Common.{arith, sym}
+use Rattle.std.proofs.Common.{◌≡◌, ◌<◌, length, arith, sym, ◌∙◌}
 use Rattle.std.proofs.lemmas.Grind.{common_steps}
 use Rattle.decimal.proofs.Laws.{digit-forth}
 use Rattle.issue_line.proofs.Steps.{day-short, day-more, day-end, day-start, pow_small, pow-next}
@@ -36,4 +36,7 @@ pub returns-in_err-end : goal.returns-in_err-end
 returns-in_err-end c = grind (arith, common_steps, day-short)
 
 pub returns : goal.returns
-returns c = let e = day-end c.in_ok-field.field.now c.args.at c.loop-b.value c.loop-b.b-index in grind (arith, common_steps)
+returns c =
+    let eight : c.loop-b.b-index ≡ 8 = grind (arith, common_steps) in
+    let inside : 8 < length c.in_ok-field.field.now = grind (arith, common_steps) in
+    c.then_some.ensures ∙ day-end c.in_ok-field.field.now _ _ _ eight inside _ (c.in_ok-end.ensures.lookup.3.1 0) ∙ c.loop-b.invariant.1
