@@ -4,6 +4,8 @@
 
 ghost use Rattle.std.specs.Prelude.{◌<◌};
 
+use envelope::ReadResult;
+use envelope_write::WriteResult;
 use std::io::Read;
 
 // The room for the longest envelope, and some more.
@@ -90,7 +92,7 @@ fn checksum(s: &[u8]) -> u16 {
 // Reads the envelope at the start of some bytes, and writes number, letter, group, place and, for each of the three parts, its length and a sum
 // over it.
 fn put_read(rt: &impl Print, s: &[u8]) {
-    let e = envelope::read_envelope(s);
+    let e = ReadResult::from(envelope::read_parts(s));
     let _ = print!(rt; "{} {} {} {} ", e.number, e.letter, e.group, e.place);
     for part in [
         envelope::metadata(s),
@@ -131,14 +133,14 @@ impl Writing {
         if source.len() < a.max(c).max(t) || out.len() < room {
             return;
         }
-        let w = envelope_write::write_envelope(
+        let w = WriteResult::from(envelope_write::write_envelope(
             self.letter,
             u32::from(self.group),
             &source[..a],
             &source[7..c],
             &source[11..t],
             &mut out[..room],
-        );
+        ));
         let _ = print!(rt; "{} {} {} ", w.number, w.len, checksum(&out));
         put_read(rt, &out);
     }

@@ -6,7 +6,7 @@ use mathlib.Core.Logic.{◌⊎◌, inl, inr}
 use native.Mathlib.Nat.{eq-zero-or-pos}
 use native.Mathlib.Omega.{arith}
 use lib.Dec.{leb, eqb}
-use borrow.Author.Tests.{lt-ltb, le-ltb, eq-eqb, ne_eqb, leb-true, leb-false, eqb-true, eqb-false}
+use borrow.Author.Tests.{lt-ltb, le-ltb, eq-eqb, leb-true, leb-false, eqb-true, eqb-false}
 use Rattle.runs.specs.declared.Run.{Run}
 use Rattle.runs.specs.Runs.{meets, touches, join, rings_in}
 use Rattle.runs.specs.Meaning.{Valid, In, Apart}
@@ -40,11 +40,6 @@ unfolding touches
 touches-false q r e same =
     let s = or-neither (eqb (q.last + 1) r.first) (eqb (r.last + 1) q.first) (sym (simp (eq-eqb q.size r.size same)) ∙ e) in
     (eqb-false (q.last + 1) r.first s.0, eqb-false (r.last + 1) q.first s.1)
-
--- two runs of one size of which the first does not end just before the second
-pub touches-above : (q r : Run) → q.size ≡ r.size → (q.last + 1 ≡ r.first → ⊥) → eqb (r.last + 1) q.first ≡ touches q r
-unfolding touches
-touches-above q r e h = simp (eq-eqb q.size r.size e, ne_eqb (q.last + 1) r.first h)
 
 module _ (q r : Run) where
   -- what it is to meet, and not to

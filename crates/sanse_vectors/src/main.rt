@@ -4,10 +4,9 @@
 // e; then a line of hexadecimal digits for the output, the tag, the accumulator and the mask.
 #![tactic(auto)]
 
-ghost use Rattle.std.specs.Prelude.{◌≤◌, ◌<◌, length};
-
-use sanse::{CallResult, Session};
+use sanse::Session;
 use std::io::Read;
+use steps::CallResult;
 
 // What a record does.
 #[derive(Clone, Copy)]
@@ -78,19 +77,20 @@ impl From<[u8; 7]> for Header {
 }
 
 // What a call gave, with its output and its tag.
-fn show(rt: &impl Print, r: CallResult, out: &[u8], tag: &[u8]) {
-    let s = r.session;
+fn show(rt: &impl Print, r: CallResult<Session>, out: &[u8], tag: &[u8]) {
+    let s = r.left;
+    let d = s.history;
     let _ = println!(rt;
         "{} {} {} {}",
         r.number,
         r.count,
-        s.index,
+        d.index,
         u32::from(s.toggle)
     );
     hexline::print_line(rt, out);
     hexline::print_line(rt, tag);
-    hexline::print_line(rt, &state::to_bytes(&s.acc));
-    hexline::print_line(rt, &state::to_bytes(&s.mask));
+    hexline::print_line(rt, &state::to_bytes(&d.acc));
+    hexline::print_line(rt, &state::to_bytes(&d.mask));
 }
 
 // Reads the parts and the tag of a record and carries it out on a session, which it gives as it is afterwards.
@@ -114,12 +114,12 @@ fn after(rt: &impl Print, input: &mut impl Read, header: Header, s: Session) -> 
         Operation::Start => show(rt, r, b"", b""),
         Operation::Wrap | Operation::Unwrap => show(rt, r, out, &tag),
     }
-    r.session
+    r.left
 }
 
 fn main(rt: HostRuntime) {
     let mut input = rt.stdin();
-    let mut a = sanse::start(b"").session;
+    let mut a = sanse::start(b"").left;
     let mut b = a;
     for _ in 0..4096 {
         let mut head = [0; 7];
