@@ -13,7 +13,7 @@ ghost use Rattle.office.specs.Table.{no_group_outcome, table_check, table_of, ta
 use envelope::LETTER_S;
 use groups::Record;
 use refusals::Refusal;
-use session::Answer;
+use steps::Answer;
 
 // ---- checks 1 and 3
 
@@ -66,10 +66,7 @@ pub fn wrap_envelope_group(
         four,
     );
     table[group] = r.left;
-    Answer {
-        number: r.number,
-        count: r.count,
-    }
+    r.into()
 }
 
 // Unwraps the cryptogram of the envelope with this header for a group: the message goes to the start of `out`. Checks 1, 3, 5 to 10 and 11.
@@ -102,8 +99,5 @@ pub fn unwrap_envelope_group(
         four,
     );
     table[group] = r.left;
-    Answer {
-        number: r.number,
-        count: r.count,
-    }
+    r.into()
 }
