@@ -44,7 +44,7 @@ pub with-codes-says : (starts : (key : List ℕ) → CallResult → Type 0) (p :
     → WithCodesOf sanse_kind starts p c
     ≡ ((key : List ℕ) → 16 ≤ length key → length key ≤ 47 → (first second : CallResult) → starts key first → starts key second
     → (rs : List Request) (os : List (Outcome DeckState)) (gs : List CodeOutcome) (to : Records sanse_kind)
-    → CodeRun sanse_kind p c rs (record { office = first.session; group = second.session }) os gs to
+    → CodeRun sanse_kind p c rs (record { office = first.left; group = second.left }) os gs to
     → WithCodes key rs (start_result first) (start_result second) os gs (sessions_held sanse_kind to))
 with-codes-says starts p c = refl
 
@@ -58,7 +58,7 @@ pub same-codes-says : (starts : (key : List ℕ) → CallResult → Type 0) (p :
     → SameCodesOf sanse_kind starts p c
     ≡ ((key : List ℕ) → 16 ≤ length key → length key ≤ 47 → (first second : CallResult) → starts key first → starts key second
     → (cs : List Call) (os : List (Outcome DeckState)) (to : Records sanse_kind)
-    → Run sanse_kind p cs (record { office = first.session; group = second.session }) os to
+    → Run sanse_kind p cs (record { office = first.left; group = second.left }) os to
     → Delivers sanse_paper nothing cs (fresh_ledgers key sanse_opens)
     → (packet : ℕ) (out : List ℕ) (g g' : CodeOutcome) → c to.office packet out g → c to.group packet out g' → g ≡ g')
 same-codes-says starts p c = refl
