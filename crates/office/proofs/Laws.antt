@@ -95,7 +95,8 @@ module _ (lone : SessionState DeckState → CallInput → Outcome DeckState) (al
       ∙ call_by (number_of e) (sym h)
 
   -- what a group's call gave, with its record written back, is what the rules say of the whole table
-  pub call-stored : 0 ≡ stop → g < length l → (r : CallResult Record) (d : Record) {out tag : List ℕ} → group_result r out tag ≡ own (record_of (get_or l g d))
+  pub call-stored : 0 ≡ stop → g < length l → (r : CallResult Record) (d : Record) {out tag : List ℕ}
+      → group_result r out tag ≡ own (record_of (get_or l g d))
       → (a : Answer) → a ≡ record { number = r.number; count = r.count } → table_result a (set l g r.left) out tag ≡ whole
   call-stored e less r d {out} {tag} met a is =
       ap (λ (a : Answer). table_result a (set l g r.left) out tag) is
@@ -106,7 +107,8 @@ module _ (lone : SessionState DeckState → CallInput → Outcome DeckState) (al
 -- a call that is handed no header, by check 3 alone
 module _ (lone : SessionState DeckState → CallInput → Outcome DeckState) (allowance : ℕ) (i : CallInput) (without : i.header ≡ bare) (l : List Record) (g : ℕ) where
   bare-stop : check_group (length l) g ≡ stop lone allowance i l g
-  bare-stop = sym (ap (λ (h : CallHeader). table_check (group_fits letter_s g h (length i.metadata) (length i.text)) (no_group_outcome (length l) g)) without)
+  bare-stop =
+      sym (ap (λ (h : CallHeader). table_check (group_fits letter_s g h (length i.metadata) (length i.text)) (no_group_outcome (length l) g)) without)
 
   pub bare-refused : (e : Refusal) → number_of e ≡ check_group (length l) g → (r : Answer) → r ≡ refused_answer e
       → table_result r l i.out i.tag ≡ whole lone allowance i l g
@@ -139,7 +141,8 @@ module _ (allowance : ℕ) (key : List ℕ) (l : List Record) (g : ℕ) where
 
   pub open-stored : 0 ≡ check_group (length l) g → (r : CallResult Record) (d : Record)
       → group_opening_result r ≡ open_on_day allowance (record_of (get_or l g d)) key
-      → (a : Answer) → a ≡ record { number = r.number; count = r.count } → opening_result a (set l g r.left) ≡ open_group_at allowance (table_of l) g key
+      → (a : Answer) → a ≡ record { number = r.number; count = r.count }
+      → opening_result a (set l g r.left) ≡ open_group_at allowance (table_of l) g key
   open-stored e r d given a is =
       let has = passed (no_group_outcome (length l) g) e in
       ap (λ (a : Answer). opening_result a (set l g r.left)) is

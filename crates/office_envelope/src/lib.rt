@@ -1,6 +1,7 @@
 // The office's table, calls for an envelope (document 02, request 7): wrap and unwrap for a group are handed the envelope's header too, whose bytes go
 // before the metadata under the tag. A header that is not the layout's with letter S, the call's group and its own lengths is refused by 1, before
-// every other check. `four` is whether full blocks are taken four side by side (request 10): it alters nothing but the time, and no clause speaks of it.
+// every other check. `four` is whether full blocks are taken four side by side (request 10): it alters nothing but the time, and no clause speaks of
+// it.
 #![tactic(auto)]
 
 ghost use Rattle.std.specs.Prelude.{◌≡◌};
