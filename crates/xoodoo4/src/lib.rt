@@ -41,7 +41,7 @@ fn round_four(w: [u32; 48], c: u32) -> [u32; 48]
 fn permute_four(w: [u32; 48]) -> [u32; 48]
     ensures { result ≡ each perm w }
 {
-    xoodoo::CONSTANTS.into_iter().fold(w, round_four)
+    xoodoo::CONSTANTS.iter().copied().fold(w, round_four)
 }
 
 // The permutation of each of four states that are laid out in a with the steps dx and dy from place n on; the results are added to w, or put in its
