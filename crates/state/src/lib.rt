@@ -8,7 +8,7 @@ ghost use Rattle.state.specs.Bytes.{byte_bit, from_bytes, to_bytes};
 
 use std::array;
 
-// The sum of two states, or of as many lanes of several.
+// The sum of two states, or of as many lanes of several. A loop: of a closure over arrays of N lanes the check learns nothing without a clause.
 pub fn add<const N: usize>(mut a: [u32; N], b: [u32; N]) -> [u32; N]
     ensures { result ≡ sum a.entry b.entry }
 {
