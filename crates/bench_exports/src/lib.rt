@@ -44,7 +44,7 @@ pub extern "C" fn pevghazo_expand(y: &[u32; 12], mask: &[u32; 12], out: &mut [u8
     xoofff::expand(*y, mask, 0, out)
 }
 
-// ---- the same two, with full blocks taken four side by side
+// ---- the same two, with full blocks taken four side by side: functions of their own, since C names each
 
 #[unsafe(no_mangle)]
 pub extern "C" fn pevghazo_compress_four(acc: &mut [u32; 12], mask: &mut [u32; 12], s: &[u8])

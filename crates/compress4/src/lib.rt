@@ -15,14 +15,14 @@ use deck::DeckState;
 use rows::{Input, Row};
 use xoofff::Compressed;
 
-// The four blocks from byte `at` on, side by side.
-fn blocks_beside(s: &[u8], at: usize) -> [u32; 48]
-    requires { at + 192 ≤ length s.now }
-    ensures { result ≡ beside (block_at s.now at) }
+// The first four blocks, side by side.
+fn blocks_beside(s: &[u8]) -> [u32; 48]
+    requires { 192 ≤ length s.now }
+    ensures { result ≡ beside (block_at s.now 0) }
 {
     let mut w = [0u32; 48];
     for i in 0..12 {
-        let p = at + 4 * i;
+        let p = 4 * i;
         w[4 * i] = state::lane_at(s, p);
         w[4 * i + 1] = state::lane_at(s, p + 48);
         w[4 * i + 2] = state::lane_at(s, p + 96);
@@ -47,12 +47,12 @@ fn add_row(w: [u32; 48], row: &Row<Input>) -> [u32; 48]
     t
 }
 
-// Adds to the sums the permutations of the four full blocks from byte `at` on, with the next four masks of their row.
-fn add_group(sums: &mut [u32; 48], s: &[u8], at: usize, row: &Row<Input>)
-    requires { (length sums.old ≡ 48) × (at + 192 ≤ length s.now) }
-    ensures { sums.new ≡ sum sums.old (beside (λ j. perm (sum (block_at s.now at j) (laid row.now.at 3 1 row.now.words j)))) }
+// Adds to the sums the permutations of the first four full blocks, with the next four masks of their row.
+fn add_group(sums: &mut [u32; 48], s: &[u8], row: &Row<Input>)
+    requires { (length sums.old ≡ 48) × (192 ≤ length s.now) }
+    ensures { sums.new ≡ sum sums.old (beside (λ j. perm (sum (block_at s.now 0 j) (laid row.now.at 3 1 row.now.words j)))) }
 {
-    let w = add_row(blocks_beside(s, at), row);
+    let w = add_row(blocks_beside(s), row);
     xoodoo4::permute_into(sums, true, &w, 0, 4, 16);
 }
 
@@ -60,6 +60,7 @@ fn add_group(sums: &mut [u32; 48], s: &[u8], at: usize, row: &Row<Input>)
 fn add_four(x: [u32; 12], w: &[u32; 48]) -> [u32; 12]
     ensures { result ≡ add_four x w.now }
 {
+    // no loop: the borrow checker covers no call's result that is laid in an array again
     let p = state::add(x, xoodoo4::part(w, 0));
     let q = state::add(p, xoodoo4::part(w, 1));
     let r = state::add(q, xoodoo4::part(w, 2));
@@ -76,7 +77,7 @@ pub fn compress_four(d: DeckState, s: &[u8], closing: u8) -> Compressed
     let mut sums = [0u32; 48];
     let mut row = Row::<Input>::new(d.mask);
     for j in 0..groups {
-        add_group(&mut sums, s, 192 * j, &row);
+        add_group(&mut sums, &s[192 * j..], &row);
         row.advance();
     }
     let acc = add_four(d.acc, &sums);

@@ -81,6 +81,7 @@ pub fn roll_by(y: [u32; 12], n: usize) -> [u32; 12]
 {
     let mut z = y;
     for _ in 0..n {
+        // by t: the borrow checker covers no call's result that is laid in an array again
         let t = rolling::roll_out(z);
         z = t;
     }
@@ -99,6 +100,7 @@ fn xor_bytes(bytes: &[u8], out: &mut [u8])
     requires { length bytes.now ≡ length out.old }
     ensures { out.new ≡ sum out.old bytes.now }
 {
+    // by index: after `iter_mut().zip(..)` a proof knows no element
     for (i, o) in out.iter_mut().enumerate() {
         *o ^= bytes[i];
     }
@@ -129,6 +131,7 @@ pub fn expand(y: [u32; 12], mask: &[u32; 12], from: usize, out: &mut [u8]) -> u3
     let mut z = roll_by(y, from / 48);
     let mut at: usize = 0;
     let mut count: u32 = 0;
+    // no `for`: `at` goes by as many bytes as a block fills
     while at < out.len() {
         let b = output_block(z, mask);
         at += xor_block(&b, (from + at) % 48, &mut out[at..]);

@@ -15,5 +15,5 @@ returns c =
     let r = a.row.now.words in
     c.permute_into.ensures
     ∙ ap (sum a.sums.now)
-    (group-permuted a.s.now a.at (laid n 3 1 r) (laid-length n 3 1 r)
+    (group-permuted a.s.now 0 (laid n 3 1 r) (laid-length n 3 1 r)
     (c.add_row-w.ensures ∙ ap (λ (v : List ℕ). sum v (beside (laid n 3 1 r))) c.blocks_beside.ensures))

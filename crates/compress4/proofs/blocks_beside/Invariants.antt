@@ -8,4 +8,4 @@ use Rattle.compress4.specs.Four.{block_at}
 use Rattle.compress4.proofs.blocks_beside.Given as goal
 
 abbrev pub invariant-loop-i : goal.invariant-loop-i
-invariant-loop-i l = (length l.w ≡ 48) × Filled (beside_lane (block_at l.s l.at)) l.w (4 * l.i)
+invariant-loop-i l = (length l.w ≡ 48) × Filled (beside_lane (block_at l.s 0)) l.w (4 * l.i)

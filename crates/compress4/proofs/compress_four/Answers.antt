@@ -1,20 +1,22 @@
 -- `compress4::compress_four` meets its contract. Assumes nothing.
-use mathlib.Core.Path.{◌≡◌, sym, ◌∙◌, subst}
+use mathlib.Core.Path.{◌≡◌, sym, ap, ◌∙◌, subst}
 use mathlib.Core.List.{List}
 use Prim.Native.Nat.{ℕ, ◌+◌, ◌*◌, ◌-◌, ◌/◌}
 use native.Mathlib.Omega.{arith}
 use lib.ListN.{length, take, drop}
 use borrow.Author.Rules.{rules}
+use Rattle.word.specs.Lists.{sum}
 use Rattle.word.proofs.Lists.{Words}
 use Rattle.state.proofs.Lanes.{fits-of}
 use Rattle.rolling.specs.Rolling.{roll_in}
 use Rattle.deck.specs.Deck.{iterate}
 use Rattle.deck.specs.Closing.{closed_by}
 use Rattle.deck.specs.declared.DeckState.{DeckState}
+use Rattle.xoodoo4.specs.Four.{laid}
 use Rattle.rows.proofs.Rows.{rolling-in, RowFrom, rolled-on, row-state, row-start, row-advanced}
 use Rattle.xoofff.specs.Leaves.{compressed}
 use Rattle.compress4.specs.Four.{add_four}
-use Rattle.compress4.proofs.Compress.{after, Taken, taken_none, taken_more, rest-count, rest-index, rest-compressed}
+use Rattle.compress4.proofs.Compress.{after, Taken, taken_none, taken_more, blocks-lent, rest-count, rest-index, rest-compressed}
 use Rattle.compress4.proofs.compress_four.Goals as goal
 
 -- a state with its index set aside
@@ -39,7 +41,8 @@ loop-j-preserved c =
     let n = c.advance.ensures in
     let e : 192 * l.j + 192 ≡ 192 * (l.j + 1) = omega arith in (
       subst (Taken d a.s.now a.closing c.add_group.new.sums) e
-          (taken_more d a.s.now a.closing l.sums (192 * l.j) l.row.at l.row.words (omega arith) l.invariant.1 c.add_group.ensures l.invariant.0),
+          (taken_more d a.s.now a.closing l.sums (192 * l.j) l.row.at l.row.words (omega arith) l.invariant.1
+          (c.add_group.ensures ∙ ap (sum l.sums) (blocks-lent a.s.now (192 * l.j) (laid l.row.at 3 1 l.row.words) (omega arith))) l.invariant.0),
       subst (λ (m : ℕ). RowFrom roll_in (iterate (m / 48) roll_in d.mask) c.advance.new.self.at 20 c.advance.new.self.words) e
           (row-advanced roll_in rolling-in (iterate (192 * l.j / 48) roll_in d.mask) l.row.at l.row.words l.row.room l.row.whole
           (rolled-on roll_in d.mask (192 * l.j) l.invariant.0.whole) n.0 n.1 l.invariant.1),
