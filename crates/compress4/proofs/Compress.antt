@@ -188,7 +188,7 @@ taken_none d s c h =
 
 -- one more group
 pub taken_more : (d : DeckState) (s : List ℕ) (c : ℕ) (sums : List ℕ) (at n : ℕ) (r : List ℕ) {t : List ℕ} → at + 192 ≤ length s
-    → RowFrom roll_in (iterate (at / 48) roll_in d.mask) n 20 r
+    → RowFrom roll_in (iterate (at / 48) roll_in d.mask) n 16 r
     → t ≡ sum sums (beside (λ j. perm (sum (block_at s at j) (laid n 3 1 r j)))) → Taken d s c sums at → Taken d s c t (at + 192)
 unfolding four_more iterate
 taken_more d s c sums at n r {t} h row et a =
@@ -209,7 +209,7 @@ taken_more d s c sums at n r {t} h row et a =
     by_mask j l =
         beside-part g j l (perm-length _)
         ∙ ap (λ (k : List ℕ). perm (sum (block_at s at j) k))
-        (row_laid roll_in rolling-in m n 20 j r (omega arith) row)
+        (row_laid roll_in rolling-in m n 16 j r (omega arith) row)
 
     first : at + 48 * 0 ≡ at
     first = omega arith

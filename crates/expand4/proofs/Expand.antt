@@ -118,7 +118,7 @@ pub record Groups (y k' o : List ℕ) (n : ℕ) (o' : List ℕ) : Type 0 where
 pub groups_none : (y k' o : List ℕ) → Groups y k' o 0 o
 groups_none y k' o = record { fits = omega arith; whole = refl; added = added_none (λ k. output_byte y k' (0 + k)) 0 o }
 
-pub groups-more : (y k' o : List ℕ) (n m : ℕ) (o' r : List ℕ) {o'' : List ℕ} → n + 192 ≤ length o → RowFrom roll_out (iterate (n / 48) roll_out y) m 20 r
+pub groups-more : (y k' o : List ℕ) (n m : ℕ) (o' r : List ℕ) {o'' : List ℕ} → n + 192 ≤ length o → RowFrom roll_out (iterate (n / 48) roll_out y) m 16 r
     → Added (four_byte (laid m 3 1 r) k') n 192 o' o'' → Groups y k' o n o' → Groups y k' o (n + 192) o''
 groups-more y k' o n m o' r {o''} h row a d =
     let w : n % 192 ≡ 0 = d.whole in
@@ -129,7 +129,7 @@ groups-more y k' o n m o' r {o''} h row a d =
       added =
           added-on (λ k. output_byte y k' (0 + k)) (four_byte (laid m 3 1 r) k') 0 n n 192 o o' o'' (sym (zero-add n))
           (λ k l.
-          four-byte (laid m 3 1 r) z k' k (row_laid roll_out rolling-out z m 20 (k / 48) r (omega arith) row)
+          four-byte (laid m 3 1 r) z k' k (row_laid roll_out rolling-out z m 16 (k / 48) r (omega arith) row)
           ∙ rolled-byte y k' z (n / 48) n k (0 + (n + k)) refl (omega arith) (omega arith)) d.added a;
     }
 

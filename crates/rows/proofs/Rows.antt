@@ -79,6 +79,10 @@ pub record RowFrom (f : List ℕ → List ℕ) (k : List ℕ) (n m : ℕ) (r : L
   pub size : length r ≡ 80
   pub words : (q : ℕ) → q < m → get_or r (n + q) 0 ≡ get_or (iterate q f k) 0 0
 
+-- fewer of its words
+pub row-less : (f : List ℕ → List ℕ) (k : List ℕ) (n m p : ℕ) (r : List ℕ) → m ≤ p → RowFrom f k n p r → RowFrom f k n m r
+row-less f k n m p r h d = record { lanes = d.lanes; fits = d.fits; size = d.size; words = λ q l. d.words q (omega arith) }
+
 module _ (f : List ℕ → List ℕ) (R : Rolling f) (k : List ℕ) where
   -- its windows are the rolled states
   pub row_laid : (n m j : ℕ) (r : List ℕ) → j + 12 ≤ m → RowFrom f k n m r → laid n 3 1 r j ≡ iterate j f k
@@ -212,11 +216,16 @@ row-begun f R k r n w h =
     }
 
 -- and has the words of eight states
-pub row-start : (f : List ℕ → List ℕ) → Rolling f → (k : List ℕ) {r : List ℕ} → length k ≡ 12 → Words 32 k
+pub row-start : (f : List ℕ → List ℕ) → Rolling f → (k : List ℕ) {r r' : List ℕ} → length k ≡ 12 → Words 32 k → r ≡ begun 12 k (replicate 80 0) → r' ≡ appended f 0 r
+    → RowFrom f k 0 16 r'
+row-start f R k h w e g =
+    subst (λ (l : List ℕ). RowFrom f k 0 16 l) (sym (g ∙ ap (appended f 0) e)) (row_appended f R k 0 (begun 12 k (replicate 80 0)) (omega arith) (row-begun f R k (replicate 80 0) h w refl))
+
+-- and with the words of the four states after these
+pub row-begins : (f : List ℕ → List ℕ) → Rolling f → (k : List ℕ) {r : List ℕ} → length k ≡ 12 → Words 32 k
     → r ≡ appended f 4 (appended f 0 (begun 12 k (replicate 80 0))) → RowFrom f k 0 20 r
-row-start f R k h w e =
-    subst (λ (l : List ℕ). RowFrom f k 0 20 l) (sym e)
-    (row_ahead f R k 0 _ (omega arith) (row_appended f R k 0 (begun 12 k (replicate 80 0)) (omega arith) (row-begun f R k (replicate 80 0) h w refl)))
+row-begins f R k h w e =
+    subst (λ (l : List ℕ). RowFrom f k 0 20 l) (sym e) (row_ahead f R k 0 _ (omega arith) (row-start f R k h w refl refl))
 
 -- the state that it begins with is the one that it was made of
 pub row-own : (f : List ℕ → List ℕ) → Rolling f → (k r : List ℕ) → RowFrom f k 0 20 r → RowFrom f (state_at 0 r) 0 20 r
@@ -266,20 +275,21 @@ row_moved f k r d =
     }
 
 -- the code's two cases
-pub renewed-used_up : (n : ℕ) (r r' : List ℕ) → n ≡ 64 → r' ≡ moved 16 r → (0 ≡ renewed_at n) × (r' ≡ renewed n r)
+pub renewed-used_up : (n : ℕ) (r r' : List ℕ) → 64 ≤ n → r' ≡ moved 16 r → (0 ≡ renewed_at n) × (r' ≡ renewed n r)
 renewed-used_up n r r' h e =
-    let b : ltb n 64 ≡ false = le-ltb n 64 (omega arith) in (ap (λ (t : Bool). cond t n 0) (sym b), e ∙ ap (λ (t : Bool). cond t r (moved 16 r)) (sym b))
+    let b : ltb n 64 ≡ false = le-ltb n 64 h in (ap (λ (t : Bool). cond t n 0) (sym b), e ∙ ap (λ (t : Bool). cond t r (moved 16 r)) (sym b))
 
 pub renewed-same : (n : ℕ) (r : List ℕ) → n < 64 → (n ≡ renewed_at n) × (r ≡ renewed n r)
 renewed-same n r h =
     let b : ltb n 64 ≡ true = lt-ltb n 64 h in (ap (λ (t : Bool). cond t n 0) (sym b), ap (λ (t : Bool). cond t r (moved 16 r)) (sym b))
 
 -- where it is used up
-record Renewed (f : List ℕ → List ℕ) (k : List ℕ) (n : ℕ) (r : List ℕ) : Type 0 where
+pub record Renewed (f : List ℕ → List ℕ) (k : List ℕ) (n : ℕ) (r : List ℕ) : Type 0 where
   pub room : n + 20 ≤ 80
+  pub whole : n % 4 ≡ 0
   pub row : RowFrom f k n 16 r
 
-row-renewed : (f : List ℕ → List ℕ) (k : List ℕ) (n : ℕ) (r : List ℕ) {m : ℕ} {r' : List ℕ} → n ≤ 64 → n % 4 ≡ 0 → m ≡ renewed_at n → r' ≡ renewed n r
+pub row-renewed : (f : List ℕ → List ℕ) (k : List ℕ) (n : ℕ) (r : List ℕ) {m : ℕ} {r' : List ℕ} → n ≤ 64 → n % 4 ≡ 0 → m ≡ renewed_at n → r' ≡ renewed n r
     → RowFrom f k n 16 r → Renewed f k m r'
 row-renewed f k n r {m} {r'} h g em er d = go (dec_le 64 n)
   where
@@ -291,6 +301,7 @@ row-renewed f k n r {m} {r'} h g em er d = go (dec_le 64 n)
         let s : r' ≡ moved 16 r = er ∙ ap (λ (c : Bool). cond c r (moved 16 r)) b in
         record {
           room = omega arith;
+          whole = omega arith;
           row = subst (λ (x : ℕ). RowFrom f k x 16 r') (sym z) (subst (λ (l : List ℕ). RowFrom f k 0 16 l) (sym s) (row_moved f k r (subst (λ (x : ℕ). RowFrom f k x 16 r) e d)));
         }
     go (no p) =
@@ -299,6 +310,7 @@ row-renewed f k n r {m} {r'} h g em er d = go (dec_le 64 n)
         let s : r' ≡ r = er ∙ ap (λ (c : Bool). cond c r (moved 16 r)) b in
         record {
           room = omega (arith, p);
+          whole = omega arith;
           row = subst (λ (x : ℕ). RowFrom f k x 16 r') (sym z) (subst (λ (l : List ℕ). RowFrom f k n 16 l) (sym s) d);
         }
 
@@ -308,6 +320,14 @@ rolled-on f k at h =
     let e : at / 48 + 4 ≡ (at + 192) / 48 = omega arith in sym (iterate-add f (at / 48) 4 k) ∙ ap (λ (n : ℕ). iterate n f k) e
 
 -- so there is a row for the next four states
+pub row_next : (f : List ℕ → List ℕ) → Rolling f → (k : List ℕ) (m : ℕ) (r : List ℕ) {k' r' : List ℕ} → Renewed f k m r → iterate 4 f k ≡ k' → r' ≡ appended f (m + 4) r
+    → RowFrom f k' (m + 4) 16 r'
+row_next f R k m r {k'} d g e =
+    let s : m + 20 ≤ 80 = d.room in
+    subst (λ (l : List ℕ). RowFrom f k' (m + 4) 16 l) (sym e)
+    (subst (λ (l : List ℕ). RowFrom f l (m + 4) 16 (appended f (m + 4) r)) g (row_appended f R (iterate 4 f k) (m + 4) r (omega arith) (row_on f R k m 12 r d.row)))
+
+-- and one that has the words of the four states after them too
 pub row-advanced : (f : List ℕ → List ℕ) → Rolling f → (k : List ℕ) (n : ℕ) (r : List ℕ) {k' r' : List ℕ} {n' : ℕ} → n + 20 ≤ 80 → n % 4 ≡ 0 → iterate 4 f k ≡ k'
     → n' ≡ renewed_at (n + 4) → r' ≡ appended f (renewed_at (n + 4) + 4) (renewed (n + 4) r) → RowFrom f k n 20 r → RowFrom f k' n' 20 r'
 row-advanced f R k n r {k'} {r'} {n'} h w g en er d =

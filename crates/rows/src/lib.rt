@@ -78,6 +78,18 @@ fn append<R: Rolling>(r: &mut [u32; 80], n: usize)
     r[n + 15] = k4[11];
 }
 
+// Where the row is used up, the state at word n being its last one, its last sixteen words become its first; gives where the state then stands. From
+// word 64 on it is taken to be used up; callers go by four words and come to just that one.
+pub fn renew(r: &mut [u32; 80], n: usize) -> usize
+    ensures { (result ≡ renewed_at n) × (r.new ≡ renewed n r.old) }
+{
+    if n < 64 {
+        return n;
+    }
+    r.copy_within(64..80, 0);
+    0
+}
+
 impl<R: Rolling> Row<R> {
     // The row whose first state is k.
     pub fn new(k: [u32; 12]) -> Self
@@ -108,11 +120,7 @@ impl<R: Rolling> Row<R> {
         ensures { (self.new.at ≡ renewed_at (self.old.at + 4))
             × (self.new.words ≡ appended R.rolled (renewed_at (self.old.at + 4) + 4) (renewed (self.old.at + 4) self.old.words)) }
     {
-        self.at += 4;
-        if self.at == 64 {
-            self.words.copy_within(64..80, 0);
-            self.at = 0;
-        }
+        self.at = renew(&mut self.words, self.at + 4);
         append::<R>(&mut self.words, self.at + 4);
     }
 }

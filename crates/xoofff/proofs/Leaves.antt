@@ -203,15 +203,20 @@ block-part l skip n w {b} e h ew =
     get_or-take w (drop skip b) k 0 (omega arith) ∙ get_or-drop skip b k 0 ∙ ap (λ (u : List ℕ). get_or u (skip + k) 0) e
     ∙ tabulate-at 48 (state_byte l) (skip + k) (omega arith))
 
--- a whole block from its first byte on: n is what is there from byte `skip` on and fits
-pub added-block : (l : List ℕ) (skip n : ℕ) (o b : List ℕ) → n ≡ min (48 - skip) (length o) → 48 ≤ n
-    → b ≡ sum (take 48 (drop 0 o)) (to_bytes l) → Added (λ k. state_byte l (skip + k)) 0 n o (take 0 o ++ (b ++ drop 48 (drop 0 o)))
-added-block l skip n o b en h eb =
+-- the same of a block l that goes out whole, where w bytes were lent
+pub added-whole : (l : List ℕ) (at w : ℕ) (o b : List ℕ) → at + 48 ≤ length o → w ≡ 48 → b ≡ sum (take w (drop at o)) (to_bytes l)
+    → Added (state_byte l) at 48 o (take at o ++ (b ++ drop w (drop at o)))
+added-whole l at w o b h ew eb = added-lent (state_byte l) at 48 w o b h ew eb
+
+-- so from its first byte on: n is what is there from byte `skip` on and fits
+pub added-block : (l : List ℕ) (skip at n w : ℕ) (o b : List ℕ) → n ≡ min (48 - skip) (length o - at) → 48 ≤ n → w ≡ 48
+    → b ≡ sum (take w (drop at o)) (to_bytes l) → Added (λ k. state_byte l (skip + k)) at n o (take at o ++ (b ++ drop w (drop at o)))
+added-block l skip at n w o b en h ew eb =
     let e : 48 ≡ n = omega arith in
     let z : 0 ≡ skip = omega arith in
-    subst (λ (v : ℕ). Added (λ k. state_byte l (skip + k)) 0 v o (take 0 o ++ (b ++ drop 48 (drop 0 o)))) e
-    (added-same (state_byte l) (λ k. state_byte l (skip + k)) 0 48 (λ k g. let i : k ≡ skip + k = omega arith in ap (state_byte l) i)
-    (added-part (state_byte l) 0 48 o b (omega arith) eb))
+    subst (λ (v : ℕ). Added (λ k. state_byte l (skip + k)) at v o (take at o ++ (b ++ drop w (drop at o)))) e
+    (added-same (state_byte l) (λ k. state_byte l (skip + k)) at 48 (λ k g. let i : k ≡ skip + k = omega arith in ap (state_byte l) i)
+    (added-whole l at w o b (omega arith) ew eb))
 
 -- what was added to the buffer's rest from place `at` on, which was lent, was added to the buffer
 pub added-rest : (f : ℕ → ℕ) (at n : ℕ) (o b : List ℕ) → at ≤ length o → Added f 0 n (take (length o - at) (drop at o)) b

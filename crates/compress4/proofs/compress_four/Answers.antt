@@ -13,7 +13,7 @@ use Rattle.deck.specs.Deck.{iterate}
 use Rattle.deck.specs.Closing.{closed_by}
 use Rattle.deck.specs.declared.DeckState.{DeckState}
 use Rattle.xoodoo4.specs.Four.{laid}
-use Rattle.rows.proofs.Rows.{rolling-in, RowFrom, rolled-on, row-state, row-start, row-advanced}
+use Rattle.rows.proofs.Rows.{rolling-in, RowFrom, rolled-on, row-state, row-begins, row-advanced, row-less}
 use Rattle.xoofff.specs.Leaves.{compressed}
 use Rattle.compress4.specs.Four.{add_four}
 use Rattle.compress4.proofs.Compress.{after, Taken, taken_none, taken_more, blocks-lent, rest-count, rest-index, rest-compressed}
@@ -31,7 +31,7 @@ loop-j-init c =
     let h : length k ≡ 12 = search rules in
     let w : Words 32 k = λ i. fits-of (search rules) in
     let n = c.new-row.ensures in
-    (taken_none a.d a.s.now a.closing (search rules), subst (λ (p : ℕ). RowFrom roll_in k p 20 c.new-row.result.words) (sym n.0) (row-start roll_in rolling-in k h w n.1))
+    (taken_none a.d a.s.now a.closing (search rules), subst (λ (p : ℕ). RowFrom roll_in k p 20 c.new-row.result.words) (sym n.0) (row-begins roll_in rolling-in k h w n.1))
 
 pub loop-j-preserved : goal.loop-j-preserved
 loop-j-preserved c =
@@ -41,7 +41,7 @@ loop-j-preserved c =
     let n = c.advance.ensures in
     let e : 192 * l.j + 192 ≡ 192 * (l.j + 1) = omega arith in (
       subst (Taken d a.s.now a.closing c.add_group.new.sums) e
-          (taken_more d a.s.now a.closing l.sums (192 * l.j) l.row.at l.row.words (omega arith) l.invariant.1
+          (taken_more d a.s.now a.closing l.sums (192 * l.j) l.row.at l.row.words (omega arith) (row-less roll_in _ l.row.at 16 20 l.row.words (omega arith) l.invariant.1)
           (c.add_group.ensures ∙ ap (sum l.sums) (blocks-lent a.s.now (192 * l.j) (laid l.row.at 3 1 l.row.words) (omega arith))) l.invariant.0),
       subst (λ (m : ℕ). RowFrom roll_in (iterate (m / 48) roll_in d.mask) c.advance.new.self.at 20 c.advance.new.self.words) e
           (row-advanced roll_in rolling-in (iterate (192 * l.j / 48) roll_in d.mask) l.row.at l.row.words l.row.room l.row.whole

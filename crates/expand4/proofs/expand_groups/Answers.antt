@@ -10,7 +10,7 @@ use Rattle.xoodoo4.specs.Four.{laid}
 use Rattle.xoodoo4.proofs.Four.{beside-length}
 use Rattle.rolling.specs.Rolling.{roll_out}
 use Rattle.deck.specs.Deck.{iterate, output_byte}
-use Rattle.rows.proofs.Rows.{rolling-out, RowFrom, rolled-on, row-state, row-start, row-advanced}
+use Rattle.rows.proofs.Rows.{rolling-out, RowFrom, rolled-on, row-state, row-begins, row-advanced, row-less}
 use Rattle.xoofff.proofs.Leaves.{blocks-most, added-lent}
 use Rattle.expand4.specs.Four.{four_byte}
 use Rattle.expand4.proofs.Expand.{back, Groups, groups_none, groups-more, groups-all, groups-count, part-added, rest-blocks}
@@ -23,7 +23,7 @@ loop-j-init c =
     let h : length y ≡ 12 = search rules in
     let w : Words 32 y = λ i. fits-of (search rules) in
     let n = c.new-row.ensures in
-    (refl, groups_none _ _ _, subst (λ (p : ℕ). RowFrom roll_out y p 20 c.new-row.result.words) (sym n.0) (row-start roll_out rolling-out y h w n.1))
+    (refl, groups_none _ _ _, subst (λ (p : ℕ). RowFrom roll_out y p 20 c.new-row.result.words) (sym n.0) (row-begins roll_out rolling-out y h w n.1))
 
 pub loop-j-preserved : goal.loop-j-preserved
 loop-j-preserved c =
@@ -38,7 +38,7 @@ loop-j-preserved c =
     let e : 192 * l.j + 192 ≡ 192 * (l.j + 1) = omega arith in (
       ap length c.four_out.ensures.0 ∙ beside-length _,
       subst (λ (m : ℕ). Groups y k o m (back at (at + 192 - at) l.out c.four_out.new.out)) e
-          (groups-more y k o at l.row.at l.out l.row.words (omega arith) l.invariant.2
+          (groups-more y k o at l.row.at l.out l.row.words (omega arith) (row-less roll_out _ l.row.at 16 20 l.row.words (omega arith) l.invariant.2)
           (added-lent (four_byte (laid l.row.at 3 1 l.row.words) k) at 192 (at + 192 - at) l.out c.four_out.new.out (omega arith) (omega arith) c.four_out.ensures.1)
           l.invariant.1),
       subst (λ (m : ℕ). RowFrom roll_out (iterate (m / 48) roll_out y) c.advance.new.self.at 20 c.advance.new.self.words) e

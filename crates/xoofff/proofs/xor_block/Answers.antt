@@ -1,5 +1,5 @@
 -- `xoofff::xor_block` meets its contract. Assumes nothing.
-use mathlib.Core.Path.{ap, ◌∙◌}
+use mathlib.Core.Path.{ap, refl, ◌∙◌}
 use Prim.Native.Nat.{◌+◌, ◌-◌}
 use native.Mathlib.Omega.{arith}
 use lib.ListN.{take, drop}
@@ -23,4 +23,4 @@ pub returns-else-n-lt48 : goal.returns-else-n-lt48
 returns-else-n-lt48 c =
     let n = c.min-n in
     let a = c.args in
-    (n.ensures, added-block a.block.now a.skip n.result a.out.now c.add_bytes.new.out n.ensures (omega arith) c.add_bytes.ensures)
+    (n.ensures, added-block a.block.now a.skip 0 n.result 48 a.out.now c.add_bytes.new.out (omega (arith, n.ensures)) (omega arith) refl c.add_bytes.ensures)
