@@ -24,6 +24,7 @@ pub struct Windows {
 }
 
 // The answer to the question for the first permitted day: a number; whether there is a day; and the day, or 0.
+// (a) A flag and a number beside the day: C gets this from `pevghazo_first_day`.
 #[repr(C)]
 #[derive(Clone, Copy)]
 pub struct First {
