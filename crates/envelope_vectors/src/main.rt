@@ -4,6 +4,8 @@
 
 ghost use Rattle.std.specs.Prelude.{◌<◌};
 
+use envelope::ReadResult;
+use envelope_write::WriteResult;
 use std::io::Read;
 
 // Byte j of the strings that the cases are made of.
@@ -50,7 +52,7 @@ fn put_part(rt: &impl Print, s: &[u8]) {
 
 // Reads the envelope at the start of some bytes, and writes number, letter, group, place and the three parts.
 fn put_read(rt: &impl Print, s: &[u8]) {
-    let e = envelope::read_envelope(s);
+    let e = ReadResult::from(envelope::read_parts(s));
     put(rt, e.number as usize);
     put(rt, wide(e.letter));
     put(rt, e.group as usize);
@@ -117,14 +119,14 @@ fn put_write(rt: &impl Print, case: &[u8; 24], source: &[u8], out: &mut [u8]) {
     if out.len() < room {
         return;
     }
-    let w = envelope_write::write_envelope(
+    let w = WriteResult::from(envelope_write::write_envelope(
         case[1],
         word(case, 2) as u32,
         &source[..a],
         &source[7..c],
         &source[11..t],
         &mut out[..room],
-    );
+    ));
     put(rt, w.number as usize);
     put(rt, w.len);
     put(rt, checksum(out));

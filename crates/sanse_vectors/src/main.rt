@@ -6,8 +6,9 @@
 
 ghost use Rattle.std.specs.Prelude.{◌≤◌, ◌<◌, length};
 
-use sanse::{CallResult, Session};
+use sanse::Session;
 use std::io::Read;
+use steps::CallResult;
 
 // A number and what follows it.
 fn number(rt: &impl Print, n: u32, after: &str) {
@@ -15,18 +16,17 @@ fn number(rt: &impl Print, n: u32, after: &str) {
 }
 
 // What a call gave, with its output and its tag.
-fn show(rt: &impl Print, r: CallResult, out: &[u8], tag: &[u8]) {
-    let s = r.session;
-    let acc = s.acc;
-    let mask = s.mask;
+fn show(rt: &impl Print, r: CallResult<Session>, out: &[u8], tag: &[u8]) {
+    let s = r.left;
+    let d = s.history;
     number(rt, r.number, " ");
     number(rt, r.count, " ");
-    number(rt, s.index, " ");
+    number(rt, d.index, " ");
     number(rt, if s.toggle { 1 } else { 0 }, "\n");
     hexline::print_line(rt, out);
     hexline::print_line(rt, tag);
-    hexline::print_line(rt, &state::to_bytes(&acc));
-    hexline::print_line(rt, &state::to_bytes(&mask));
+    hexline::print_line(rt, &state::to_bytes(&d.acc));
+    hexline::print_line(rt, &state::to_bytes(&d.mask));
 }
 
 // Carries a record out, and gives the session after it.
@@ -47,16 +47,16 @@ fn answer(
     if op == b'S' {
         let r = sanse::start(first);
         show(rt, r, b"", b"");
-        return r.session;
+        return r.left;
     }
     if op == b'W' {
         let r = sanse::wrap(s, first, second, &mut out, &mut tag, four);
         show(rt, r, &out[..n], &tag);
-        return r.session;
+        return r.left;
     }
     let r = sanse::unwrap(s, first, second, &tag, &mut out, four);
     show(rt, r, &out[..n], &tag);
-    r.session
+    r.left
 }
 
 // Reads n bytes to the start of a buffer.
@@ -83,8 +83,8 @@ fn next(rt: &impl Print, input: &mut impl Read, header: &[u8; 7], s: Session) ->
 fn main(rt: HostRuntime) {
     let mut input = rt.stdin();
     let closed = sanse::start(b"");
-    let mut a = closed.session;
-    let mut b = closed.session;
+    let mut a = closed.left;
+    let mut b = closed.left;
     let mut left: u32 = 4096;
     while 0 < left {
         let mut header = [0u8; 7];

@@ -11,6 +11,7 @@ use borrow.Author.Tests.{ltb-false, eqb-true}
 use Rattle.deck.specs.declared.DeckState.{DeckState}
 use Rattle.deck.specs.Strings.{Str}
 use Rattle.deck.specs.Closing.{closed_by}
+use Rattle.deck.proofs.Strings.{closed-blocks}
 use Rattle.xoofff.specs.declared.Compressed.{Compressed}
 use Rattle.xoofff.specs.Leaves.{compressed}
 use Rattle.modes.specs.Mode.{is_empty}
@@ -101,3 +102,8 @@ appended-text d r (y ∷ m) s h e = e
 pub skipped-text : (d : DeckState) (m : List ℕ) (s : Str) → length m ≡ 0 → ◌≡◌ {A = Compressed} (record { state = d; count = 0 }) (compressed_if (not (is_empty m)) d s)
 skipped-text d [] s h = refl
 skipped-text d (y ∷ m) s h = absurd (omega (arith, h))
+
+-- what a string costs is little
+pub few-of : (d : DeckState) (r : Compressed) (x : List ℕ) (c : ℕ) → r ≡ compressed d (closed_by x c) → length x ≤ 16401 → r.count ≤ 16402
+unfolding compressed
+few-of d r x c e h = omega (arith, ap (λ (u : Compressed). u.count) e, closed-blocks x c, h)

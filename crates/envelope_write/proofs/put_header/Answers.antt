@@ -1,31 +1,33 @@
--- `envelope_write::put_header` meets its contract: what the writes leave is joined in proofs/write_steps.antt. Assumes nothing.
-use mathlib.Core.Path.{◌∙◌}
+-- `envelope_write::put_header` meets its contract: letter and comma, and then the three numbers, one behind the other, are the header. Assumes nothing.
+use mathlib.Core.Path.{refl, ap, ◌∙◌}
+use mathlib.Core.List.{List, [], ◌∷◌, ◌++◌, append_assoc}
+use Prim.Native.Nat.{ℕ}
 use native.Mathlib.Omega.{arith}
-use lib.ListN.{length-set}
+use lib.ListN.{length-append}
+use Rattle.decimal.specs.Buffer.{written_at}
+use Rattle.decimal.proofs.Buffers.{written_at-pair}
+use Rattle.envelope.specs.Layout.{field, header}
 use Rattle.envelope.proofs.Layouts.{field-length, header-length}
-use Rattle.envelope_write.proofs.WriteSteps.{header-written}
+use Rattle.envelope_write.proofs.WriteSteps.{written-behind}
 use Rattle.envelope_write.proofs.put_header.Goals as goal
 
-pub bounds-out-0 : goal.bounds-out-0
-bounds-out-0 c = omega (arith, header-length c.args.letter c.args.group c.args.alen c.args.mlen)
-
-pub bounds-out-1 : goal.bounds-out-1
-bounds-out-1 c = simp length-set (omega (arith, header-length c.args.letter c.args.group c.args.alen c.args.mlen))
-
-pub write_field-p-requires : goal.write_field-p-requires
-write_field-p-requires c = simp length-set (omega (arith, header-length c.args.letter c.args.group c.args.alen c.args.mlen, field-length c.args.group, field-length c.args.alen, field-length c.args.mlen))
-
-pub write_field-q-requires : goal.write_field-q-requires
-write_field-q-requires c = omega (arith, header-length c.args.letter c.args.group c.args.alen c.args.mlen, field-length c.args.group, field-length c.args.alen, field-length c.args.mlen, c.write_field-p.ensures.0, simp length-set at c.write_field-p.auto.out)
-
-pub write_field-requires : goal.write_field-requires
-write_field-requires c = omega (arith, header-length c.args.letter c.args.group c.args.alen c.args.mlen, field-length c.args.group, field-length c.args.alen, field-length c.args.mlen, c.write_field-p.ensures.0, c.write_field-q.ensures.0, simp length-set at c.write_field-p.auto.out, c.write_field-q.auto.out)
-
-pub shape_of-out : goal.shape_of-out
-shape_of-out c = c.write_field.auto.out ∙ c.write_field-q.auto.out ∙ simp length-set at c.write_field-p.auto.out
-
 pub returns : goal.returns
-returns c = (
-  omega (arith, header-length c.args.letter c.args.group c.args.alen c.args.mlen, field-length c.args.group, field-length c.args.alen, field-length c.args.mlen, c.write_field-p.ensures.0, c.write_field-q.ensures.0, c.write_field.ensures.0),
-  header-written _ _ _ _ _ _ _ _ _ _ c.requires c.write_field-p.ensures.0 c.write_field-q.ensures.0 c.write_field-p.ensures.1 c.write_field-q.ensures.1 c.write_field.ensures.1,
-)
+unfolding header
+returns c =
+    let a = c.args in
+    let out = a.out.now in
+    let group = field a.group in
+    let alen = field a.alen in
+    let mlen = field a.mlen in
+    let start = a.letter ∷ 44 ∷ [] in
+    let total = header-length a.letter a.group a.alen a.mlen in
+    let g = field-length a.group in
+    let l = field-length a.alen in
+    let m = field-length a.mlen in
+    let n₁ = length-append start group in
+    let n₂ = length-append (start ++ group) alen in
+    let w₀ = written_at-pair out a.letter 44 (omega arith) in
+    let w₁ = written-behind out start group 2 refl (omega arith) w₀ c.write_field-p.ensures.1 in
+    let w₂ = written-behind out (start ++ group) alen _ (omega arith) (omega arith) w₁ c.write_field.ensures.1 in
+    let w₃ = written-behind out ((start ++ group) ++ alen) mlen _ (omega arith) (omega arith) w₂ c.write_field-2.ensures.1 in
+    (omega arith, w₃ ∙ ap (written_at out 0) (ap (λ (x : List ℕ). a.letter ∷ 44 ∷ x) (append_assoc group alen mlen)))

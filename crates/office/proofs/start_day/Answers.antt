@@ -4,4 +4,4 @@ use Rattle.office.proofs.Days.{day-started}
 use Rattle.office.proofs.start_day.Goals as goal
 
 pub returns : goal.returns
-returns c = day-started c.args.records.now c.loop-k.records c.loop-k.k c.args.allowance c.loop-k.invariant (omega arith)
+returns c = day-started c.args.records.now c.loop-r.records c.loop-r.r-index c.args.allowance c.loop-r.invariant (omega arith)

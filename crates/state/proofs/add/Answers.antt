@@ -1,10 +1,13 @@
 -- `state::add` meets its contract. Assumes nothing.
-use mathlib.Core.Path.{sym, ap₂}
-use Rattle.word.specs.Lists.{sum}
-use Rattle.state.proofs.Lanes.{twelve}
-use borrow.Author.Rules.{rules}
+use Rattle.std.proofs.Common.{rules}
+use Rattle.word.proofs.Lists.{summed-none, summed-more, summed-all}
 use Rattle.state.proofs.add.Goals as goal
 
+pub loop-i-init : goal.loop-i-init
+loop-i-init g c = summed-none _ _
+
+pub loop-i-preserved : goal.loop-i-preserved
+loop-i-preserved g c = summed-more _ _ _ _ (search rules) c.loop-i.invariant
+
 pub returns : goal.returns
-unfolding sum
-returns c = sym (ap₂ sum (twelve c.args.a (search rules)) (twelve c.args.b (search rules)))
+returns g c = summed-all _ _ _ _ (search rules) (search rules) c.loop-i.invariant
