@@ -72,9 +72,6 @@ module _ (letter group alen mlen tlen room : ℕ) (r : ToWrite letter group alen
 
   -- n is the header's length
   module _ (t : tlen ≡ tag_length letter) (n : ℕ) (is-n : n ≡ length (header letter group alen mlen)) where
-    pub sizes : n + alen + mlen + tlen ≤ 32817
-    sizes = omega (arith, tag-bound letter, header-longest r.in_range, r.in_range.metadata_fits, r.in_range.message_fits)
-
     pub number-8 : room < n + alen + mlen + tlen → write_number letter group alen mlen tlen room ≡ 8
     number-8 h = to-tag ∙ simp (eq-eqb tlen (tag_length letter) t, sym is-n, lt-ltb room (n + alen + mlen + tlen) h)
 

@@ -71,14 +71,7 @@ module _ (letter group alen mlen : ℕ) where
       by-F (inl h) = inr (18, only-read h)
       by-F (inr f) = by-letter f (eq-or-ne (tag_length letter) 0)
 
-  -- by what the code has for them: where nothing is met all are in range, and a check that is met stays, whatever comes after
-  pub range-fits : 0 ≡ range_then letter group alen mlen 0 → ToWrite letter group alen mlen
-  range-fits is = go range-cases
-    where
-      go : RangeCases → ToWrite letter group alen mlen
-      go (inl h) = h
-      go (inr h) = absurd (range-not-0 h.1 (sym (range-given 0 h.1) ∙ sym is))
-
+  -- a check that is met stays, whatever comes after
   pub range-kept : (e : Refusal) (after : ℕ) → number_of e ≡ range_then letter group alen mlen 0 → number_of e ≡ range_then letter group alen mlen after
   range-kept e after is = go range-cases
     where
@@ -189,6 +182,3 @@ module _ (check : ℕ) (bytes buffer : List ℕ) where
   refused e is given =
       let s = stopped (number_of e) is (λ z. omega (arith, number-positive e)) in
       (ap write_result given ∙ s.0, s.1)
-
--- what is known of a call that nothing stops
-pub ruleset taken = (accepted, header-accepted)

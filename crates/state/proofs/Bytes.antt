@@ -73,10 +73,10 @@ byte-added s o o' i q {j} h w g e =
 -- and as the four bytes of the word are written: they are the sum's
 pub bytes-added : (s o o' ys : List ℕ) (i : ℕ) {j : ℕ} → i < 12 → ((q : ℕ) → get_or o q 0 < 256) → ((q : ℕ) → 4 * i ≤ q → get_or o' q 0 ≡ get_or o q 0)
     → j ≡ lane (byte_bit (drop (4 * i) o')) → ys ≡ to_le_bytes w32 (bit_xor j (get_or s i 0))
-    → (q : ℕ) → q < 4 → get_or ys q 0 ≡ bit_xor (get_or o (4 * i + q) 0) (get_or (to_bytes s) (4 * i + q) 0)
-bytes-added s o o' ys i {j} h w g e d q l =
+    → (q m : ℕ) → q < 4 → m ≡ 4 * i + q → get_or ys q 0 ≡ bit_xor (get_or o m 0) (get_or (to_bytes s) m 0)
+bytes-added s o o' ys i {j} h w g e d q m l f =
     ap (λ (l : List ℕ). get_or l q 0) d ∙ byte q l ∙ byte-added s o o' i q l (w (4 * i + q)) (g (4 * i + q) (omega arith)) e
-    ∙ ap (bit_xor (get_or o (4 * i + q) 0)) (sym (tabulate-at 48 (state_byte s) (4 * i + q) (omega arith)))
+    ∙ ap₂ bit_xor (ap (λ (k : ℕ). get_or o k 0) (sym f)) (ap (state_byte s) (sym f) ∙ sym (tabulate-at 48 (state_byte s) m (omega arith)))
   where
     n : ℕ
     n = bit_xor j (get_or s i 0)

@@ -8,7 +8,7 @@ ghost use Rattle.state.specs.Bytes.{byte_bit, from_bytes, to_bytes};
 
 use std::array;
 
-// The sum of two states, or of as many lanes of several.
+// The sum of two states, or of as many lanes of several. A loop: of a closure over arrays of N lanes the check learns nothing without a clause.
 pub fn add<const N: usize>(mut a: [u32; N], b: [u32; N]) -> [u32; N]
     ensures { result ≡ sum a.entry b.entry }
 {
@@ -41,14 +41,18 @@ pub fn from_bytes(b: &[u8; 48]) -> [u32; 12]
     from_bytes_at(b, 0)
 }
 
-// Adds the 48 bytes of a state to as many bytes, lane by lane.
+// Adds the 48 bytes of a state to as many bytes, lane by lane. Not by `copy_from_slice`, which compares addresses first: `expand` took 1.25 of its time.
 pub fn add_bytes(s: &[u32; 12], out: &mut [u8])
     requires { length out.old ≡ 48 }
     ensures { out.new ≡ sum out.old (to_bytes s.now) }
 {
     for i in 0..12 {
         let x = lane_at(out, 4 * i) ^ s[i];
-        out[4 * i..4 * i + 4].copy_from_slice(&x.to_le_bytes());
+        let b = x.to_le_bytes();
+        out[4 * i] = b[0];
+        out[4 * i + 1] = b[1];
+        out[4 * i + 2] = b[2];
+        out[4 * i + 3] = b[3];
     }
 }
 

@@ -1,14 +1,14 @@
 -- What the loops over buffers hold, over plain values. Assumes nothing.
-use mathlib.Core.Path.{◌≡◌, refl, sym, ap, ap₂, ◌∙◌}
+use mathlib.Core.Path.{◌≡◌, refl, sym, ap, ◌∙◌}
 use mathlib.Core.Bool.{Bool, true, false, ◌&&◌, cond}
 use mathlib.Core.Logic.{◌≢◌}
-use mathlib.Core.List.{List, [], ◌∷◌, ◌++◌}
+use mathlib.Core.List.{List, [], ◌∷◌}
 use Prim.Native.Nat.{ℕ, zero, suc, ◌+◌}
 use native.Mathlib.Omega.{arith}
 use lib.Bits.{bit_or, bit_xor, or_zero_l, or_add_and, and_le_r, xor_zero_l, xor_self}
 use lib.Dec.{eqb}
-use lib.ListN.{length, take, drop, replicate, length-replicate}
-use lib.Seq.{take_at, drop_at}
+use lib.ListN.{length, take, replicate, length-replicate}
+use lib.Seq.{take_at}
 use borrow.Author.Tests.{eq-eqb, ne_eqb, eqb-true, eqb-false}
 use Rattle.std.specs.List.{fold, zip}
 use Rattle.word.specs.Lists.{sum}
@@ -46,23 +46,6 @@ none-added f i (y ∷ text) d h = absurd (omega (arith, h))
 pub some-counted : (n c : ℕ) (text : List ℕ) → length text ≢ 0 → c ≡ n → c ≡ cond (is_empty text) 0 n
 some-counted n c [] h e = absurd (h refl)
 some-counted n c (y ∷ text) h e = e
-
--- to a text that was copied to the start of a buffer
-pub part-added : (f : ℕ → ℕ) (i : ℕ) (text d d₁ p : List ℕ) → d₁ ≡ written text d → p ≡ sum (take (length text) d₁) (run f i (length (take (length text) d₁)))
-    → p ++ drop (length text) d₁ ≡ written (sum text (run f i (length text))) d
-part-added f i text d d₁ p e g = ap₂ (λ (l m : List ℕ). l ++ m) (g ∙ ap (λ (l : List ℕ). sum l (run f i (length l))) taken) rest
-  where
-    taken : take (length text) d₁ ≡ text
-    taken = ap (take (length text)) e ∙ take_at text _ (length text) refl
-
-    rest : drop (length text) d₁ ≡ drop (length (sum text (run f i (length text)))) d
-    rest =
-        ap (drop (length text)) e
-        ∙ drop_at text _ (length text) refl
-        ∙ ap (λ (n : ℕ). drop n d) (sym (added-length f i text))
-
-pub part_length : (text d d₁ : List ℕ) → d₁ ≡ written text d → length (take (length text) d₁) ≡ length text
-part_length text d d₁ e = ap length (ap (take (length text)) e ∙ take_at text _ (length text) refl)
 
 -- ---- equal runs
 

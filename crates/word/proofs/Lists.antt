@@ -1,14 +1,12 @@
 -- Laws of runs of words, and of their sum: associative, commutative, and each run its own inverse. Assumes nothing.
 use mathlib.Core.Path.{◌≡◌, refl, sym, ap, ap₂, ◌∙◌, subst}
 use mathlib.Core.List.{List, [], ◌∷◌}
-use Prim.Native.Nat.{ℕ, zero, suc, ◌+◌, ◌*◌, ◌-◌, ◌/◌, ◌%◌, ◌^◌, ◌<◌, ◌≤◌}
+use Prim.Native.Nat.{ℕ, zero, suc, ◌+◌, ◌*◌, ◌/◌, ◌%◌, ◌^◌, ◌<◌, ◌≤◌}
 use native.Mathlib.Omega.{arith}
 use native.Mathlib.Decide.{dec_le}
 use denote.Param.Members.{Mut}
 use Rattle.std.specs.Iterator.{ActsAs}
 use Rattle.std.specs.Array.{IsFromFnResultFrom, IsFromFnResult}
-use borrow.Rule.Slice.PartMut.{put_mid}
-use Rattle.std.proofs.lemmas.List.{places}
 use lib.ListN.{length, get_or, set, replicate, length-set}
 use lib.Seq.{get_or-set_same, get_or-set_other}
 use lib.Bits.{bit_xor, xor_comm, xor_self, xor_zero_r, xor_step, xor_shr, differ}
@@ -152,19 +150,6 @@ filled_more f l n v h e d k g = go (dec_le n k)
     go (yes p) = let q : k ≡ n = omega arith in ap (λ (m : ℕ). get_or (set l n v) m 0) q ∙ get_or-set_same l n v 0 h ∙ e ∙ ap f (sym q)
     go (no p) = get_or-set_other l n k v 0 (λ q. omega (arith, q, p)) ∙ d k (omega (arith, p))
 
--- ---- a run with n of its elements, from place k on, written over by ys
-pub written-length : (k n : ℕ) (l ys : List ℕ) → k + n ≤ length l → length ys ≡ n → length (put_mid k n l ys) ≡ length l
-written-length k n l ys h e = grind (arith, places)
-
-pub written-before : (k n : ℕ) (l ys : List ℕ) (i : ℕ) → k + n ≤ length l → i < k → get_or (put_mid k n l ys) i 0 ≡ get_or l i 0
-written-before k n l ys i h g = grind (arith, places)
-
-pub written-here : (k n : ℕ) (l ys : List ℕ) (i : ℕ) → k + n ≤ length l → length ys ≡ n → i < n → get_or (put_mid k n l ys) (k + i) 0 ≡ get_or ys i 0
-written-here k n l ys i h e g = grind (arith, places)
-
-pub written-behind : (k n : ℕ) (l ys : List ℕ) (i : ℕ) → k + n ≤ length l → length ys ≡ n → k + n ≤ i → get_or (put_mid k n l ys) i 0 ≡ get_or l i 0
-written-behind k n l ys i h e g = grind (arith, places)
-
 -- ---- a loop that adds a run to another from their starts: the elements below k have their sums, and the others stand as they did
 pub record Summed (o s : List ℕ) (k : ℕ) (w : List ℕ) : Type 0 where
   pub size : length w ≡ length o
@@ -174,32 +159,14 @@ pub record Summed (o s : List ℕ) (k : ℕ) (w : List ℕ) : Type 0 where
 pub summed-none : (o s : List ℕ) → Summed o s 0 o
 summed-none o s = record { size = refl; sums = λ i l. absurd (omega arith); rest = λ i l. refl }
 
-pub summed-more : (o s : List ℕ) (k : ℕ) (w : List ℕ) → k < length o → Summed o s k w → Summed o s (k + 1) (set w k (bit_xor (get_or w k 0) (get_or s k 0)))
-summed-more o s k w h d =
+pub summed-more : (o s : List ℕ) (k m : ℕ) (w : List ℕ) {v : ℕ} → k < length o → m ≡ k + 1 → v ≡ bit_xor (get_or o k 0) (get_or s k 0) → Summed o s k w → Summed o s m (set w k v)
+summed-more o s k m w {v} h n e d =
     let l : length w ≡ length o = d.size in
     record {
-      size = length-set w k _ ∙ l;
-      sums = filled_more (λ i. bit_xor (get_or o i 0) (get_or s i 0)) w k _ (omega arith) (ap (λ (x : ℕ). bit_xor x (get_or s k 0)) (d.rest k (omega arith))) d.sums;
-      rest = λ i l. get_or-set_other w k i _ 0 (λ e. omega (arith, e)) ∙ d.rest i (omega arith);
+      size = length-set w k v ∙ l;
+      sums = subst (Filled (λ i. bit_xor (get_or o i 0) (get_or s i 0)) (set w k v)) (sym n) (filled_more (λ i. bit_xor (get_or o i 0) (get_or s i 0)) w k v (omega arith) e d.sums);
+      rest = λ i g. get_or-set_other w k i v 0 (λ q. omega (arith, q)) ∙ d.rest i (omega arith);
     }
-
--- n at once, which are written over those from k on
-pub summed-run : (o s : List ℕ) (k n m : ℕ) (w ys : List ℕ) → m ≡ k + n → k + n ≤ length o → length ys ≡ n
-    → ((i : ℕ) → i < n → get_or ys i 0 ≡ bit_xor (get_or o (k + i) 0) (get_or s (k + i) 0)) → Summed o s k w → Summed o s m (put_mid k n w ys)
-summed-run o s k n m w ys e h hy f d =
-    let l : length w ≡ length o = d.size in
-    record {
-      size = written-length k n w ys (omega arith) hy ∙ l;
-      sums = λ i g. go i g (dec_le k i);
-      rest = λ i g. written-behind k n w ys i (omega arith) hy (omega arith) ∙ d.rest i (omega arith);
-    }
-  where
-    go : (i : ℕ) → i < m → Dec (k ≤ i) → get_or (put_mid k n w ys) i 0 ≡ bit_xor (get_or o i 0) (get_or s i 0)
-    go i g (yes p) =
-        let q : i ≡ k + (i - k) = omega arith in
-        ap (λ (j : ℕ). get_or (put_mid k n w ys) j 0) q ∙ written-here k n w ys (i - k) (omega (arith, d.size)) hy (omega arith)
-        ∙ f (i - k) (omega arith) ∙ ap (λ (j : ℕ). bit_xor (get_or o j 0) (get_or s j 0)) (sym q)
-    go i g (no p) = written-before k n w ys i (omega (arith, d.size)) (omega (arith, p)) ∙ d.sums i (omega (arith, p))
 
 pub summed-all : (o s : List ℕ) (k : ℕ) (w : List ℕ) → length o ≤ k → length s ≡ length o → Summed o s k w → w ≡ sum o s
 summed-all o s k w e h d = tabulate-is (length o) _ w d.size (λ i l. d.sums i (omega arith)) ∙ sum-is (length o) o s refl h

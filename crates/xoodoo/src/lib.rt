@@ -93,5 +93,5 @@ pub const CONSTANTS: [u32; 6] = [0x60, 0x2C, 0x380, 0xF0, 0x1A0, 0x12];
 pub fn permute(a: [u32; 12]) -> [u32; 12]
     ensures { result ≡ perm a }
 {
-    CONSTANTS.into_iter().fold(a, round_step)
+    CONSTANTS.iter().copied().fold(a, round_step)
 }

@@ -200,11 +200,15 @@ laid-at : (n dx dy : ℕ) (a : List ℕ) (j i : ℕ) → i < 12 → get_or (laid
 unfolding laid
 laid-at n dx dy a j i h = tabulate-at 12 _ i h
 
--- a lane that is read, from the k that stand in place of the four states' lanes i
-pub laid-lane : (n dx dy : ℕ) (a : List ℕ) (i j k : ℕ) → i < 12 → j < 4 → j < k
+-- a lane that is read
+pub laid-lane : (n dx dy : ℕ) (a : List ℕ) (i j m : ℕ) → i < 12 → m ≡ n + dx * (i % 4) + dy * (i / 4) + j → get_or a m 0 ≡ get_or (laid n dx dy a j) i 0
+laid-lane n dx dy a i j m h e = ap (λ (k : ℕ). get_or a k 0) e ∙ sym (laid-at n dx dy a j i h)
+
+-- the same, from the k places that begin with lane i of state 0
+pub laid-read : (n dx dy : ℕ) (a : List ℕ) (i j k : ℕ) → i < 12 → j < 4 → j < k
     → get_or (take k (drop (n + dx * (i % 4) + dy * (i / 4)) a)) j 0 ≡ beside_lane (laid n dx dy a) (4 * i + j)
-laid-lane n dx dy a i j k h g l =
-    beside-lane (laid n dx dy a) i j g (get_or-take k (drop (n + dx * (i % 4) + dy * (i / 4)) a) j 0 l ∙ get_or-drop _ a j 0 ∙ sym (laid-at n dx dy a j i h))
+laid-read n dx dy a i j k h g l =
+    beside-lane (laid n dx dy a) i j g (get_or-take k (drop (n + dx * (i % 4) + dy * (i / 4)) a) j 0 l ∙ get_or-drop _ a j 0 ∙ laid-lane n dx dy a i j _ h refl)
 
 -- 48 lanes side by side are laid out with the steps 4 and 16
 pub laid-part : (w : List ℕ) (j : ℕ) → laid 0 4 16 w j ≡ part j w

@@ -26,7 +26,7 @@ fn put(w: &mut [u32; 48], j: usize, s: [u32; 12])
     }
 }
 
-// One round of each state, with the constant c.
+// One round of each state, with the constant c. Not by `from_fn` of four new states: the permutation took 478 ns for 80 ns.
 fn round_four(w: [u32; 48], c: u32) -> [u32; 48]
     ensures { result ≡ each (round c) w }
 {
@@ -41,7 +41,7 @@ fn round_four(w: [u32; 48], c: u32) -> [u32; 48]
 fn permute_four(w: [u32; 48]) -> [u32; 48]
     ensures { result ≡ each perm w }
 {
-    xoodoo::CONSTANTS.into_iter().fold(w, round_four)
+    xoodoo::CONSTANTS.iter().copied().fold(w, round_four)
 }
 
 // The permutation of each of four states that are laid out in a with the steps dx and dy from place n on; the results are added to w, or put in its
@@ -50,6 +50,7 @@ pub fn permute_into(w: &mut [u32; 48], add: bool, a: &[u32], n: usize, dx: usize
     requires { (length w.old ≡ 48) × (n + 3 * dx + 2 * dy + 4 ≤ length a.now) }
     ensures { w.new ≡ into add w.old (beside (λ j. perm (laid n dx dy a.now j))) }
 {
+    // not by one `from_fn`, nor by `copy_from_slice`: 145 and 87 ns for 80 ns
     let mut t = [0u32; 48];
     for i in 0..12 {
         let p = n + dx * (i % 4) + dy * (i / 4);

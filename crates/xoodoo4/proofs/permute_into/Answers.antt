@@ -4,7 +4,7 @@ use lib.Dec.{lit<}
 use Rattle.word.specs.Lists.{sum}
 use Rattle.state.proofs.Bytes.{filled-four}
 use Rattle.xoodoo4.specs.Four.{laid}
-use Rattle.xoodoo4.proofs.Four.{beside_lane, laid-lane, laid-permuted, into-sum, into-place}
+use Rattle.xoodoo4.proofs.Four.{beside_lane, laid-read, laid-permuted, into-sum, into-place}
 use Rattle.xoodoo4.proofs.permute_into.Goals as goal
 
 pub loop-i-init : goal.loop-i-init
@@ -17,7 +17,7 @@ loop-i-preserved c =
     let m = l.invariant in
     let p = a.n + a.dx * (l.i % 4) + a.dy * (l.i / 4) in
     let lane : (j : ℕ) → j < 4 → get_or (take (p + 4 - p) (drop p a.a.now)) j 0 ≡ beside_lane (laid a.n a.dx a.dy a.a.now) (4 * l.i + j) =
-    λ j h. laid-lane a.n a.dx a.dy a.a.now l.i j (p + 4 - p) (omega arith) h (omega arith) in record {
+    λ j h. laid-read a.n a.dx a.dy a.a.now l.i j (p + 4 - p) (omega arith) h (omega arith) in record {
       size = simp length-set m.size;
       lanes = filled-four (beside_lane (laid a.n a.dx a.dy a.a.now)) l.t l.i (omega arith) (lane 0 (lit< tt)) (lane 1 (lit< tt)) (lane 2 (lit< tt)) (lane 3 (lit< tt)) m.lanes;
     }
