@@ -1,5 +1,4 @@
 -- `codes::code_of` meets its contract. Assumes nothing.
-use mathlib.Core.List.{List}
 use mathlib.Core.Path.{ap, ◌∙◌}
 use Prim.Native.Nat.{ℕ}
 use Rattle.codes.specs.Code.{code_result}
