@@ -3,7 +3,7 @@ ghost use Rattle.sane.specs.Session.{handed, handed_for};
 ghost use Rattle.sane_session.specs.Lent.{Started, Wrapped, Unwrapped};
 
 use sane::SaneSession;
-use session::Answer;
+use steps::Answer;
 
 // Opens a session in the place of the record, under a key of 16 to 47 bytes and with a nonce that was not used under it before; the tag of the
 // start fills `tag`. Checks 4, 6 and 7; a refused start closes the record, and the session that it held is lost.
@@ -31,7 +31,7 @@ pub extern "C" fn pevghazo_sane_wrap(
     ensures { Wrapped session.old (handed metadata.now message.now out.old tag.old)
         result session.new out.new tag.new }
 {
-    sane_session::wrap(session, metadata, message, out, tag)
+    sane_session::wrap(session, metadata, message, out, tag, false)
 }
 
 // Unwraps a cryptogram: the message goes to the start of `out`. Checks 5 to 9 and 11.
@@ -46,7 +46,7 @@ pub extern "C" fn pevghazo_sane_unwrap(
     ensures { Unwrapped session.old (handed metadata.now cryptogram.now out.old tag.now)
         result session.new out.new tag.now }
 {
-    sane_session::unwrap(session, metadata, cryptogram, tag, out)
+    sane_session::unwrap(session, metadata, cryptogram, tag, out, false)
 }
 
 // ---- calls for an envelope, whose header's bytes go before the metadata under the tag
@@ -66,7 +66,7 @@ pub extern "C" fn pevghazo_sane_wrap_envelope(
         (handed_for header.now metadata.now message.now out.old tag.old) result
         session.new out.new tag.new }
 {
-    sane_session::wrap_envelope(session, header, metadata, message, out, tag)
+    sane_session::wrap_envelope(session, header, metadata, message, out, tag, false)
 }
 
 // Unwraps the cryptogram of the envelope with this header: the message goes to the start of `out`. Check 1, and then 5 to 9 and 11.
@@ -83,7 +83,7 @@ pub extern "C" fn pevghazo_sane_unwrap_envelope(
         (handed_for header.now metadata.now cryptogram.now out.old tag.now) result
         session.new out.new tag.now }
 {
-    sane_session::unwrap_envelope(session, header, metadata, cryptogram, tag, out)
+    sane_session::unwrap_envelope(session, header, metadata, cryptogram, tag, out, false)
 }
 
 // ---- the same with full blocks taken four side by side (document 02, request 10): each has the contract of the function without `_four`, and alters
@@ -101,7 +101,7 @@ pub extern "C" fn pevghazo_sane_wrap_four(
     ensures { Wrapped session.old (handed metadata.now message.now out.old tag.old)
         result session.new out.new tag.new }
 {
-    sane_session4::wrap_four(session, metadata, message, out, tag)
+    sane_session::wrap(session, metadata, message, out, tag, true)
 }
 
 // Unwraps a cryptogram, as `pevghazo_sane_unwrap` does.
@@ -116,7 +116,7 @@ pub extern "C" fn pevghazo_sane_unwrap_four(
     ensures { Unwrapped session.old (handed metadata.now cryptogram.now out.old tag.now)
         result session.new out.new tag.now }
 {
-    sane_session4::unwrap_four(session, metadata, cryptogram, tag, out)
+    sane_session::unwrap(session, metadata, cryptogram, tag, out, true)
 }
 
 // Wraps a message for the envelope with this header, as `pevghazo_sane_wrap_envelope` does.
@@ -133,7 +133,7 @@ pub extern "C" fn pevghazo_sane_wrap_envelope_four(
         (handed_for header.now metadata.now message.now out.old tag.old) result
         session.new out.new tag.new }
 {
-    sane_session4::wrap_envelope_four(session, header, metadata, message, out, tag)
+    sane_session::wrap_envelope(session, header, metadata, message, out, tag, true)
 }
 
 // Unwraps the cryptogram of the envelope with this header, as `pevghazo_sane_unwrap_envelope` does.
@@ -150,5 +150,5 @@ pub extern "C" fn pevghazo_sane_unwrap_envelope_four(
         (handed_for header.now metadata.now cryptogram.now out.old tag.now) result
         session.new out.new tag.now }
 {
-    sane_session4::unwrap_envelope_four(session, header, metadata, cryptogram, tag, out)
+    sane_session::unwrap_envelope(session, header, metadata, cryptogram, tag, out, true)
 }

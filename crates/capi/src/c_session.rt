@@ -3,7 +3,7 @@ ghost use Rattle.sanse.specs.Session.{handed, handed_for};
 ghost use Rattle.session.specs.Lent.{Started, Wrapped, Unwrapped};
 
 use sanse::Session;
-use session::Answer;
+use steps::Answer;
 
 // Opens a session under a key of 16 to 47 bytes in the place of the record. Check 4; a refused start closes the record,
 // and the session that it held is lost.
@@ -26,7 +26,7 @@ pub extern "C" fn pevghazo_wrap(
     ensures { Wrapped session.old (handed metadata.now message.now out.old tag.old)
         result session.new out.new tag.new }
 {
-    session::wrap(session, metadata, message, out, tag)
+    session::wrap(session, metadata, message, out, tag, false)
 }
 
 // Unwraps a cryptogram: the message goes to the start of `out`. Checks 5 to 9 and 11.
@@ -41,7 +41,7 @@ pub extern "C" fn pevghazo_unwrap(
     ensures { Unwrapped session.old (handed metadata.now cryptogram.now out.old tag.now)
         result session.new out.new tag.now }
 {
-    session::unwrap(session, metadata, cryptogram, tag, out)
+    session::unwrap(session, metadata, cryptogram, tag, out, false)
 }
 
 // ---- calls for an envelope, whose header's bytes go before the metadata under the tag
@@ -61,7 +61,7 @@ pub extern "C" fn pevghazo_wrap_envelope(
         (handed_for header.now metadata.now message.now out.old tag.old) result
         session.new out.new tag.new }
 {
-    session::wrap_envelope(session, header, metadata, message, out, tag)
+    session::wrap_envelope(session, header, metadata, message, out, tag, false)
 }
 
 // Unwraps the cryptogram of the envelope with this header: the message goes to the start of `out`. Check 1, and then 5 to 9 and 11.
@@ -78,7 +78,7 @@ pub extern "C" fn pevghazo_unwrap_envelope(
         (handed_for header.now metadata.now cryptogram.now out.old tag.now) result
         session.new out.new tag.now }
 {
-    session::unwrap_envelope(session, header, metadata, cryptogram, tag, out)
+    session::unwrap_envelope(session, header, metadata, cryptogram, tag, out, false)
 }
 
 // ---- the same with full blocks taken four side by side (document 02, request 10): each has the contract of the function without `_four`, and alters
@@ -96,7 +96,7 @@ pub extern "C" fn pevghazo_wrap_four(
     ensures { Wrapped session.old (handed metadata.now message.now out.old tag.old)
         result session.new out.new tag.new }
 {
-    session4::wrap_four(session, metadata, message, out, tag)
+    session::wrap(session, metadata, message, out, tag, true)
 }
 
 // Unwraps a cryptogram, as `pevghazo_unwrap` does.
@@ -111,7 +111,7 @@ pub extern "C" fn pevghazo_unwrap_four(
     ensures { Unwrapped session.old (handed metadata.now cryptogram.now out.old tag.now)
         result session.new out.new tag.now }
 {
-    session4::unwrap_four(session, metadata, cryptogram, tag, out)
+    session::unwrap(session, metadata, cryptogram, tag, out, true)
 }
 
 // Wraps a message for the envelope with this header, as `pevghazo_wrap_envelope` does.
@@ -128,7 +128,7 @@ pub extern "C" fn pevghazo_wrap_envelope_four(
         (handed_for header.now metadata.now message.now out.old tag.old) result
         session.new out.new tag.new }
 {
-    session4::wrap_envelope_four(session, header, metadata, message, out, tag)
+    session::wrap_envelope(session, header, metadata, message, out, tag, true)
 }
 
 // Unwraps the cryptogram of the envelope with this header, as `pevghazo_unwrap_envelope` does.
@@ -145,5 +145,5 @@ pub extern "C" fn pevghazo_unwrap_envelope_four(
         (handed_for header.now metadata.now cryptogram.now out.old tag.now) result
         session.new out.new tag.now }
 {
-    session4::unwrap_envelope_four(session, header, metadata, cryptogram, tag, out)
+    session::unwrap_envelope(session, header, metadata, cryptogram, tag, out, true)
 }

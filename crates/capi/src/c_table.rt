@@ -5,8 +5,8 @@ ghost use Rattle.office.specs.Table.{table_of, day_result, table_result, opening
 ghost use Rattle.capi.specs.Found.{found_result};
 
 use groups::Record;
-use office::NearlyFull;
-use session::Answer;
+use refusals::Refusal;
+use steps::Answer;
 
 // The answer of the nearly-full question: its number (0: answered), whether a group was found, and the group, 0 where none was.
 #[repr(C)]
@@ -61,6 +61,7 @@ pub extern "C" fn pevghazo_wrap_group(
         message,
         out,
         tag,
+        false,
     )
 }
 
@@ -87,6 +88,7 @@ pub extern "C" fn pevghazo_unwrap_group(
         cryptogram,
         tag,
         out,
+        false,
     )
 }
 
@@ -116,6 +118,7 @@ pub extern "C" fn pevghazo_wrap_envelope_group(
         message,
         out,
         tag,
+        false,
     )
 }
 
@@ -144,6 +147,7 @@ pub extern "C" fn pevghazo_unwrap_envelope_group(
         cryptogram,
         tag,
         out,
+        false,
     )
 }
 
@@ -165,7 +169,7 @@ pub extern "C" fn pevghazo_wrap_group_four(
         ≡ wrap_group_at allowance (table_of table.old) group
         (handed metadata.now message.now out.old tag.old) }
 {
-    office4::wrap_group_four(
+    office::wrap_group(
         table,
         group as usize,
         allowance,
@@ -173,6 +177,7 @@ pub extern "C" fn pevghazo_wrap_group_four(
         message,
         out,
         tag,
+        true,
     )
 }
 
@@ -191,7 +196,7 @@ pub extern "C" fn pevghazo_unwrap_group_four(
         ≡ unwrap_group_at allowance (table_of table.old) group
         (handed metadata.now cryptogram.now out.old tag.now) }
 {
-    office4::unwrap_group_four(
+    office::unwrap_group(
         table,
         group as usize,
         allowance,
@@ -199,6 +204,7 @@ pub extern "C" fn pevghazo_unwrap_group_four(
         cryptogram,
         tag,
         out,
+        true,
     )
 }
 
@@ -218,7 +224,7 @@ pub extern "C" fn pevghazo_wrap_envelope_group_four(
         ≡ wrap_group_at allowance (table_of table.old) group
         (handed_for header.now metadata.now message.now out.old tag.old) }
 {
-    office4::wrap_envelope_group_four(
+    office_envelope::wrap_envelope_group(
         table,
         group as usize,
         allowance,
@@ -227,6 +233,7 @@ pub extern "C" fn pevghazo_wrap_envelope_group_four(
         message,
         out,
         tag,
+        true,
     )
 }
 
@@ -246,7 +253,7 @@ pub extern "C" fn pevghazo_unwrap_envelope_group_four(
         ≡ unwrap_group_at allowance (table_of table.old) group
         (handed_for header.now metadata.now cryptogram.now out.old tag.now) }
 {
-    office4::unwrap_envelope_group_four(
+    office_envelope::unwrap_envelope_group(
         table,
         group as usize,
         allowance,
@@ -255,28 +262,29 @@ pub extern "C" fn pevghazo_unwrap_envelope_group_four(
         cryptogram,
         tag,
         out,
+        true,
     )
 }
 
 // ---- the nearly-full question
 
-// The table's answer as a number and values, with the group in 32 bits.
-fn narrow(r: NearlyFull) -> Found
+// The table's answer as a number and values, with the group in 32 bits. No `From`: that would ask nothing, and another number might not fit.
+fn narrow(r: Result<Option<usize>, Refusal>) -> Found
     requires { (nearly_full_result r).group < 32 }
     ensures { found_result result ≡ nearly_full_result r }
 {
     match r {
-        NearlyFull::Refused => Found {
-            number: 3,
+        Err(e) => Found {
+            number: u32::from(e),
             found: false,
             group: 0,
         },
-        NearlyFull::None => Found {
+        Ok(None) => Found {
             number: 0,
             found: false,
             group: 0,
         },
-        NearlyFull::Group(g) => Found {
+        Ok(Some(g)) => Found {
             number: 0,
             found: true,
             group: g as u32,
@@ -289,6 +297,5 @@ fn narrow(r: NearlyFull) -> Found
 pub extern "C" fn pevghazo_nearly_full(table: &[Record], mark: u32) -> Found
     ensures { found_result result ≡ nearly_full_at (table_of table.now) mark }
 {
-    let r = office::nearly_full(table, mark);
-    narrow(r)
+    narrow(office::nearly_full(table, mark))
 }

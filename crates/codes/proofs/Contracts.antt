@@ -21,7 +21,7 @@ use Rattle.modes.specs.Codes.{CodeOutcome, code_at}
 use Rattle.modes.specs.CodeLists.{Codes}
 use Rattle.sanse.specs.declared.Session.{Session}
 use Rattle.sanse.specs.Session.{state_of, sanse_kind}
-use Rattle.session.specs.declared.Answer.{Answer}
+use Rattle.steps.specs.declared.Answer.{Answer}
 use Rattle.codes.specs.Code.{code_result, Coded, lent_codes}
 use Rattle.codes.specs.contracts.code_of as by_value
 use Rattle.codes.specs.contracts.code as lent

@@ -21,7 +21,7 @@ use Rattle.modes.specs.Codes.{CodeOutcome, AnyCode, CodeClaim}
 use Rattle.modes.specs.CodeLists.{Codes, Request, call, code, calls_of, CodeRun, WithCodes, AnyCodeOf, OneCodeOf, WithCodesOf, SameCodesOf, SameRuns, CodeRunsExist, AskedAnywhere}
 use Rattle.modes.proofs.CodeLists.{any-code-of, one-code-of, with-codes-of, same-codes-of, same_runs, code-runs-exist, asked-anywhere}
 use Rattle.sanse.specs.declared.Session.{Session}
-use Rattle.sanse.specs.declared.CallResult.{CallResult}
+use Rattle.steps.specs.declared.CallResult.{CallResult}
 use Rattle.sanse.specs.Session.{state_of, start_result, sanse_kind}
 use Rattle.sanse.proofs.Contracts.{StartPromise, promises, start_is}
 use Rattle.sanse.proofs.Demands.{program, run-exists}
@@ -40,11 +40,11 @@ pub code-says : (c : Codes sanse_kind)
     → state_of s ≡ session_of key h e → c s packet out g → CodeClaim key h packet out g)
 code-says c = refl
 
-pub with-codes-says : (starts : (key : List ℕ) → CallResult → Type 0) (p : Promises sanse_kind) (c : Codes sanse_kind)
+pub with-codes-says : (starts : (key : List ℕ) → CallResult Session → Type 0) (p : Promises sanse_kind) (c : Codes sanse_kind)
     → WithCodesOf sanse_kind starts p c
-    ≡ ((key : List ℕ) → 16 ≤ length key → length key ≤ 47 → (first second : CallResult) → starts key first → starts key second
+    ≡ ((key : List ℕ) → 16 ≤ length key → length key ≤ 47 → (first second : CallResult Session) → starts key first → starts key second
     → (rs : List Request) (os : List (Outcome DeckState)) (gs : List CodeOutcome) (to : Records sanse_kind)
-    → CodeRun sanse_kind p c rs (record { office = first.session; group = second.session }) os gs to
+    → CodeRun sanse_kind p c rs (record { office = first.left; group = second.left }) os gs to
     → WithCodes key rs (start_result first) (start_result second) os gs (sessions_held sanse_kind to))
 with-codes-says starts p c = refl
 
@@ -54,11 +54,11 @@ pub same-runs-says : (p : Promises sanse_kind) (c : Codes sanse_kind)
     → ((gs : List CodeOutcome) × CodeRun sanse_kind p c rs from os gs to) ↔ Run sanse_kind p (calls_of rs) from os to)
 same-runs-says p c = refl
 
-pub same-codes-says : (starts : (key : List ℕ) → CallResult → Type 0) (p : Promises sanse_kind) (c : Codes sanse_kind)
+pub same-codes-says : (starts : (key : List ℕ) → CallResult Session → Type 0) (p : Promises sanse_kind) (c : Codes sanse_kind)
     → SameCodesOf sanse_kind starts p c
-    ≡ ((key : List ℕ) → 16 ≤ length key → length key ≤ 47 → (first second : CallResult) → starts key first → starts key second
+    ≡ ((key : List ℕ) → 16 ≤ length key → length key ≤ 47 → (first second : CallResult Session) → starts key first → starts key second
     → (cs : List Call) (os : List (Outcome DeckState)) (to : Records sanse_kind)
-    → Run sanse_kind p cs (record { office = first.session; group = second.session }) os to
+    → Run sanse_kind p cs (record { office = first.left; group = second.left }) os to
     → Delivers sanse_paper nothing cs (fresh_ledgers key sanse_opens)
     → (packet : ℕ) (out : List ℕ) (g g' : CodeOutcome) → c to.office packet out g → c to.group packet out g' → g ≡ g')
 same-codes-says starts p c = refl

@@ -6,7 +6,7 @@ use Rattle.modes.specs.Codes.{CodeOutcome, code_at}
 use Rattle.modes.specs.CodeLists.{Codes, codes_by_rules}
 use Rattle.sanse.specs.declared.Session.{Session}
 use Rattle.sanse.specs.Session.{state_of, sanse_kind}
-use Rattle.session.specs.declared.Answer.{Answer}
+use Rattle.steps.specs.declared.Answer.{Answer}
 
 -- an answer, with the output buffer as the call left it
 abbrev pub code_result : Answer → (out : List ℕ) → CodeOutcome

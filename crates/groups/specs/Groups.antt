@@ -7,9 +7,9 @@ use Rattle.deck.specs.declared.DeckState.{DeckState}
 use Rattle.modes.specs.Call.{CallInput}
 use Rattle.modes.specs.Mode.{sanse, incremental}
 use Rattle.modes.specs.Rules.{SessionState, Outcome, Opening, if_no_check, check_from5, count_of, wrap_from5, unwrap_from5, key_fits, start_at}
+use Rattle.steps.specs.declared.CallResult.{CallResult}
 use Rattle.sanse.specs.Session.{state_of}
 use Rattle.groups.specs.declared.Record.{Record}
-use Rattle.groups.specs.declared.GroupResult.{GroupResult}
 
 -- ---- a group's record
 
@@ -98,8 +98,8 @@ open_on_day allowance g key = charged_opening g.count (opened_unless (open_check
 abbrev pub record_of : Record → GroupState
 record_of r = record { session = state_of r.session; count = r.count }
 
-abbrev pub group_opening_result : GroupResult → GroupOpening
+abbrev pub group_opening_result : CallResult Record → GroupOpening
 group_opening_result r = record { number = r.number; count = r.count; left = record_of r.left }
 
-abbrev pub group_result : GroupResult → (out tag : List ℕ) → GroupOutcome
+abbrev pub group_result : CallResult Record → (out tag : List ℕ) → GroupOutcome
 group_result r out tag = record { number = r.number; count = r.count; left = record_of r.left; out = out; tag = tag }

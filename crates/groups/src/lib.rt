@@ -5,12 +5,15 @@
 #![tactic(auto)]
 
 ghost use Rattle.std.specs.Prelude.{◌≡◌, ◌+◌, ◌≤◌, length};
+ghost use Rattle.refusals.specs.Numbers.{number_given};
 ghost use Rattle.modes.specs.Mode.{sanse_count};
 ghost use Rattle.modes.specs.Rules.{growth, first_check_of};
 ghost use Rattle.sanse.specs.Session.{handed, handed_for};
 ghost use Rattle.groups.specs.Groups.{new_day, above_allowance, then10, wrap_on_day, unwrap_on_day, open_on_day, record_of, group_opening_result, group_result};
 
-use sanse::{CallResult, Session};
+use refusals::Refusal;
+use sanse::Session;
+use steps::{CallResult, Lengths};
 
 // A group's record: its session, and the permutations counted for the group since the day began, which are no part of the session.
 #[repr(C)]
@@ -20,22 +23,13 @@ pub struct Record {
     pub count: u32,
 }
 
-// What a call for a group gives beside the buffers: its number (0: accepted), the permutations done, and the group's record after it.
-#[derive(Clone, Copy)]
-pub struct GroupResult {
-    pub number: u32,
-    pub count: u32,
-    pub left: Record,
-}
-
 // ---- the day
 
 // The record when a day begins: the count is 0, and the session stays.
 pub fn new_day(r: Record) -> Record
     ensures { record_of result ≡ new_day (record_of r) }
 {
-    let session = r.session;
-    Record { session, count: 0 }
+    Record { count: 0, ..r }
 }
 
 // Whether the group's count plus this call's count is above the allowance; in 64 bits, since both may be any numbers.
@@ -43,9 +37,7 @@ fn above_allowance(allowance: u32, spent: u32, count: u64) -> bool
     requires { count ≤ 65536 }
     ensures { result ≡ above_allowance allowance spent count }
 {
-    let most = allowance as u64;
-    let sum = (spent as u64) + count;
-    most < sum
+    u64::from(allowance) < u64::from(spent) + count
 }
 
 // ---- checks 5 to 10
@@ -55,68 +47,46 @@ fn call_count(a: usize, m: usize) -> u64
     requires { (a ≤ 16401) × (m ≤ 16384) }
     ensures { (result ≡ sanse_count a m) × (result ≤ 65536) }
 {
-    if m == 0 {
-        return (a / 48 + 3) as u64;
-    }
     let body = m / 48 + 5 + (m + 47) / 48;
-    if a == 0 {
-        return body as u64;
-    }
-    (a / 48 + 1 + body) as u64
+    let all = if m == 0 {
+        a / 48 + 3
+    } else if a == 0 {
+        body
+    } else {
+        a / 48 + 1 + body
+    };
+    all as u64
 }
 
-// The first of the checks 5 to 10 that a call meets, or 0: 9 and 10 by the length of A's string, 6 by that of the metadata.
-fn check(
-    opened: bool,
-    index: u32,
-    allowance: u32,
-    spent: u32,
-    string: usize,
-    a: usize,
-    m: usize,
-    tag: usize,
-    out: usize,
-) -> u32
-    requires { string ≤ a + 17 }
-    ensures { result ≡ then10 (first_check_of opened (index + growth string m) 32 a m tag out) (above_allowance allowance spent (sanse_count string m)) }
+// The first of the checks 5 to 10 that a call meets: 9 and 10 by the length of A's string, 6 by that of the metadata.
+fn check(r: Record, allowance: u32, n: Lengths) -> Result<(), Refusal>
+    requires { n.string ≤ n.metadata + 17 }
+    ensures { number_given result ≡ then10
+        (first_check_of r.session.opened (r.session.history.index + growth n.string n.text) 32 n.metadata n.text n.tag n.out)
+        (above_allowance allowance r.count (sanse_count n.string n.text)) }
 {
-    let after = steps::index_after(index, string, m);
-    let number = steps::first_check(opened, after, 32, a, m, tag, out);
-    if number != 0 {
-        return number;
+    let s = r.session;
+    steps::check(s.opened, s.history.index, 32, n)?;
+    if above_allowance(allowance, r.count, call_count(n.string, n.text)) {
+        return Err(Refusal::Allowance);
     }
-    if above_allowance(allowance, spent, call_count(string, m)) {
-        return 10;
-    }
-    0
+    Ok(())
 }
 
 // ---- results
 
-// Refused with nothing altered.
-fn refused(number: u32, r: Record) -> GroupResult
-    ensures { result ≡ record { number = number; count = 0; left = r } }
-{
-    GroupResult {
-        number,
-        count: 0,
-        left: r,
-    }
-}
-
 // What a lone call gave, with its count added to the group's.
-fn charged(r: CallResult, allowance: u32, spent: u32) -> GroupResult
-    requires { spent + r.count ≤ allowance }
-    ensures { result ≡ record { number = r.number; count = r.count; left = record { session = r.session; count = spent + r.count } } }
+fn charged(given: CallResult<Session>, allowance: u32, spent: u32) -> CallResult<Record>
+    requires { spent + given.count ≤ allowance }
+    ensures { result ≡ record { number = given.number; count = given.count; left = record { session = given.left; count = spent + given.count } } }
 {
-    let session = r.session;
     let left = Record {
-        session,
-        count: spent + r.count,
+        session: given.left,
+        count: spent + given.count,
     };
-    GroupResult {
-        number: r.number,
-        count: r.count,
+    CallResult {
+        number: given.number,
+        count: given.count,
         left,
     }
 }
@@ -124,21 +94,16 @@ fn charged(r: CallResult, allowance: u32, spent: u32) -> GroupResult
 // ---- the calls
 
 // Opens a group: a fresh session in the record, its count plus 1. The record stays as it was where 4 or 10 refuses.
-#[tactic(auto, using(crate::proofs::Laws::open_long))]
-pub fn open(r: Record, allowance: u32, key: &[u8]) -> GroupResult
+pub fn open(r: Record, allowance: u32, key: &[u8]) -> CallResult<Record>
     ensures { group_opening_result result ≡ open_on_day allowance (record_of r) key.now }
 {
-    if key.len() < 16 {
-        return refused(4, r);
-    }
-    if 47 < key.len() {
-        return refused(4, r);
+    if key.len() < 16 || 47 < key.len() {
+        return steps::refused(Refusal::BadKey, 0, r);
     }
     if above_allowance(allowance, r.count, 1) {
-        return refused(10, r);
+        return steps::refused(Refusal::Allowance, 0, r);
     }
-    let fresh = sanse::start(key);
-    charged(fresh, allowance, r.count)
+    charged(sanse::start(key), allowance, r.count)
 }
 
 // Wraps a message for a group, where check 1 is not met: A is the header's bytes `head`, none for a call without an envelope, and then the
@@ -152,28 +117,23 @@ pub fn wrap_string(
     out: &mut [u8],
     tag: &mut [u8],
     four: bool,
-) -> GroupResult
+) -> CallResult<Record>
     requires { length head.now ≤ 17 }
     ensures { group_result result out.new tag.new
         ≡ wrap_on_day allowance (record_of r)
         (handed_for head.now metadata.now message.now out.old tag.old) }
 {
-    let s = r.session;
-    let number = check(
-        s.opened,
-        s.index,
-        allowance,
-        r.count,
-        head.len() + metadata.len(),
-        metadata.len(),
-        message.len(),
-        tag.len(),
-        out.len(),
-    );
-    if number != 0 {
-        return refused(number, r);
+    let lengths = Lengths {
+        string: head.len() + metadata.len(),
+        metadata: metadata.len(),
+        text: message.len(),
+        tag: tag.len(),
+        out: out.len(),
+    };
+    if let Err(e) = check(r, allowance, lengths) {
+        return steps::refused(e, 0, r);
     }
-    let given = sanse::wrap_string(s, head, metadata, message, out, tag, four);
+    let given = sanse::wrap_string(r.session, head, metadata, message, out, tag, four);
     charged(given, allowance, r.count)
 }
 
@@ -188,28 +148,23 @@ pub fn unwrap_string(
     tag: &[u8],
     out: &mut [u8],
     four: bool,
-) -> GroupResult
+) -> CallResult<Record>
     requires { length head.now ≤ 17 }
     ensures { group_result result out.new tag.now
         ≡ unwrap_on_day allowance (record_of r)
         (handed_for head.now metadata.now cryptogram.now out.old tag.now) }
 {
-    let s = r.session;
-    let number = check(
-        s.opened,
-        s.index,
-        allowance,
-        r.count,
-        head.len() + metadata.len(),
-        metadata.len(),
-        cryptogram.len(),
-        tag.len(),
-        out.len(),
-    );
-    if number != 0 {
-        return refused(number, r);
+    let lengths = Lengths {
+        string: head.len() + metadata.len(),
+        metadata: metadata.len(),
+        text: cryptogram.len(),
+        tag: tag.len(),
+        out: out.len(),
+    };
+    if let Err(e) = check(r, allowance, lengths) {
+        return steps::refused(e, 0, r);
     }
-    let given = sanse::unwrap_string(s, head, metadata, cryptogram, tag, out, four);
+    let given = sanse::unwrap_string(r.session, head, metadata, cryptogram, tag, out, four);
     charged(given, allowance, r.count)
 }
 
@@ -224,12 +179,11 @@ pub fn wrap(
     out: &mut [u8],
     tag: &mut [u8],
     four: bool,
-) -> GroupResult
+) -> CallResult<Record>
     ensures { group_result result out.new tag.new
         ≡ wrap_on_day allowance (record_of r) (handed metadata.now message.now out.old tag.old) }
 {
-    let none = &metadata[..0];
-    wrap_string(r, allowance, none, metadata, message, out, tag, four)
+    wrap_string(r, allowance, &[], metadata, message, out, tag, four)
 }
 
 // Unwraps a cryptogram for a group. Checks 5 to 10, and 11, whose count is added to the group's.
@@ -241,10 +195,9 @@ pub fn unwrap(
     tag: &[u8],
     out: &mut [u8],
     four: bool,
-) -> GroupResult
+) -> CallResult<Record>
     ensures { group_result result out.new tag.now
         ≡ unwrap_on_day allowance (record_of r) (handed metadata.now cryptogram.now out.old tag.now) }
 {
-    let none = &metadata[..0];
-    unwrap_string(r, allowance, none, metadata, cryptogram, tag, out, four)
+    unwrap_string(r, allowance, &[], metadata, cryptogram, tag, out, four)
 }

@@ -1,5 +1,6 @@
 -- What the lists of calls know of a call is the `ensures` of the function, all of it; and each wrap and unwrap of a list is a call of one of the
 -- functions (`EitherSort` of `specs/Isolation.antt`). Assumes nothing.
+use mathlib.Core.Bool.{true}
 use mathlib.Core.List.{List}
 use mathlib.Core.Logic.{◌⊎◌, inl, inr}
 use mathlib.Core.Path.{◌≡◌, refl, ap}
@@ -22,10 +23,8 @@ use Rattle.office.specs.contracts.wrap_group as wrap-group
 use Rattle.office.specs.contracts.unwrap_group as unwrap-group
 use Rattle.office_envelope.specs.contracts.wrap_envelope_group as wrap-envelope
 use Rattle.office_envelope.specs.contracts.unwrap_envelope_group as unwrap-envelope
-use Rattle.office4.specs.contracts.wrap_group_four as wrap-four
-use Rattle.office4.specs.contracts.unwrap_group_four as unwrap-four
-use Rattle.office4.specs.contracts.wrap_envelope_group_four as wrap-envelope-four
-use Rattle.office4.specs.contracts.unwrap_envelope_group_four as unwrap-envelope-four
+use Rattle.office.proofs.Contracts.{wrap-by, unwrap-by}
+use Rattle.office_envelope.proofs.Contracts.{wrap-envelope-by, unwrap-envelope-by}
 use Rattle.isolation.specs.Calls.{Opened, Wrapped, Unwrapped, DayStarted}
 use Rattle.isolation.specs.Isolation.{EitherSort}
 
@@ -70,34 +69,34 @@ module _ {M : Type 1} {𝓤 : Ura M} (𝓛 : Logic 𝓤) (mem : Memory → SProp
       r z.0.now z.1.1.1.1.1.1.1.0.now a.1.1.1.1.1.1.0.now)
   unwrap-envelope-promises κs a r z = refl
 
-  -- with full blocks taken four side by side
-  pub wrap-four-promises : (κs : Lfts 5) (a : Args wrap-four.signature κs) (r : Res wrap-four.signature κs) (z : AtExit wrap-four.ended κs)
-      → (wrap-four.clauses 𝓛 mem run κs a).ensures tt r z
+  -- each promise holds whether full blocks are taken four side by side or not; written out for a call where they are
+  pub wrap-four-promises : (κs : Lfts 5) (a : Args wrap-group.signature κs) (r : Res wrap-group.signature κs) (z : AtExit wrap-group.ended κs)
+      → (wrap-group.clauses 𝓛 mem run κs (wrap-by 𝓛 mem run κs a true)).ensures tt r z
       ≡ (connectives 𝓤).⌜◌⌝
       (Wrapped a.1.1.0 a.0.now a.1.0
       (handed a.1.1.1.0.now a.1.1.1.1.0.now a.1.1.1.1.1.0.now a.1.1.1.1.1.1.0.now)
       r z.0.now z.1.1.1.1.1.0.now z.1.1.1.1.1.1.0.now)
   wrap-four-promises κs a r z = refl
 
-  pub unwrap-four-promises : (κs : Lfts 5) (a : Args unwrap-four.signature κs) (r : Res unwrap-four.signature κs) (z : AtExit unwrap-four.ended κs)
-      → (unwrap-four.clauses 𝓛 mem run κs a).ensures tt r z
+  pub unwrap-four-promises : (κs : Lfts 5) (a : Args unwrap-group.signature κs) (r : Res unwrap-group.signature κs) (z : AtExit unwrap-group.ended κs)
+      → (unwrap-group.clauses 𝓛 mem run κs (unwrap-by 𝓛 mem run κs a true)).ensures tt r z
       ≡ (connectives 𝓤).⌜◌⌝
       (Unwrapped a.1.1.0 a.0.now a.1.0
       (handed a.1.1.1.0.now a.1.1.1.1.0.now a.1.1.1.1.1.1.0.now a.1.1.1.1.1.0.now)
       r z.0.now z.1.1.1.1.1.1.0.now a.1.1.1.1.1.0.now)
   unwrap-four-promises κs a r z = refl
 
-  pub wrap-envelope-four-promises : (κs : Lfts 6) (a : Args wrap-envelope-four.signature κs) (r : Res wrap-envelope-four.signature κs) (z : AtExit wrap-envelope-four.ended κs)
-      → (wrap-envelope-four.clauses 𝓛 mem run κs a).ensures tt r z
+  pub wrap-envelope-four-promises : (κs : Lfts 6) (a : Args wrap-envelope.signature κs) (r : Res wrap-envelope.signature κs) (z : AtExit wrap-envelope.ended κs)
+      → (wrap-envelope.clauses 𝓛 mem run κs (wrap-envelope-by 𝓛 mem run κs a true)).ensures tt r z
       ≡ (connectives 𝓤).⌜◌⌝
       (Wrapped a.1.1.0 a.0.now a.1.0
       (handed_for a.1.1.1.0.now a.1.1.1.1.0.now a.1.1.1.1.1.0.now a.1.1.1.1.1.1.0.now a.1.1.1.1.1.1.1.0.now)
       r z.0.now z.1.1.1.1.1.1.0.now z.1.1.1.1.1.1.1.0.now)
   wrap-envelope-four-promises κs a r z = refl
 
-  pub unwrap-envelope-four-promises : (κs : Lfts 6) (a : Args unwrap-envelope-four.signature κs) (r : Res unwrap-envelope-four.signature κs)
-      (z : AtExit unwrap-envelope-four.ended κs)
-      → (unwrap-envelope-four.clauses 𝓛 mem run κs a).ensures tt r z
+  pub unwrap-envelope-four-promises : (κs : Lfts 6) (a : Args unwrap-envelope.signature κs) (r : Res unwrap-envelope.signature κs)
+      (z : AtExit unwrap-envelope.ended κs)
+      → (unwrap-envelope.clauses 𝓛 mem run κs (unwrap-envelope-by 𝓛 mem run κs a true)).ensures tt r z
       ≡ (connectives 𝓤).⌜◌⌝
       (Unwrapped a.1.1.0 a.0.now a.1.0
       (handed_for a.1.1.1.0.now a.1.1.1.1.0.now a.1.1.1.1.1.0.now a.1.1.1.1.1.1.1.0.now a.1.1.1.1.1.1.0.now)

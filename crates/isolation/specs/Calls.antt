@@ -4,12 +4,12 @@
 -- day and no nearly-full question is among them. Assumes nothing.
 use Rattle.std.specs.Prelude.{cond, List, [], ◌∷◌, ◌≡◌, ℕ, eqb}
 use Rattle.modes.specs.Call.{CallInput}
-use Rattle.session.specs.declared.Answer.{Answer}
+use Rattle.steps.specs.declared.Answer.{Answer}
 use Rattle.groups.specs.declared.Record.{Record}
 use Rattle.office.specs.Table.{table_of, day_result, table_result, opening_result, start_day_at, open_group_at, wrap_group_at, unwrap_group_at}
 
--- ---- what the table's functions promise: their `ensures`, which are these equations with the rules and nothing else (`proofs/Contracts.antt`). The
--- functions that take full blocks four side by side promise the same, so that each call of a list may be of either
+-- ---- what the table's functions promise: their `ensures`, which are these equations with the rules and nothing else (`proofs/Contracts.antt`),
+-- whether full blocks are taken four side by side or not, so that each call of a list may be either
 
 -- opening a group, of the records `from`, answered r and left the records `to`
 abbrev pub Opened : (allowance : ℕ) (from : List Record) (group : ℕ) (key : List ℕ) → Answer → (to : List Record) → Type 0

@@ -43,9 +43,9 @@ AsAlone =
     → Run allowance cs l gs l' → Run allowance (calls_for g cs) l hs m'
     → (given_to g cs gs ≡ hs) × (record_at l' g ≡ record_at m' g)
 
--- the same calls from the same table give the same, and leave the same records. A call of a list is known by the promise of its function alone, and
--- the functions that take full blocks four side by side have that promise too (`proofs/Contracts.antt`): so nobody can tell which way each call of the one
--- list or of the other was made (document 02, request 10)
+-- the same calls from the same table give the same, and leave the same records. A call of a list is known by the promise of its function alone, which
+-- does not speak of whether full blocks are taken four side by side (`proofs/Contracts.antt`): so nobody can tell which way each call of the one list
+-- or of the other was made (document 02, request 10)
 abbrev pub NobodyCanTell : Type 0
 NobodyCanTell =
     (allowance : ℕ) (cs : List GroupCall) (from to to' : List Record) (gs gs' : List Given) → Run allowance cs from gs to → Run allowance cs from gs' to'

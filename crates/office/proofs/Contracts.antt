@@ -1,6 +1,7 @@
 -- The clauses of the crate's public functions: each has just one clause, its equation of `specs/Table.antt`, and asks nothing of a call. Assumes
 -- nothing.
 use mathlib.Core.Path.{◌≡◌, refl}
+use mathlib.Core.Bool.{Bool, true, false}
 use seplogic.Ra.Ura.{Ura}
 use base.Logic.{SProp}
 use prog.Memory.{Memory}
@@ -64,3 +65,23 @@ module _ {M : Type 1} {𝓤 : Ura M} (𝓛 : Logic 𝓤) (mem : Memory → SProp
   pub nearly-full-ensures : (κs : Lfts 1) (a : Args nearly-full.signature κs) (r : Res nearly-full.signature κs) (z : AtExit nearly-full.ended κs)
       → (nearly-full.clauses 𝓛 mem run κs a).ensures tt r z ≡ (connectives 𝓤).⌜◌⌝ (nearly_full_result r ≡ nearly_full_at (table_of a.0.now) a.1.0)
   nearly-full-ensures κs a r z = refl
+
+  -- ---- whether full blocks are taken four side by side alters no clause (document 02, request 10): of any call the clauses where they
+  -- are, are those where they are not, all of them
+  -- a call with the last argument four
+  abbrev pub wrap-by : (κs : Lfts 5) (a : Args wrap-group.signature κs) (four : Bool) → Args wrap-group.signature κs
+  wrap-by κs a t =
+      (a.0, (a.1.0, (a.1.1.0, (a.1.1.1.0, (a.1.1.1.1.0, (a.1.1.1.1.1.0, (a.1.1.1.1.1.1.0, (t, a.1.1.1.1.1.1.1.1))))))))
+
+  pub wrap-same : (κs : Lfts 5) (a : Args wrap-group.signature κs)
+      → wrap-group.clauses 𝓛 mem run κs (wrap-by κs a true) ≡ wrap-group.clauses 𝓛 mem run κs (wrap-by κs a false)
+  wrap-same κs a = refl
+
+  -- a call with the last argument four
+  abbrev pub unwrap-by : (κs : Lfts 5) (a : Args unwrap-group.signature κs) (four : Bool) → Args unwrap-group.signature κs
+  unwrap-by κs a t =
+      (a.0, (a.1.0, (a.1.1.0, (a.1.1.1.0, (a.1.1.1.1.0, (a.1.1.1.1.1.0, (a.1.1.1.1.1.1.0, (t, a.1.1.1.1.1.1.1.1))))))))
+
+  pub unwrap-same : (κs : Lfts 5) (a : Args unwrap-group.signature κs)
+      → unwrap-group.clauses 𝓛 mem run κs (unwrap-by κs a true) ≡ unwrap-group.clauses 𝓛 mem run κs (unwrap-by κs a false)
+  unwrap-same κs a = refl

@@ -1,6 +1,5 @@
 -- How the checks 1 and 3 come out, and what a group's call leaves of the whole table, over plain values. Assumes nothing.
-use mathlib.Core.Path.{◌≡◌, refl, sym, ap, ap₂, ◌∙◌, subst}
-use mathlib.Core.Logic.{◌≢◌}
+use mathlib.Core.Path.{◌≡◌, refl, sym, ap, ◌∙◌, subst}
 use mathlib.Core.Bool.{Bool, true, false, not, ◌||◌, cond}
 use mathlib.Core.List.{List, [], ◌∷◌}
 use Prim.Native.Nat.{ℕ, zero, suc, ◌<◌, ◌≤◌}
@@ -8,29 +7,33 @@ use native.Mathlib.Omega.{arith}
 use lib.Dec.{T as Holds, ltb, eqb}
 use lib.ListN.{length, get_or, set, length-map, get_or-map}
 use Rattle.std.proofs.lemmas.List.{get_or_default}
-use borrow.Author.Tests.{ltb-false, eqb-true, eq-eqb, ne_eqb}
+use borrow.Author.Tests.{ltb-false, eqb-true}
 use Rattle.deck.specs.declared.DeckState.{DeckState}
 use Rattle.envelope.specs.Layout.{letter_s}
 use Rattle.modes.specs.Call.{CallHeader, bare, CallInput}
 use Rattle.modes.specs.Header.{group_fits}
 use Rattle.modes.specs.Rules.{SessionState, Outcome}
-use Rattle.session.specs.declared.Answer.{Answer}
+use Rattle.refusals.specs.declared.Refusal.{Refusal}
+use Rattle.refusals.specs.Numbers.{number_of}
+use Rattle.refusals.proofs.Numbers.{number-positive}
+use Rattle.steps.specs.declared.Answer.{Answer}
+use Rattle.steps.specs.declared.CallResult.{CallResult}
 use Rattle.groups.specs.declared.Record.{Record}
-use Rattle.groups.specs.declared.GroupResult.{GroupResult}
 use Rattle.groups.specs.Groups.{GroupState, GroupOutcome, on_day, open_on_day, record_of, group_result, group_opening_result}
-use Rattle.office.specs.Table.{Table, no_group_outcome, group_at, session_at, TableOutcome, header_passes, table_check, if_group, written_back, call_group_at, opened_back, open_group_at, zero_record, refused3, table_of, table_result, opening_result}
+use Rattle.office.specs.Table.{Table, no_group_outcome, check_group, group_at, session_at, TableOutcome, refused_by, header_passes, table_check, if_group, written_back, call_group_at, opened_back, open_group_at, zero_record, refused_answer, table_of, table_result, opening_result}
 
 -- ---- check 3
 
--- by the number of records
-pub size-refused : (n g : ℕ) → n ≢ 32 → true ≡ no_group_outcome n g
-size-refused n g z = sym (ap (λ (t : Bool). not t || ltb 31 g) (ne_eqb n 32 z))
+-- it is met, by a refusal's number
+met : (e : Refusal) (none : Bool) → number_of e ≡ cond none 3 0 → (none ≡ true) × (number_of e ≡ 3)
+met e true h = (refl, h)
+met e false h = let positive = number-positive e in absurd (omega arith)
 
--- by the group
-pub size-passed : (n g : ℕ) → n ≡ 32 → ltb 31 g ≡ no_group_outcome n g
-size-passed n g e = sym (ap (λ (t : Bool). not t || ltb 31 g) (eq-eqb n 32 e))
+-- it is not
+pub passed : (none : Bool) → ◌≡◌ {A = ℕ} 0 (cond none 3 0) → none ≡ false
+passed true h = absurd (omega arith)
+passed false h = refl
 
--- it is not met
 pub in_table : (n g : ℕ) → no_group_outcome n g ≡ false → (n ≡ 32) × (g ≤ 31)
 in_table n g = go (eqb n 32) (ltb 31 g) refl refl
   where
@@ -80,31 +83,42 @@ module _ (lone : SessionState DeckState → CallInput → Outcome DeckState) (al
       ap (λ (k : ℕ). if_group k (table_of l) i (written_back (table_of l) g (own (group_at (table_of l) g))))
       (sym e ∙ ap (λ (k : ℕ). table_check (header_passes g i) (no_group_outcome k g)) (sym (length-map l record_of)))
 
-  pub call-refused : (n : ℕ) → stop ≡ n → n ≢ 0 → (r : Answer) → r ≡ record { number = n; count = 0 } → table_result r l i.out i.tag ≡ whole
-  call-refused zero e z r is = absurd (z refl)
-  call-refused (suc n) e z r is = ap (λ (r : Answer). table_result r l i.out i.tag) is ∙ call_by (suc n) e
+  -- with a number above 0 it refuses
+  refuses : (n : ℕ) → 0 < n → (t : Table) (o : TableOutcome) → refused_by n t i ≡ if_group n t i o
+  refuses zero p t o = absurd (omega arith)
+  refuses (suc n) p t o = refl
+
+  pub call-refused : (e : Refusal) → number_of e ≡ stop → (r : Answer) → r ≡ refused_answer e → table_result r l i.out i.tag ≡ whole
+  call-refused e h r is =
+      ap (λ (r : Answer). table_result r l i.out i.tag) is
+      ∙ refuses (number_of e) (number-positive e) (table_of l) (written_back (table_of l) g (own (group_at (table_of l) g)))
+      ∙ call_by (number_of e) (sym h)
 
   -- what a group's call gave, with its record written back, is what the rules say of the whole table
-  pub call-stored : stop ≡ 0 → g < length l → (r : GroupResult) (d : Record) {out tag : List ℕ} → group_result r out tag ≡ own (record_of (get_or l g d))
-      → table_result (record { number = r.number; count = r.count }) (set l g r.left) out tag ≡ whole
-  call-stored e less r d {out} {tag} met =
-      ap (λ (t : Table). record { number = r.number; count = r.count; table = t; out = out; tag = tag }) (set-table l g r.left)
+  pub call-stored : 0 ≡ stop → g < length l → (r : CallResult Record) (d : Record) {out tag : List ℕ}
+      → group_result r out tag ≡ own (record_of (get_or l g d))
+      → (a : Answer) → a ≡ record { number = r.number; count = r.count } → table_result a (set l g r.left) out tag ≡ whole
+  call-stored e less r d {out} {tag} met a is =
+      ap (λ (a : Answer). table_result a (set l g r.left) out tag) is
+      ∙ ap (λ (t : Table). record { number = r.number; count = r.count; table = t; out = out; tag = tag }) (set-table l g r.left)
       ∙ ap (written_back (table_of l) g) (met ∙ ap own (group_read l g d less))
-      ∙ call_by 0 e
+      ∙ call_by 0 (sym e)
 
 -- a call that is handed no header, by check 3 alone
 module _ (lone : SessionState DeckState → CallInput → Outcome DeckState) (allowance : ℕ) (i : CallInput) (without : i.header ≡ bare) (l : List Record) (g : ℕ) where
-  bare-stop : (t : Bool) → no_group_outcome (length l) g ≡ t → stop lone allowance i l g ≡ cond t 3 0
-  bare-stop t e =
-      ap₂ (λ (h : CallHeader) (u : Bool). table_check (group_fits letter_s g h (length i.metadata) (length i.text)) u) without e
+  bare-stop : check_group (length l) g ≡ stop lone allowance i l g
+  bare-stop =
+      sym (ap (λ (h : CallHeader). table_check (group_fits letter_s g h (length i.metadata) (length i.text)) (no_group_outcome (length l) g)) without)
 
-  pub bare-refused : no_group_outcome (length l) g ≡ true → (r : Answer) → r ≡ refused3 → table_result r l i.out i.tag ≡ whole lone allowance i l g
-  bare-refused e r is = call-refused lone allowance i l g 3 (bare-stop true e) (λ z. omega (arith, z)) r is
+  pub bare-refused : (e : Refusal) → number_of e ≡ check_group (length l) g → (r : Answer) → r ≡ refused_answer e
+      → table_result r l i.out i.tag ≡ whole lone allowance i l g
+  bare-refused e h r is = call-refused lone allowance i l g e (h ∙ bare-stop) r is
 
-  pub bare-stored : no_group_outcome (length l) g ≡ false → (r : GroupResult) (d : Record) {out tag : List ℕ}
+  pub bare-stored : 0 ≡ check_group (length l) g → (r : CallResult Record) (d : Record) {out tag : List ℕ}
       → group_result r out tag ≡ own lone allowance i l g (record_of (get_or l g d))
-      → table_result (record { number = r.number; count = r.count }) (set l g r.left) out tag ≡ whole lone allowance i l g
-  bare-stored e r d met = call-stored lone allowance i l g (bare-stop false e) (inside (length l) g e) r d met
+      → (a : Answer) → a ≡ record { number = r.number; count = r.count } → table_result a (set l g r.left) out tag ≡ whole lone allowance i l g
+  bare-stored e r d given a is =
+      call-stored lone allowance i l g (e ∙ bare-stop) (inside (length l) g (passed (no_group_outcome (length l) g) e)) r d given a is
 
 -- ---- opening a group
 
@@ -117,12 +131,21 @@ module _ (allowance : ℕ) (key : List ℕ) (l : List Record) (g : ℕ) where
       ap (λ (u : Bool). cond u (record { number = 3; count = 0; table = table_of l }) (opened_back (table_of l) g (open_on_day allowance (group_at (table_of l) g) key)))
       (test-is l g t e)
 
-  pub open-refused : no_group_outcome (length l) g ≡ true → (r : Answer) → r ≡ refused3 → opening_result r l ≡ open_group_at allowance (table_of l) g key
-  open-refused e r is = ap (λ (r : Answer). opening_result r l) is ∙ open_by true e
+  pub open-refused : (e : Refusal) → number_of e ≡ check_group (length l) g → (r : Answer) → r ≡ refused_answer e
+      → opening_result r l ≡ open_group_at allowance (table_of l) g key
+  open-refused e h r is =
+      let w = met e (no_group_outcome (length l) g) h in
+      ap (λ (r : Answer). opening_result r l) is
+      ∙ ap (λ (n : ℕ). record { number = n; count = 0; table = table_of l }) w.1
+      ∙ open_by true w.0
 
-  pub open-stored : no_group_outcome (length l) g ≡ false → (r : GroupResult) (d : Record) → group_opening_result r ≡ open_on_day allowance (record_of (get_or l g d)) key
-      → opening_result (record { number = r.number; count = r.count }) (set l g r.left) ≡ open_group_at allowance (table_of l) g key
-  open-stored e r d met =
-      ap (λ (t : Table). record { number = r.number; count = r.count; table = t }) (set-table l g r.left)
-      ∙ ap (opened_back (table_of l) g) (met ∙ ap (λ (r : GroupState). open_on_day allowance r key) (group_read l g d (inside (length l) g e)))
-      ∙ open_by false e
+  pub open-stored : 0 ≡ check_group (length l) g → (r : CallResult Record) (d : Record)
+      → group_opening_result r ≡ open_on_day allowance (record_of (get_or l g d)) key
+      → (a : Answer) → a ≡ record { number = r.number; count = r.count }
+      → opening_result a (set l g r.left) ≡ open_group_at allowance (table_of l) g key
+  open-stored e r d given a is =
+      let has = passed (no_group_outcome (length l) g) e in
+      ap (λ (a : Answer). opening_result a (set l g r.left)) is
+      ∙ ap (λ (t : Table). record { number = r.number; count = r.count; table = t }) (set-table l g r.left)
+      ∙ ap (opened_back (table_of l) g) (given ∙ ap (λ (r : GroupState). open_on_day allowance r key) (group_read l g d (inside (length l) g has)))
+      ∙ open_by false has

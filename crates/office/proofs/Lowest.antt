@@ -10,8 +10,9 @@ use lib.Dec.{eqb}
 use lib.ListN.{length}
 use borrow.Author.Tests.{ltb-true, lt-ltb, eqb-true, eqb-false}
 use borrow.Author.Count.{below_none}
-use Rattle.office.specs.declared.NearlyFull.{NearlyFull}
-use Rattle.office.specs.declared.NearlyFull.TheVariants.{Refused, None, Group}
+use Rattle.std.specs.Prelude.{Result, Ok, Err, Option, Some, None}
+use Rattle.refusals.specs.declared.Refusal.{Refusal}
+use Rattle.refusals.proofs.Numbers.{number-tells, number-positive}
 use Rattle.office.specs.Table.{Table, session_at, above_mark, TableFinding, group_named, none_named, refused_finding, nearly_full_at, nearly_full_result}
 use Rattle.office.specs.Exactly.{OpenAbove, LowestAbove, FoundExactly, FoundDecided}
 use Rattle.office.proofs.Search.{never, NoneBelow, names, names-none, asked, refused}
@@ -154,16 +155,16 @@ module _ (t : Table) (mark : ℕ) (r s : TableFinding) (x : FoundExactly t mark 
       go false false e f = same-finding r s same_number (e ∙ sym f) (x.unnamed e ∙ sym (y.unnamed f))
 
 -- the cases of the program's answer have different values
-same_answer : (r s : NearlyFull) → nearly_full_result r ≡ nearly_full_result s → r ≡ s
-same_answer Refused Refused e = refl
-same_answer Refused None e = absurd (omega (arith, ap (λ (f : TableFinding). f.number) e))
-same_answer Refused (Group g) e = absurd (omega (arith, ap (λ (f : TableFinding). f.number) e))
-same_answer None Refused e = absurd (omega (arith, ap (λ (f : TableFinding). f.number) e))
-same_answer None None e = refl
-same_answer None (Group g) e = never (sym (ap (λ (f : TableFinding). f.found) e))
-same_answer (Group g) Refused e = absurd (omega (arith, ap (λ (f : TableFinding). f.number) e))
-same_answer (Group g) None e = never (ap (λ (f : TableFinding). f.found) e)
-same_answer (Group g) (Group k) e = ap Group (ap (λ (f : TableFinding). f.group) e)
+same_answer : (r s : Result (Option ℕ) Refusal) → nearly_full_result r ≡ nearly_full_result s → r ≡ s
+same_answer (Err e) (Err f) h = ap Err (number-tells e f (ap (λ (f : TableFinding). f.number) h))
+same_answer (Err e) (Ok None) h = let p = number-positive e in absurd (omega (arith, ap (λ (f : TableFinding). f.number) h))
+same_answer (Err e) (Ok (Some g)) h = let p = number-positive e in absurd (omega (arith, ap (λ (f : TableFinding). f.number) h))
+same_answer (Ok None) (Err e) h = let p = number-positive e in absurd (omega (arith, ap (λ (f : TableFinding). f.number) h))
+same_answer (Ok (Some g)) (Err e) h = let p = number-positive e in absurd (omega (arith, ap (λ (f : TableFinding). f.number) h))
+same_answer (Ok None) (Ok None) h = refl
+same_answer (Ok None) (Ok (Some g)) h = never (sym (ap (λ (f : TableFinding). f.found) h))
+same_answer (Ok (Some g)) (Ok None) h = never (ap (λ (f : TableFinding). f.found) h)
+same_answer (Ok (Some g)) (Ok (Some k)) h = ap (λ (n : ℕ). Ok (Some n)) (ap (λ (f : TableFinding). f.group) h)
 
 pub found-decided : (t : Table) (mark : ℕ) → FoundDecided t mark
 found-decided t mark =

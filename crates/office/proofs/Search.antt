@@ -1,32 +1,21 @@
--- The search of the nearly-full question: where it ends, what is known in a turn of the loop, and what the loop's answer then says. Assumes
--- nothing.
+-- The search of the nearly-full question: where it ends, and that the program's answer says where. Assumes nothing.
 use mathlib.Core.Path.{◌≡◌, refl, sym, ap, ◌∙◌, subst}
-use mathlib.Core.Bool.{Bool, true, false, not, ◌&&◌, cond}
+use mathlib.Core.Bool.{Bool, true, false, not, cond}
 use mathlib.Core.List.{List, [], ◌∷◌}
-use Prim.Native.Nat.{ℕ, zero, suc, ◌+◌, ◌<◌, ◌≤◌}
+use Prim.Native.Nat.{ℕ, zero, suc, ◌+◌, ◌<◌}
 use native.Mathlib.Omega.{arith}
 use lib.Dec.{T as Holds}
-use lib.ListN.{length, get_or, length-map}
+use lib.ListN.{length, length-map}
+use Rattle.std.specs.Prelude.{Ok, Option, Some, position}
+use Rattle.std.specs.List.{position_from}
+use Rattle.std.proofs.lemmas.Iterator.Adapters.{position_from-zero}
 use borrow.Author.Tests.{eq-eqb, ne_eqb}
-use borrow.Author.Count.{below_more}
 use Rattle.groups.specs.declared.Record.{Record}
-use Rattle.groups.specs.Groups.{GroupState, record_of}
-use Rattle.office.specs.declared.NearlyFull.TheVariants.{Refused, None, Group}
+use Rattle.groups.specs.Groups.{record_of}
 use Rattle.office.specs.Table.{Table, session_at, above_mark, TableFinding, group_named, none_named, refused_finding, search_from, nearly_full_at, table_of, nearly_full_result}
-use Rattle.office.proofs.Laws.{group_read}
 
 pub never : {A : Type 0} → true ≡ false → A
 never e = absurd (subst Holds e tt)
-
--- ---- the test
-
-pub mark-closed : (t u : Bool) → not t ≡ true → false ≡ (t && u)
-mark-closed true u e = never (sym e)
-mark-closed false u e = refl
-
-pub mark-open : (t u : Bool) → not t ≡ false → u ≡ (t && u)
-mark-open true u e = refl
-mark-open false u e = never e
 
 -- ---- the search
 
@@ -64,36 +53,31 @@ module _ (t : Table) (mark : ℕ) where
   unfolding nearly_full_at
   refused other = ap (λ (b : Bool). cond (not b) refused_finding (search_from 0 t mark)) (ne_eqb (length t) 32 other)
 
--- ---- the loop
+-- ---- the program's answer
 
--- record g is open above the mark, where d is what is read past the end
-abbrev pub over : List Record → (mark g : ℕ) → (d : Record) → Bool
-over l mark g d = above_mark (record_of (get_or l g d)).session mark
+-- the search gives what the first place gives at which a record is open above the mark
+pub same-search : (l : List Record) (mark from : ℕ) (found : Option ℕ) → found ≡ position_from (λ r. above_mark (record_of r).session mark) from l
+    → nearly_full_result (Ok found) ≡ search_from from (table_of l) mark
+same-search l mark from found e = ap (λ (o : Option ℕ). nearly_full_result (Ok o)) e ∙ go from l
+  where
+    pick : (b : Bool) (from : ℕ) (o : Option ℕ)
+        → nearly_full_result (Ok (cond b (Some from) o)) ≡ cond b (group_named from) (nearly_full_result (Ok o))
+    pick true from o = refl
+    pick false from o = refl
 
-over-is : (l : List Record) (mark g : ℕ) (d : Record) → g < length l → above_mark (session_at (table_of l) g) mark ≡ over l mark g d
-over-is l mark g d less = ap (λ (r : GroupState). above_mark r.session mark) (sym (group_read l g d less))
+    go : (from : ℕ) (l : List Record)
+        → nearly_full_result (Ok (position_from (λ r. above_mark (record_of r).session mark) from l)) ≡ search_from from (table_of l) mark
+    go from [] = refl
+    go from (r ∷ l) =
+        pick (above_mark (record_of r).session mark) from (position_from (λ r. above_mark (record_of r).session mark) (from + 1) l)
+        ∙ ap (λ (later : TableFinding). cond (above_mark (record_of r).session mark) (group_named from) later) (go (from + 1) l)
 
--- a turn: no group below g is open above the mark
-abbrev pub Turn : List Record → (mark g : ℕ) → Type 0
-Turn l mark g = (g ≤ length l) × NoneBelow (table_of l) mark g
+module _ (l : List Record) (mark : ℕ) where
+  pub says-refused : (length l ≡ 32 → ⊥) → refused_finding ≡ nearly_full_at (table_of l) mark
+  says-refused other = sym (refused (table_of l) mark (λ e. other (sym (length-map l record_of) ∙ e)))
 
-pub says-refused : (l : List Record) (mark : ℕ) → (length l ≡ 32 → ⊥) → nearly_full_result Refused ≡ nearly_full_at (table_of l) mark
-says-refused l mark other = sym (refused (table_of l) mark (λ e. other (sym (length-map l record_of) ∙ e)))
-
-module _ (l : List Record) (mark g : ℕ) (inv : Turn l mark g) where
-  pub goes_on : g < length l → (d : Record) → over l mark g d ≡ false → Turn l mark (g + 1)
-  goes_on less d e = (omega arith, below_more _ g inv.1 (over-is l mark g d less ∙ e))
-
-  module _ (is32 : length l ≡ 32) where
-    search : search_from 0 (table_of l) mark ≡ nearly_full_at (table_of l) mark
-    search = sym (asked (table_of l) mark (length-map l record_of ∙ is32))
-
-    pub says-group : g < length l → (d : Record) → over l mark g d ≡ true → nearly_full_result (Group g) ≡ nearly_full_at (table_of l) mark
-    says-group less d e =
-        let within : g < length (table_of l) = subst (λ (n : ℕ). g < n) (sym (length-map l record_of)) less in
-        let same : g ≡ 0 + g = omega arith in
-        ap group_named same ∙ sym (names 0 (table_of l) mark g within inv.1 (over-is l mark g d less ∙ e)) ∙ search
-
-    pub says_none : g ≡ length l → nearly_full_result None ≡ nearly_full_at (table_of l) mark
-    says_none end =
-        sym (names-none 0 (table_of l) mark (subst (NoneBelow (table_of l) mark) (end ∙ sym (length-map l record_of)) inv.1)) ∙ search
+  pub says-found : length l ≡ 32 → (found : Option ℕ) → found ≡ position (λ r. above_mark (record_of r).session mark) l
+      → nearly_full_result (Ok found) ≡ nearly_full_at (table_of l) mark
+  says-found is32 found e =
+      same-search l mark 0 found (e ∙ position_from-zero (λ r. above_mark (record_of r).session mark) l)
+      ∙ sym (asked (table_of l) mark (length-map l record_of ∙ is32))

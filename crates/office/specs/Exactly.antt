@@ -1,7 +1,7 @@
 -- The numbers 1, 3, 4 and 10 at the table, each given if and only if its condition holds and no earlier one does, with the conditions as plain
 -- statements; what a call gives that meets none of them, and what it leaves of the table; starting a day, record by record; the nearly-full
 -- question's answer; and the table at first (document 01, "What stops a call" and "The row"; document 02, requests 4, 5 and 7). Assumes nothing.
-use Rattle.std.specs.Prelude.{true, false, List, ◌↔◌, ◌≢◌, ◌⊎◌, ◌≡◌, ℕ, ◌+◌, ◌<◌, ◌≤◌, length, set, replicate}
+use Rattle.std.specs.Prelude.{Result, Option, true, false, List, ◌↔◌, ◌≢◌, ◌⊎◌, ◌≡◌, ℕ, ◌+◌, ◌<◌, ◌≤◌, length, set, replicate}
 use Rattle.deck.specs.declared.DeckState.{DeckState}
 use Rattle.envelope.specs.Layout.{letter_s}
 use Rattle.modes.specs.Call.{CallInput}
@@ -9,7 +9,7 @@ use Rattle.modes.specs.Header.{HeaderOf, ForGroup}
 use Rattle.modes.specs.Mode.{sanse, incremental}
 use Rattle.modes.specs.Rules.{Outcome, check_number, count_of, new_session, wrap_at, unwrap_at}
 use Rattle.groups.specs.Groups.{charged, record_of}
-use Rattle.office.specs.declared.NearlyFull.{NearlyFull}
+use Rattle.refusals.specs.declared.Refusal.{Refusal}
 use Rattle.office.specs.Table.{Table, unopened, new_table, group_at, session_at, DayStart, start_day_at, TableOutcome, TableOpening, refused_by, written_back, wrap_group_at, unwrap_group_at, open_group_at, TableFinding, none_named, nearly_full_at, table_of, zero_record, nearly_full_result}
 
 -- 1: the call is handed a header that is not the layout's with letter S, the call's group and its own lengths
@@ -134,7 +134,7 @@ pub record FoundDecided (t : Table) (mark : ℕ) : Type 0 where
   pub search : (r : TableFinding) → FoundExactly t mark r ↔ (r ≡ nearly_full_at t mark)
   pub two : (r s : TableFinding) → FoundExactly t mark r → FoundExactly t mark s → r ≡ s
   -- and so it is as the program gives it, by cases
-  pub answers : (r s : NearlyFull) → FoundExactly t mark (nearly_full_result r) → FoundExactly t mark (nearly_full_result s) → r ≡ s
+  pub answers : (r s : Result (Option ℕ) Refusal) → FoundExactly t mark (nearly_full_result r) → FoundExactly t mark (nearly_full_result s) → r ≡ s
 
 -- ---- the table at first
 

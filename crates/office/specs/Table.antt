@@ -1,18 +1,18 @@
 -- The office's table of 32 records, which document 01 calls the row ("The row"; document 02, requests 4, 5 and 7), and the checks 1 and 3 of "What
 -- stops a call": what each call of the table gives and leaves, refused ones included, and what starting a day leaves. A group's own call is that
 -- of `groups`' `Groups`, with the checks 4 to 11. Assumes nothing.
-use Rattle.std.specs.Prelude.{Bool, true, false, not, ◌||◌, ◌&&◌, cond, List, [], ◌∷◌, map, ℕ, zero, suc, ◌+◌, ltb, eqb, length, get_or, set, replicate}
+use Rattle.std.specs.Prelude.{Result, Ok, Err, Option, None, Some, Bool, true, false, not, ◌||◌, ◌&&◌, cond, List, [], ◌∷◌, map, ℕ, zero, suc, ◌+◌, ltb, eqb, length, get_or, set, replicate}
 use Rattle.deck.specs.declared.DeckState.{DeckState}
 use Rattle.envelope.specs.Layout.{letter_s}
 use Rattle.modes.specs.Call.{CallInput}
 use Rattle.modes.specs.Header.{group_fits}
 use Rattle.modes.specs.Mode.{sanse, incremental}
 use Rattle.modes.specs.Rules.{SessionState, Outcome, closed, wrap_from5, unwrap_from5}
-use Rattle.session.specs.declared.Answer.{Answer}
+use Rattle.refusals.specs.declared.Refusal.{Refusal}
+use Rattle.refusals.specs.Numbers.{number_of}
+use Rattle.steps.specs.declared.Answer.{Answer}
 use Rattle.groups.specs.declared.Record.{Record}
 use Rattle.groups.specs.Groups.{GroupState, new_day, GroupOutcome, GroupOpening, on_day, open_on_day, record_of}
-use Rattle.office.specs.declared.NearlyFull.{NearlyFull}
-use Rattle.office.specs.declared.NearlyFull.TheVariants.{Refused, None, Group}
 
 -- ---- the table
 
@@ -31,6 +31,10 @@ new_table = replicate 32 unopened
 -- check 3, by the number of records: the table does not hold 32, or the group is above 31
 abbrev pub no_group_outcome : (records group : ℕ) → Bool
 no_group_outcome records group = not (eqb records 32) || ltb 31 group
+
+-- its number, or 0 where it is not met
+abbrev pub check_group : (records group : ℕ) → ℕ
+check_group records group = cond (no_group_outcome records group) 3 0
 
 -- the record of a group, and its session
 abbrev pub group_at : Table → (group : ℕ) → GroupState
@@ -144,11 +148,15 @@ nearly_full_at t mark = cond (not (eqb (length t) 32)) refused_finding (search_f
 
 -- the record that zeroed memory holds
 abbrev pub zero_record : Record
-zero_record = record { session = record { acc = replicate 12 0; mask = replicate 12 0; index = 0; toggle = false; opened = false }; count = 0 }
+zero_record =
+    record {
+      session = record { history = record { acc = replicate 12 0; mask = replicate 12 0; index = 0 }; toggle = false; opened = false };
+      count = 0;
+    }
 
--- what a call answers that check 3 refuses
-abbrev pub refused3 : Answer
-refused3 = record { number = 3; count = 0 }
+-- what a call answers that one of the checks 1 and 3 refuses
+abbrev pub refused_answer : Refusal → Answer
+refused_answer e = record { number = number_of e; count = 0 }
 
 -- the table that some records are
 abbrev pub table_of : List Record → Table
@@ -164,7 +172,7 @@ abbrev pub opening_result : Answer → (table : List Record) → TableOpening
 opening_result r table = record { number = r.number; count = r.count; table = table_of table }
 
 -- the number and the values of each case of the program's answer
-abbrev pub nearly_full_result : NearlyFull → TableFinding
-nearly_full_result Refused = refused_finding
-nearly_full_result None = none_named
-nearly_full_result (Group group) = group_named group
+abbrev pub nearly_full_result : Result (Option ℕ) Refusal → TableFinding
+nearly_full_result (Err e) = record { number = number_of e; found = false; group = 0 }
+nearly_full_result (Ok None) = none_named
+nearly_full_result (Ok (Some group)) = group_named group

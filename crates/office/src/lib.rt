@@ -1,27 +1,23 @@
 // The office's table: a lent run of 32 records, one for each group, each a session and the group's own day's count; the day's allowance is one
-// for all groups, and handed to each call. A call reads one group's record, calls the function by value, and writes the record back.
+// for all groups, and handed to each call. A call reads one group's record, calls the function by value, and writes the record back. Table, group and
+// allowance are handed apart, as C hands them (`pevghazo_wrap_group` and its neighbours): a struct would be made there only to be taken apart here.
+// `four` is whether full blocks are taken four side by side (document 02, request 10): it alters nothing but the time, and no clause speaks of it.
 #![tactic(auto)]
 
-ghost use Rattle.std.specs.Prelude.{◌≡◌};
+ghost use Rattle.std.specs.Prelude.{◌≡◌, position};
 ghost use Rattle.sanse.specs.Session.{handed};
 ghost use Rattle.groups.specs.Groups.{record_of};
-ghost use Rattle.office.specs.Table.{no_group_outcome, refused3, above_mark, table_of, day_result, table_result, opening_result, start_day_at, wrap_group_at, unwrap_group_at, open_group_at, nearly_full_at, nearly_full_result};
+ghost use Rattle.refusals.specs.Numbers.{number_given};
+ghost use Rattle.office.specs.Table.{check_group, refused_answer, above_mark, table_of, day_result, table_result, opening_result, start_day_at, wrap_group_at, unwrap_group_at, open_group_at, nearly_full_at, nearly_full_result};
 
 use groups::Record;
-use session::Answer;
+use refusals::Refusal;
+use steps::Answer;
 
 // The records of a table, and its highest group.
 const GROUPS: usize = 32;
 
 const HIGHEST_GROUP: usize = 31;
-
-// The answer of the nearly-full question: check 3, or no group is open with an index above the mark, or the lowest group that is.
-#[derive(Clone, Copy)]
-pub enum NearlyFull {
-    Refused,
-    None,
-    Group(usize),
-}
 
 // ---- the day
 
@@ -29,32 +25,30 @@ pub enum NearlyFull {
 pub fn start_day(records: &mut [Record], allowance: u32) -> u32
     ensures { day_result result records.new ≡ start_day_at allowance (table_of records.old) }
 {
-    let mut k = 0;
-    while k < records.len() {
-        records[k] = groups::new_day(records[k]);
-        k += 1;
+    for r in records.iter_mut() {
+        *r = groups::new_day(*r);
     }
     allowance
 }
 
 // ---- check 3
 
-// Whether a table of some records has no such group.
-pub fn no_group(records: usize, group: usize) -> bool
-    ensures { result ≡ no_group_outcome records group }
+// Whether a table of some records has such a group.
+pub fn check_group(records: usize, group: usize) -> Result<(), Refusal>
+    ensures { number_given result ≡ check_group records group }
 {
-    if records != GROUPS {
-        return true;
+    if records != GROUPS || HIGHEST_GROUP < group {
+        return Err(Refusal::BadGroup);
     }
-    HIGHEST_GROUP < group
+    Ok(())
 }
 
-// Refused by 3: nothing counted.
-pub fn refused3() -> Answer
-    ensures { result ≡ refused3 }
+// Refused: nothing counted.
+pub fn refused(e: Refusal) -> Answer
+    ensures { result ≡ refused_answer e }
 {
     Answer {
-        number: 3,
+        number: u32::from(e),
         count: 0,
     }
 }
@@ -65,15 +59,12 @@ pub fn refused3() -> Answer
 pub fn open_group(table: &mut [Record], group: usize, allowance: u32, key: &[u8]) -> Answer
     ensures { opening_result result table.new ≡ open_group_at allowance (table_of table.old) group key.now }
 {
-    if no_group(table.len(), group) {
-        return refused3();
+    if let Err(e) = check_group(table.len(), group) {
+        return refused(e);
     }
     let r = groups::open(table[group], allowance, key);
     table[group] = r.left;
-    Answer {
-        number: r.number,
-        count: r.count,
-    }
+    r.into()
 }
 
 // Wraps a message for a group: the cryptogram goes to the start of `out`, and the tag fills `tag`. Checks 3 and 5 to 10.
@@ -85,20 +76,18 @@ pub fn wrap_group(
     message: &[u8],
     out: &mut [u8],
     tag: &mut [u8],
+    four: bool,
 ) -> Answer
     ensures { table_result result table.new out.new tag.new
         ≡ wrap_group_at allowance (table_of table.old) group
         (handed metadata.now message.now out.old tag.old) }
 {
-    if no_group(table.len(), group) {
-        return refused3();
+    if let Err(e) = check_group(table.len(), group) {
+        return refused(e);
     }
-    let r = groups::wrap(table[group], allowance, metadata, message, out, tag, false);
+    let r = groups::wrap(table[group], allowance, metadata, message, out, tag, four);
     table[group] = r.left;
-    Answer {
-        number: r.number,
-        count: r.count,
-    }
+    r.into()
 }
 
 // Unwraps a cryptogram for a group: the message goes to the start of `out`. Checks 3, 5 to 10 and 11.
@@ -110,13 +99,14 @@ pub fn unwrap_group(
     cryptogram: &[u8],
     tag: &[u8],
     out: &mut [u8],
+    four: bool,
 ) -> Answer
     ensures { table_result result table.new out.new tag.now
         ≡ unwrap_group_at allowance (table_of table.old) group
         (handed metadata.now cryptogram.now out.old tag.now) }
 {
-    if no_group(table.len(), group) {
-        return refused3();
+    if let Err(e) = check_group(table.len(), group) {
+        return refused(e);
     }
     let r = groups::unwrap(
         table[group],
@@ -125,43 +115,29 @@ pub fn unwrap_group(
         cryptogram,
         tag,
         out,
-        false,
+        four,
     );
     table[group] = r.left;
-    Answer {
-        number: r.number,
-        count: r.count,
-    }
+    r.into()
 }
 
 // ---- the nearly-full question
 
-// Whether a group's session is open with an index above the mark.
-fn above_mark(r: Record, mark: u32) -> bool
-    ensures { result ≡ above_mark (record_of r).session mark }
+// The lowest group whose session is open with an index above the mark, if there is one.
+fn first_above(table: &[Record], mark: u32) -> Option<usize>
+    ensures { result ≡ position (λ r. above_mark (record_of r).session mark) table.now }
 {
-    let s = r.session;
-    if !s.opened {
-        return false;
-    }
-    mark < s.index
+    table
+        .iter()
+        .position(|r| r.session.opened && mark < r.session.history.index)
 }
 
 // The nearly-full question: the lowest group that is open with an index above the mark, or none. Check 3.
-pub fn nearly_full(table: &[Record], mark: u32) -> NearlyFull
+pub fn nearly_full(table: &[Record], mark: u32) -> Result<Option<usize>, Refusal>
     ensures { nearly_full_result result ≡ nearly_full_at (table_of table.now) mark }
 {
     if table.len() != GROUPS {
-        return NearlyFull::Refused;
+        return Err(Refusal::BadGroup);
     }
-    let mut g = 0;
-    loop {
-        if g == table.len() {
-            break NearlyFull::None;
-        }
-        if above_mark(table[g], mark) {
-            break NearlyFull::Group(g);
-        }
-        g += 1;
-    }
+    Ok(first_above(table, mark))
 }

@@ -1,6 +1,7 @@
 -- The clauses of the crate's public functions: each has just one clause, its equation of the office's `Table`, and asks nothing of a call. Assumes
 -- nothing.
 use mathlib.Core.Path.{◌≡◌, refl}
+use mathlib.Core.Bool.{Bool, true, false}
 use seplogic.Ra.Ura.{Ura}
 use base.Logic.{SProp}
 use prog.Memory.{Memory}
@@ -39,3 +40,23 @@ module _ {M : Type 1} {𝓤 : Ura M} (𝓛 : Logic 𝓤) (mem : Memory → SProp
       ≡ unwrap_group_at a.1.1.0 (table_of a.0.now) a.1.0
       (handed_for a.1.1.1.0.now a.1.1.1.1.0.now a.1.1.1.1.1.0.now a.1.1.1.1.1.1.1.0.now a.1.1.1.1.1.1.0.now))
   unwrap-envelope-ensures κs a r z = refl
+
+  -- ---- whether full blocks are taken four side by side alters no clause (document 02, request 10): of any call the clauses where they
+  -- are, are those where they are not, all of them
+  -- a call with the last argument four
+  abbrev pub wrap-envelope-by : (κs : Lfts 6) (a : Args wrap-envelope.signature κs) (four : Bool) → Args wrap-envelope.signature κs
+  wrap-envelope-by κs a t =
+      (a.0, (a.1.0, (a.1.1.0, (a.1.1.1.0, (a.1.1.1.1.0, (a.1.1.1.1.1.0, (a.1.1.1.1.1.1.0, (a.1.1.1.1.1.1.1.0, (t, a.1.1.1.1.1.1.1.1.1)))))))))
+
+  pub wrap-envelope-same : (κs : Lfts 6) (a : Args wrap-envelope.signature κs)
+      → wrap-envelope.clauses 𝓛 mem run κs (wrap-envelope-by κs a true) ≡ wrap-envelope.clauses 𝓛 mem run κs (wrap-envelope-by κs a false)
+  wrap-envelope-same κs a = refl
+
+  -- a call with the last argument four
+  abbrev pub unwrap-envelope-by : (κs : Lfts 6) (a : Args unwrap-envelope.signature κs) (four : Bool) → Args unwrap-envelope.signature κs
+  unwrap-envelope-by κs a t =
+      (a.0, (a.1.0, (a.1.1.0, (a.1.1.1.0, (a.1.1.1.1.0, (a.1.1.1.1.1.0, (a.1.1.1.1.1.1.0, (a.1.1.1.1.1.1.1.0, (t, a.1.1.1.1.1.1.1.1.1)))))))))
+
+  pub unwrap-envelope-same : (κs : Lfts 6) (a : Args unwrap-envelope.signature κs)
+      → unwrap-envelope.clauses 𝓛 mem run κs (unwrap-envelope-by κs a true) ≡ unwrap-envelope.clauses 𝓛 mem run κs (unwrap-envelope-by κs a false)
+  unwrap-envelope-same κs a = refl

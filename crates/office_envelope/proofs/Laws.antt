@@ -1,5 +1,5 @@
 -- How the first of the checks 1 and 3 comes out, over plain values. Assumes nothing.
-use mathlib.Core.Path.{◌≡◌, refl, sym, ◌∙◌}
+use mathlib.Core.Path.{◌≡◌, refl}
 use mathlib.Core.Bool.{Bool, true, false}
 use mathlib.Core.List.{List}
 use Prim.Native.Nat.{ℕ, ◌<◌, ◌≤◌}
@@ -12,16 +12,13 @@ use Rattle.office.specs.Table.{no_group_outcome, table_check}
 use Rattle.office.proofs.Laws.{inside}
 
 -- where neither of them is met, the header passes and the table has the group
-neither : (passes none : Bool) → table_check passes none ≡ 0 → (passes ≡ true) × (none ≡ false)
+neither : (passes none : Bool) → ◌≡◌ {A = ℕ} 0 (table_check passes none) → (passes ≡ true) × (none ≡ false)
 neither true false e = (refl, refl)
 neither true true e = absurd (omega arith)
 neither false none e = absurd (omega arith)
 
--- n is the first of them, of a call for group g of a table of k records, with this header and the lengths a of the metadata and m of the text
-module _ (header : List ℕ) (a m k g n : ℕ) (first : n ≡ table_check (fits_group letter_s g a m header) (no_group_outcome k g)) (none : n ≡ 0) where
-  pub goes_on : table_check (fits_group letter_s g a m header) (no_group_outcome k g) ≡ 0
-  goes_on = sym first ∙ none
-
+-- of a call for group g of a table of k records, with this header and the lengths a of the metadata and m of the text, neither is met
+module _ (header : List ℕ) (a m k g : ℕ) (goes_on : 0 ≡ table_check (fits_group letter_s g a m header) (no_group_outcome k g)) where
   has-group : no_group_outcome k g ≡ false
   has-group = (neither (fits_group letter_s g a m header) (no_group_outcome k g) goes_on).1
 

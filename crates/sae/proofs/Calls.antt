@@ -2,7 +2,7 @@
 use mathlib.Core.Path.{◌≡◌, refl, sym}
 use mathlib.Core.Bool.{true, false, not, ◌||◌, cond}
 use mathlib.Core.List.{List, [], ◌∷◌}
-use Prim.Native.Nat.{ℕ, ◌+◌, ◌≤◌}
+use Prim.Native.Nat.{ℕ, ◌+◌}
 use native.Mathlib.Omega.{arith}
 use lib.ListN.{length}
 use Rattle.word.specs.Lists.{sum}
@@ -14,9 +14,9 @@ use Rattle.deck.specs.Incremental.{output}
 use Rattle.deck.specs.Closing.{closing_byte, closed_by}
 use Rattle.envelope.specs.Layout.{letter_f}
 use Rattle.modes.specs.Call.{CallInput}
-use Rattle.modes.specs.Mode.{is_empty, incremental, with_text, tag_of}
+use Rattle.modes.specs.Mode.{is_empty, incremental}
 use Rattle.modes.specs.Rules.{SessionState, growth, first_check_of, metadata_string, written, unwrap_steps, unwrap_from5, unwrap_at}
-use Rattle.sae_mode.specs.Sae.{sae, sae_parameters, Handed, input_of}
+use Rattle.sae_mode.specs.Sae.{sae, Handed, input_of}
 use Rattle.sae_mode.proofs.Papers.{short}
 use Rattle.steps.specs.Steps.{compressed_if, output_count}
 use Rattle.steps.proofs.Calls.{Begun, within, first_of, Worked, fitted-unwrap}
@@ -31,10 +31,6 @@ pub closing-C : closing_byte (true ∷ []) ≡ 3
 unfolding closing_byte
 closing-C = refl
 
--- what is known once the tag is found, as of every mode with these steps
-abbrev pub Done : (s : SessionState DeckState) (i : CallInput) (n : ℕ) (d : DeckState) (c : ℕ) (h : Compressed) (q : ℕ) (o y : List ℕ) (g : Compressed) (t : List ℕ) → Type 0
-Done = stream.Done letter_f (λ e. false ∷ []) (λ e. true ∷ []) (λ e. e)
-
 -- the first check that an unwrap meets
 pub first-of : (s : SessionState DeckState) (i : Handed) {n : ℕ}
     → n ≡ first_check_of s.opened (s.history.index + growth (length i.metadata) (length i.text)) 16 (length i.metadata) (length i.text) (length i.tag) (length i.out)
@@ -43,38 +39,31 @@ unfolding metadata_string
 first-of s i h = h
 
 -- what the code knows once no check was met and A is in the history
-pub begun-of : (s : SessionState DeckState) (i : Handed) {n : ℕ} {d : DeckState} {h : Compressed}
-    → n ≡ first_check_of s.opened (s.history.index + growth (length i.metadata) (length i.text)) 16 (length i.metadata) (length i.text) (length i.tag) (length i.out)
-    → n ≡ 0 → d ≡ s.history → h ≡ compressed_if (not (is_empty i.metadata) || is_empty i.text) d (closed_by i.metadata 2)
-    → Begun sae s (input_of i) n d 2 h
+pub begun-of : (s : SessionState DeckState) (i : Handed) {h : Compressed}
+    → 0 ≡ first_check_of s.opened (s.history.index + growth (length i.metadata) (length i.text)) 16 (length i.metadata) (length i.text) (length i.tag) (length i.out)
+    → h ≡ compressed_if (not (is_empty i.metadata) || is_empty i.text) s.history (closed_by i.metadata 2)
+    → Begun sae s (input_of i) 2 h
 unfolding metadata_string
-begun-of s i e z held is =
+begun-of s i e is =
     let k = first-of s i e in
-    record {
-      checked = k;
-      none = z;
-      held = held;
-      closes = sym closing-A;
-      long = omega (arith, (within sae s (input_of i) k z).metadata);
-      is_a = is;
-    }
+    record { none = k; closes = sym closing-A; long = omega (arith, (within sae s (input_of i) k).metadata); is_a = is }
 
--- and once the tag is found
-pub done-of : {s : SessionState DeckState} {i : CallInput} {n : ℕ} {d : DeckState} {c : ℕ} {h : Compressed} {q : ℕ} {o : List ℕ} {g : Compressed} {t : List ℕ}
-    → Begun sae s i n d c h
-    → (o ≡ written (sum i.text (run (output d) 16 (length i.text))) i.out) × (q ≡ cond (is_empty i.text) 0 (output_count 16 (length i.text)))
-    → (g.state ≡ with_text sae_parameters incremental h.state s.toggle i.text) × (t ≡ tag_of sae_parameters incremental g.state)
-    × (g.count ≡ cond (is_empty i.text) 0 (b (length i.text)) + output_count 0 16)
-    → Done s i n d c h q o i.text g t
-done-of b q f = record { begun = b; streamed = q; sized = refl; finished = f }
+-- what is known once the tag is found, as of every mode with these steps
+abbrev pub Done : (s : SessionState DeckState) (i : CallInput) (c : ℕ) (h : Compressed) (q : ℕ) (o y : List ℕ) (c' : ℕ) (g : Compressed) (t : List ℕ) → Type 0
+Done = stream.Done letter_f (λ e. false ∷ []) (λ e. true ∷ []) (λ e. e)
 
-module _ {s : SessionState DeckState} {i : CallInput} {n : ℕ} {d : DeckState} {c : ℕ} {h : Compressed} {q : ℕ} {o y : List ℕ} {g : Compressed} {t : List ℕ}
-    (k : Done s i n d c h q o y g t) where
-  pub done-most : q + h.count + g.count ≤ 1030
-  done-most = stream.done-most letter_f (λ e. false ∷ []) (λ e. true ∷ []) (λ e. e) short k
+-- from what the code knows then
+pub done-of : {s : SessionState DeckState} {i : CallInput} {c : ℕ} {h : Compressed} {q : ℕ} {o : List ℕ} {g : Compressed} {t : List ℕ}
+    → Begun sae s i c h → o ≡ written (sum i.text (run (output s.history) 16 (length i.text))) i.out
+    → q ≡ cond (is_empty i.text) 0 (output_count 16 (length i.text))
+    → g.state ≡ (compressed_if (not (is_empty i.text)) h.state (closed_by i.text 3)).state → t ≡ run (output g.state) 0 16
+    → g.count ≡ (compressed_if (not (is_empty i.text)) h.state (closed_by i.text 3)).count + output_count 0 16
+    → Done s i c h q o i.text 3 g t
+done-of b q z = stream.done-of letter_f (λ e. false ∷ []) (λ e. true ∷ []) (λ e. e) b q z refl (sym closing-C) refl
 
-  pub unwrap-worked : y ≡ i.text → Worked sae s i (unwrap_steps sae incremental s i) g.state (q + h.count + g.count) o t
-  unwrap-worked = stream.unwrap-worked letter_f (λ e. false ∷ []) (λ e. true ∷ []) (λ e. e) short k
+pub unwrap-worked : {s : SessionState DeckState} {i : CallInput} {c : ℕ} {h : Compressed} {q : ℕ} {o : List ℕ} {g : Compressed} {t : List ℕ}
+    → Done s i c h q o i.text 3 g t → Worked sae s i (unwrap_steps sae incremental s i) g.state (q + h.count + g.count) o t
+unwrap-worked k = stream.unwrap-worked letter_f (λ e. false ∷ []) (λ e. true ∷ []) (λ e. e) short k refl
 
 -- without a header check 1 is not met
 pub from-5 : (s : SessionState DeckState) (i : Handed) → unwrap_from5 sae incremental s (input_of i) ≡ unwrap_at sae incremental s (input_of i)

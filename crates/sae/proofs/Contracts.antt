@@ -23,7 +23,7 @@ use Rattle.modes.proofs.AnySession.{any-unwrap}
 use Rattle.sae_mode.specs.Sae.{sae, sae_parameters, Handed, input_of, sae_wrap_at, sae_unwrap_at}
 use Rattle.sae_mode.specs.Promises.{SaePromises}
 use Rattle.sae.specs.declared.SaeSession.{SaeSession}
-use Rattle.sae.specs.declared.SaeResult.{SaeResult}
+use Rattle.steps.specs.declared.CallResult.{CallResult}
 use Rattle.sae.specs.Session.{state_of, nonce_result, call_result, handed, sae_kind}
 use Rattle.sae.specs.contracts.start as start
 use Rattle.sae.specs.contracts.wrap as wrap
@@ -83,7 +83,7 @@ module _ {M : Type 1} {𝓤 : Ura M} (𝓛 : Logic 𝓤) (mem : Memory → SProp
 -- ---- the promises: a call with some arguments, of which the function's `ensures` holds
 
 -- a start that was handed key, nonce and tag buffer gave r, and left the tag buffer
-pub record StartPromise (key nonce tag : List ℕ) (r : SaeResult) (tag' : List ℕ) : Type 0 where
+pub record StartPromise (key nonce tag : List ℕ) (r : CallResult SaeSession) (tag' : List ℕ) : Type 0 where
   pub κs : Lfts 3
   pub args : Dens κs start-ps
   pub exits : AtExit (ended_of 3 start-ps start-r) κs
@@ -94,7 +94,7 @@ pub record StartPromise (key nonce tag : List ℕ) (r : SaeResult) (tag' : List 
   pub met : StartPost κs args r exits
 
 -- a wrap that was handed the record s and i gave r, and left the output buffer and the tag
-pub record WrapPromise (s : SaeSession) (i : Handed) (r : SaeResult) (out tag : List ℕ) : Type 0 where
+pub record WrapPromise (s : SaeSession) (i : Handed) (r : CallResult SaeSession) (out tag : List ℕ) : Type 0 where
   pub κs : Lfts 4
   pub args : Dens κs wrap-ps
   pub exits : AtExit (ended_of 4 wrap-ps wrap-r) κs
@@ -105,7 +105,7 @@ pub record WrapPromise (s : SaeSession) (i : Handed) (r : SaeResult) (out tag : 
   pub met : WrapPost κs args r exits
 
 -- and so of an unwrap, whose tag is a shared slice: no call alters it
-pub record UnwrapPromise (s : SaeSession) (i : Handed) (r : SaeResult) (out tag : List ℕ) : Type 0 where
+pub record UnwrapPromise (s : SaeSession) (i : Handed) (r : CallResult SaeSession) (out tag : List ℕ) : Type 0 where
   pub κs : Lfts 4
   pub args : Dens κs unwrap-ps
   pub exits : AtExit (ended_of 4 unwrap-ps unwrap-r) κs
@@ -117,19 +117,19 @@ pub record UnwrapPromise (s : SaeSession) (i : Handed) (r : SaeResult) (out tag 
 
 -- ---- every call of which the function's `ensures` holds keeps its promise: nothing else is asked of it
 
-pub start-kept : (κs : Lfts 3) (args : Dens κs start-ps) (exits : AtExit (ended_of 3 start-ps start-r) κs) (r : SaeResult)
+pub start-kept : (κs : Lfts 3) (args : Dens κs start-ps) (exits : AtExit (ended_of 3 start-ps start-r) κs) (r : CallResult SaeSession)
     → StartPost κs args r exits → StartPromise args.0.now args.1.0.now args.1.1.0.now r exits.1.1.0.now
 start-kept κs args exits r h =
     record { κs = κs; args = args; exits = exits; is_key = refl; is_nonce = refl; is_tag = refl; is_left = refl; met = h }
 
-pub wrap-kept : (κs : Lfts 4) (args : Dens κs wrap-ps) (exits : AtExit (ended_of 4 wrap-ps wrap-r) κs) (r : SaeResult)
+pub wrap-kept : (κs : Lfts 4) (args : Dens κs wrap-ps) (exits : AtExit (ended_of 4 wrap-ps wrap-r) κs) (r : CallResult SaeSession)
     → WrapPost κs args r exits
     → WrapPromise args.0 (handed args.1.0.now args.1.1.0.now args.1.1.1.0.now args.1.1.1.1.0.now) r
     exits.1.1.1.0.now exits.1.1.1.1.0.now
 wrap-kept κs args exits r h =
     record { κs = κs; args = args; exits = exits; is_record = refl; is_input = refl; is_out = refl; is_tag = refl; met = h }
 
-pub unwrap-kept : (κs : Lfts 4) (args : Dens κs unwrap-ps) (exits : AtExit (ended_of 4 unwrap-ps unwrap-r) κs) (r : SaeResult)
+pub unwrap-kept : (κs : Lfts 4) (args : Dens κs unwrap-ps) (exits : AtExit (ended_of 4 unwrap-ps unwrap-r) κs) (r : CallResult SaeSession)
     → UnwrapPost κs args r exits
     → UnwrapPromise args.0 (handed args.1.0.now args.1.1.0.now args.1.1.1.1.0.now args.1.1.1.0.now) r
     exits.1.1.1.1.0.now args.1.1.1.0.now
@@ -152,7 +152,7 @@ lifetimes = ([], ([], ([], ([], tt))))
 
 -- ---- what they say: just the equation with the rules
 
-pub start_is : (key nonce tag : List ℕ) (r : SaeResult) (tag' : List ℕ)
+pub start_is : (key nonce tag : List ℕ) (r : CallResult SaeSession) (tag' : List ℕ)
     → StartPromise key nonce tag r tag' ↔ (nonce_result r tag' ≡ nonce_start_at sae_parameters key nonce tag)
 start_is key nonce tag r tag' = (
   λ p.
@@ -161,7 +161,7 @@ start_is key nonce tag r tag' = (
   λ e. start-kept ([], ([], ([], tt))) (to key, (to nonce, (into tag, tt))) (to key, (to nonce, (into tag', tt))) r e,
 )
 
-module _ (s : SaeSession) (i : Handed) (r : SaeResult) (out tag : List ℕ) where
+module _ (s : SaeSession) (i : Handed) (r : CallResult SaeSession) (out tag : List ℕ) where
   -- the tag handed to an unwrap is not altered
   tag-kept : call_result r out tag ≡ sae_unwrap_at incremental (state_of s) i → i.tag ≡ tag
   tag-kept e = sym (ap (λ (o : Outcome DeckState). o.tag) e ∙ (any-unwrap sae incremental (state_of s) (input_of i)).tag)

@@ -18,7 +18,7 @@ use Rattle.sae_mode.specs.Box.{OldLetters}
 use Rattle.sae_mode.specs.Promises.{SaeStart, SaePromises, Run, SaeStartOf, AnySaeCallOf, OneLetterOf, OldLettersOf, LettersComeBackOf, SaeRunsExist}
 use Rattle.sae_mode.proofs.Demands.{SaeByRules, start_of, starts-exist, accepted-exist, any-call-of, one-letter-of, old-letters-of, letters-come-back-of, runs-exist}
 use Rattle.sae.specs.declared.SaeSession.{SaeSession}
-use Rattle.sae.specs.declared.SaeResult.{SaeResult}
+use Rattle.steps.specs.declared.CallResult.{CallResult}
 use Rattle.sae.specs.Session.{state_of, nonce_result, call_result, sae_kind}
 use Rattle.sae.proofs.Contracts.{StartPromise, promises, start_is, wrap-is, unwrap-is}
 
@@ -26,18 +26,18 @@ use Rattle.sae.proofs.Contracts.{StartPromise, promises, start_is, wrap-is, unwr
 
 pub start-says : (starts : NonceStarts sae_kind)
     → SaeStartOf sae_kind starts
-    ≡ ((key nonce tag : List ℕ) (r : SaeResult) (tag' : List ℕ) → starts key nonce tag r tag' → SaeStart key nonce tag (nonce_result r tag'))
+    ≡ ((key nonce tag : List ℕ) (r : CallResult SaeSession) (tag' : List ℕ) → starts key nonce tag r tag' → SaeStart key nonce tag (nonce_result r tag'))
 start-says starts = refl
 
 pub letters-say : (starts : NonceStarts sae_kind) (p : SaePromises sae_kind)
     → OldLettersOf sae_kind starts p
-    ≡ ((key nonce t : List ℕ) (first : SaeResult) (t' : List ℕ) → starts key nonce t first t' → first.number ≡ 0
-    → (cs : List SaeCall) (os : List (Outcome DeckState)) (q : SaeSession) → Run sae_kind p cs first.session os q
+    ≡ ((key nonce t : List ℕ) (first : CallResult SaeSession) (t' : List ℕ) → starts key nonce t first t' → first.number ≡ 0
+    → (cs : List SaeCall) (os : List (Outcome DeckState)) (q : SaeSession) → Run sae_kind p cs first.left os q
     → OldLetters key nonce cs os (state_of q))
 letters-say starts p = refl
 
 -- and of one call, of any record and of the record of a history
-module _ (p : SaePromises sae_kind) (s : SaeSession) (i : Handed) (r : SaeResult) (out tag : List ℕ) where
+module _ (p : SaePromises sae_kind) (s : SaeSession) (i : Handed) (r : CallResult SaeSession) (out tag : List ℕ) where
   pub any-wrap-says : AnySaeCallOf sae_kind p → p.wraps s i r out tag
       → call_result r out tag ≡ record { number = 18; count = 0; session = state_of s; out = i.out; tag = i.tag }
   any-wrap-says c = c.wraps s i r out tag
@@ -81,12 +81,7 @@ pub whole : Whole sae_kind
 whole =
     record {
       made = λ n c s.
-          let d = s.history in
-          record {
-            number = n;
-            count = c;
-            session = record { acc = d.acc; mask = d.mask; index = d.index; toggle = s.toggle; opened = s.opened };
-          };
+          record { number = n; count = c; left = record { history = s.history; toggle = s.toggle; opened = s.opened } };
       same = λ n c s. refl;
     }
 

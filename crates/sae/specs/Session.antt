@@ -8,30 +8,30 @@ use Rattle.modes.specs.Promises as promises
 use Rattle.modes.specs.SaneDemands as starts
 use Rattle.sae_mode.specs.Sae.{Handed}
 use Rattle.sae.specs.declared.SaeSession.{SaeSession}
-use Rattle.sae.specs.declared.SaeResult.{SaeResult}
+use Rattle.steps.specs.declared.CallResult.{CallResult}
 
 -- the session that a record holds
 abbrev pub state_of : SaeSession → SessionState DeckState
-state_of s = record { history = record { acc = s.acc; mask = s.mask; index = s.index }; toggle = s.toggle; opened = s.opened }
+state_of s = record { history = s.history; toggle = s.toggle; opened = s.opened }
 
 -- the kind of record
 abbrev pub sae_kind : promises.Kind
 sae_kind =
     record {
       Record = SaeSession;
-      Result = SaeResult;
+      Result = CallResult SaeSession;
       state_of = state_of;
       number = λ r. r.number;
       count = λ r. r.count;
-      left = λ r. r.session;
+      left = λ r. r.left;
     }
 
 -- what start gave, with the tag buffer as it left it
-abbrev pub nonce_result : SaeResult → (tag : List ℕ) → NonceOpening
+abbrev pub nonce_result : CallResult SaeSession → (tag : List ℕ) → NonceOpening
 nonce_result = starts.nonce_result sae_kind
 
 -- what wrap or unwrap gave, with the output buffer and the tag as the call left them
-abbrev pub call_result : SaeResult → (out tag : List ℕ) → Outcome DeckState
+abbrev pub call_result : CallResult SaeSession → (out tag : List ℕ) → Outcome DeckState
 call_result = promises.call_result sae_kind
 
 -- what wrap or unwrap was handed beside the record

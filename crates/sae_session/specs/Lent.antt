@@ -6,14 +6,14 @@ use Rattle.modes.specs.Rules.{nonce_start_at}
 use Rattle.modes.specs.SaneDemands.{NonceStarts}
 use Rattle.sae_mode.specs.Sae.{sae_parameters, Handed, sae_wrap_at, sae_unwrap_at}
 use Rattle.sae_mode.specs.Promises.{SaePromises, sae_by_rules, sae_start_by_rules}
+use Rattle.steps.specs.declared.Answer.{Answer}
+use Rattle.steps.specs.declared.CallResult.{CallResult}
 use Rattle.sae.specs.declared.SaeSession.{SaeSession}
-use Rattle.sae.specs.declared.SaeResult.{SaeResult}
 use Rattle.sae.specs.Session.{state_of, nonce_result, call_result, sae_kind}
-use Rattle.session.specs.declared.Answer.{Answer}
 
 -- an answer, with the record as the call left it
-abbrev pub result_of : Answer → SaeSession → SaeResult
-result_of r s = record { number = r.number; count = r.count; session = s }
+abbrev pub result_of : Answer → SaeSession → CallResult SaeSession
+result_of r s = record { number = r.number; count = r.count; left = s }
 
 -- a start with the key, the nonce and the tag buffer answered r and left the record s and the tag buffer tag'. What the record was before does
 -- not matter

@@ -7,7 +7,7 @@ ghost use Rattle.sae.specs.Session.{handed};
 ghost use Rattle.sae_session.specs.Lent.{Started, Unwrapped, Wrapped};
 
 use sae::SaeSession;
-use session::Answer;
+use steps::Answer;
 
 // Opens a session in the place of the record, under a key of 16 to 47 bytes and with the nonce that the letters were made with, up to 16,384 bytes.
 // The tag of the start fills `tag`, which has 16 bytes. Checks 4, 6 and 7; a refused start closes the record and keeps `tag`.
@@ -15,11 +15,8 @@ pub fn start(s: &mut SaeSession, key: &[u8], nonce: &[u8], tag: &mut [u8]) -> An
     ensures { Started key.now nonce.now tag.old result s.new tag.new }
 {
     let r = sae::start(key, nonce, tag);
-    *s = r.session;
-    Answer {
-        number: r.number,
-        count: r.count,
-    }
+    *s = r.left;
+    r.into()
 }
 
 // Opens the next letter: the message goes to the start of `out`. Checks 5 to 9 and 11.
@@ -34,11 +31,8 @@ pub fn unwrap(
         result s.new out.new tag.now }
 {
     let r = sae::unwrap(*s, metadata, cryptogram, tag, out);
-    *s = r.session;
-    Answer {
-        number: r.number,
-        count: r.count,
-    }
+    *s = r.left;
+    r.into()
 }
 
 // No letter is made: 18, whatever the record and the rest, and nothing is altered.
@@ -53,9 +47,6 @@ pub fn wrap(
         result s.new out.new tag.new }
 {
     let r = sae::wrap(*s, metadata, message, out, tag);
-    *s = r.session;
-    Answer {
-        number: r.number,
-        count: r.count,
-    }
+    *s = r.left;
+    r.into()
 }

@@ -24,7 +24,7 @@ use Rattle.modes.specs.Rules.{Outcome, nonce_start_at, wrap_at, unwrap_at}
 use Rattle.modes.proofs.AnySession.{any-unwrap}
 use Rattle.deck.specs.declared.DeckState.{DeckState}
 use Rattle.sane.specs.declared.SaneSession.{SaneSession}
-use Rattle.sane.specs.declared.SaneResult.{SaneResult}
+use Rattle.steps.specs.declared.CallResult.{CallResult}
 use Rattle.sane.specs.Session.{state_of, nonce_result, call_result, handed, handed_for, sane_kind}
 use Rattle.sane.specs.contracts.start as start
 use Rattle.sane.specs.contracts.wrap as wrap
@@ -124,7 +124,7 @@ module _ {M : Type 1} {𝓤 : Ura M} (𝓛 : Logic 𝓤) (mem : Memory → SProp
 -- ---- the promises: a call with some arguments, of which the function's `ensures` holds
 
 -- a start that was handed key, nonce and tag buffer gave r, and left the tag buffer
-pub record StartPromise (key nonce tag : List ℕ) (r : SaneResult) (tag' : List ℕ) : Type 0 where
+pub record StartPromise (key nonce tag : List ℕ) (r : CallResult SaneSession) (tag' : List ℕ) : Type 0 where
   pub κs : Lfts 3
   pub args : Dens κs start-ps
   pub exits : AtExit (ended_of 3 start-ps start-r) κs
@@ -135,7 +135,7 @@ pub record StartPromise (key nonce tag : List ℕ) (r : SaneResult) (tag' : List
   pub met : StartPost κs args r exits
 
 -- a wrap that was handed the record s and i, and whether to take full blocks four side by side, gave r, and left the output buffer and the tag
-pub record WrapPromise (four : Bool) (s : SaneSession) (i : CallInput) (r : SaneResult) (out tag : List ℕ) : Type 0 where
+pub record WrapPromise (four : Bool) (s : SaneSession) (i : CallInput) (r : CallResult SaneSession) (out tag : List ℕ) : Type 0 where
   pub κs : Lfts 4
   pub args : Dens κs wrap-ps
   pub exits : AtExit (ended_of 4 wrap-ps wrap-r) κs
@@ -147,7 +147,7 @@ pub record WrapPromise (four : Bool) (s : SaneSession) (i : CallInput) (r : Sane
   pub met : WrapPost κs args r exits
 
 -- and so of an unwrap, whose tag is a shared slice: no call alters it
-pub record UnwrapPromise (four : Bool) (s : SaneSession) (i : CallInput) (r : SaneResult) (out tag : List ℕ) : Type 0 where
+pub record UnwrapPromise (four : Bool) (s : SaneSession) (i : CallInput) (r : CallResult SaneSession) (out tag : List ℕ) : Type 0 where
   pub κs : Lfts 4
   pub args : Dens κs unwrap-ps
   pub exits : AtExit (ended_of 4 unwrap-ps unwrap-r) κs
@@ -159,7 +159,7 @@ pub record UnwrapPromise (four : Bool) (s : SaneSession) (i : CallInput) (r : Sa
   pub met : UnwrapPost κs args r exits
 
 -- the same of a wrap and of an unwrap for an envelope
-pub record WrapEnvelopePromise (four : Bool) (s : SaneSession) (i : CallInput) (r : SaneResult) (out tag : List ℕ) : Type 0 where
+pub record WrapEnvelopePromise (four : Bool) (s : SaneSession) (i : CallInput) (r : CallResult SaneSession) (out tag : List ℕ) : Type 0 where
   pub κs : Lfts 5
   pub args : Dens κs wrap-envelope-ps
   pub exits : AtExit (ended_of 5 wrap-envelope-ps wrap-envelope-r) κs
@@ -170,7 +170,7 @@ pub record WrapEnvelopePromise (four : Bool) (s : SaneSession) (i : CallInput) (
   pub is_tag : exits.1.1.1.1.1.0.now ≡ tag
   pub met : WrapEnvelopePost κs args r exits
 
-pub record UnwrapEnvelopePromise (four : Bool) (s : SaneSession) (i : CallInput) (r : SaneResult) (out tag : List ℕ) : Type 0 where
+pub record UnwrapEnvelopePromise (four : Bool) (s : SaneSession) (i : CallInput) (r : CallResult SaneSession) (out tag : List ℕ) : Type 0 where
   pub κs : Lfts 5
   pub args : Dens κs unwrap-envelope-ps
   pub exits : AtExit (ended_of 5 unwrap-envelope-ps unwrap-envelope-r) κs
@@ -183,26 +183,26 @@ pub record UnwrapEnvelopePromise (four : Bool) (s : SaneSession) (i : CallInput)
 
 -- ---- every call of which the function's `ensures` holds keeps its promise: nothing else is asked of it
 
-pub start-kept : (κs : Lfts 3) (args : Dens κs start-ps) (exits : AtExit (ended_of 3 start-ps start-r) κs) (r : SaneResult)
+pub start-kept : (κs : Lfts 3) (args : Dens κs start-ps) (exits : AtExit (ended_of 3 start-ps start-r) κs) (r : CallResult SaneSession)
     → StartPost κs args r exits → StartPromise args.0.now args.1.0.now args.1.1.0.now r exits.1.1.0.now
 start-kept κs args exits r h =
     record { κs = κs; args = args; exits = exits; is_key = refl; is_nonce = refl; is_tag = refl; is_left = refl; met = h }
 
-pub wrap-kept : (κs : Lfts 4) (args : Dens κs wrap-ps) (exits : AtExit (ended_of 4 wrap-ps wrap-r) κs) (r : SaneResult)
+pub wrap-kept : (κs : Lfts 4) (args : Dens κs wrap-ps) (exits : AtExit (ended_of 4 wrap-ps wrap-r) κs) (r : CallResult SaneSession)
     → WrapPost κs args r exits
     → WrapPromise args.1.1.1.1.1.0 args.0 (handed args.1.0.now args.1.1.0.now args.1.1.1.0.now args.1.1.1.1.0.now) r
     exits.1.1.1.0.now exits.1.1.1.1.0.now
 wrap-kept κs args exits r h =
     record { κs = κs; args = args; exits = exits; is_record = refl; is_four = refl; is_input = refl; is_out = refl; is_tag = refl; met = h }
 
-pub unwrap-kept : (κs : Lfts 4) (args : Dens κs unwrap-ps) (exits : AtExit (ended_of 4 unwrap-ps unwrap-r) κs) (r : SaneResult)
+pub unwrap-kept : (κs : Lfts 4) (args : Dens κs unwrap-ps) (exits : AtExit (ended_of 4 unwrap-ps unwrap-r) κs) (r : CallResult SaneSession)
     → UnwrapPost κs args r exits
     → UnwrapPromise args.1.1.1.1.1.0 args.0 (handed args.1.0.now args.1.1.0.now args.1.1.1.1.0.now args.1.1.1.0.now) r
     exits.1.1.1.1.0.now args.1.1.1.0.now
 unwrap-kept κs args exits r h =
     record { κs = κs; args = args; exits = exits; is_record = refl; is_four = refl; is_input = refl; is_out = refl; is_tag = refl; met = h }
 
-pub wrap-envelope-kept : (κs : Lfts 5) (args : Dens κs wrap-envelope-ps) (exits : AtExit (ended_of 5 wrap-envelope-ps wrap-envelope-r) κs) (r : SaneResult)
+pub wrap-envelope-kept : (κs : Lfts 5) (args : Dens κs wrap-envelope-ps) (exits : AtExit (ended_of 5 wrap-envelope-ps wrap-envelope-r) κs) (r : CallResult SaneSession)
     → WrapEnvelopePost κs args r exits
     → WrapEnvelopePromise args.1.1.1.1.1.1.0 args.0
     (handed_for args.1.0.now args.1.1.0.now args.1.1.1.0.now args.1.1.1.1.0.now args.1.1.1.1.1.0.now) r
@@ -211,7 +211,7 @@ wrap-envelope-kept κs args exits r h =
     record { κs = κs; args = args; exits = exits; is_record = refl; is_four = refl; is_input = refl; is_out = refl; is_tag = refl; met = h }
 
 pub unwrap-envelope-kept : (κs : Lfts 5) (args : Dens κs unwrap-envelope-ps) (exits : AtExit (ended_of 5 unwrap-envelope-ps unwrap-envelope-r) κs)
-    (r : SaneResult)
+    (r : CallResult SaneSession)
     → UnwrapEnvelopePost κs args r exits
     → UnwrapEnvelopePromise args.1.1.1.1.1.1.0 args.0
     (handed_for args.1.0.now args.1.1.0.now args.1.1.1.0.now args.1.1.1.1.1.0.now args.1.1.1.1.0.now) r
@@ -241,7 +241,7 @@ lifetimes = ([], ([], ([], ([], tt))))
 
 -- ---- what they say: just the equation with the rules
 
-pub start_is : (key nonce tag : List ℕ) (r : SaneResult) (tag' : List ℕ)
+pub start_is : (key nonce tag : List ℕ) (r : CallResult SaneSession) (tag' : List ℕ)
     → StartPromise key nonce tag r tag' ↔ (nonce_result r tag' ≡ nonce_start_at sane_parameters key nonce tag)
 start_is key nonce tag r tag' = (
   λ p.
@@ -250,7 +250,7 @@ start_is key nonce tag r tag' = (
   λ e. start-kept ([], ([], ([], tt))) (to key, (to nonce, (into tag, tt))) (to key, (to nonce, (into tag', tt))) r e,
 )
 
-module _ (four : Bool) (s : SaneSession) (i : CallInput) (r : SaneResult) (out tag : List ℕ) where
+module _ (four : Bool) (s : SaneSession) (i : CallInput) (r : CallResult SaneSession) (out tag : List ℕ) where
   -- the tag handed to an unwrap is not altered
   tag-kept : (h : CallHeader) → call_result r out tag ≡ unwrap_at sane incremental (state_of s) (with_header h i) → i.tag ≡ tag
   tag-kept h e = sym (ap (λ (o : Outcome DeckState). o.tag) e ∙ (any-unwrap sane incremental (state_of s) (with_header h i)).tag)

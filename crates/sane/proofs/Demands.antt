@@ -24,7 +24,7 @@ use Rattle.modes.proofs.Modes.{sane-follows}
 use Rattle.modes.proofs.Demands.{ByRules, Whole, both-by-rules, any-call-of, one-call-of, runs-exist, kept}
 use Rattle.modes.proofs.SaneDemands.{nonce-start-of, nonce-starts-exist, accepted-starts-exist, sane-demand-3-of}
 use Rattle.sane.specs.declared.SaneSession.{SaneSession}
-use Rattle.sane.specs.declared.SaneResult.{SaneResult}
+use Rattle.steps.specs.declared.CallResult.{CallResult}
 use Rattle.sane.specs.Session.{state_of, nonce_result, call_result, sane_kind}
 use Rattle.sane.proofs.Contracts.{StartPromise, promises, start_is, wrap-is, unwrap-is, wrap-envelope-is, unwrap-envelope-is}
 
@@ -32,24 +32,24 @@ use Rattle.sane.proofs.Contracts.{StartPromise, promises, start_is, wrap-is, unw
 
 pub start-says : (starts : NonceStarts sane_kind)
     → NonceStartOf sane_kind starts
-    ≡ ((key nonce tag : List ℕ) (r : SaneResult) (tag' : List ℕ) → starts key nonce tag r tag' → NonceExactly key nonce tag (nonce_result r tag'))
+    ≡ ((key nonce tag : List ℕ) (r : CallResult SaneSession) (tag' : List ℕ) → starts key nonce tag r tag' → NonceExactly key nonce tag (nonce_result r tag'))
 start-says starts = refl
 
 pub demand-3-says : (starts : NonceStarts sane_kind) (p : Promises sane_kind)
     → SaneDemand3Of sane_kind starts p
-    ≡ ((key nonce t u : List ℕ) (first second : SaneResult) (t' u' : List ℕ) → starts key nonce t first t' → starts key nonce u second u'
+    ≡ ((key nonce t u : List ℕ) (first second : CallResult SaneSession) (t' u' : List ℕ) → starts key nonce t first t' → starts key nonce u second u'
     → first.number ≡ 0 → second.number ≡ 0
     → (cs : List Call) (os : List (Outcome DeckState)) (to : Records sane_kind)
-    → Run sane_kind p cs (record { office = first.session; group = second.session }) os to
+    → Run sane_kind p cs (record { office = first.left; group = second.left }) os to
     → SaneDemand3 key nonce cs (nonce_result first t') (nonce_result second u') os (sessions_held sane_kind to))
 demand-3-says starts p = refl
 
 pub starts-exist-says : (starts : NonceStarts sane_kind)
-    → NonceStartsExist sane_kind starts ≡ ((key nonce tag : List ℕ) → (r : SaneResult) × (tag' : List ℕ) × starts key nonce tag r tag')
+    → NonceStartsExist sane_kind starts ≡ ((key nonce tag : List ℕ) → (r : CallResult SaneSession) × (tag' : List ℕ) × starts key nonce tag r tag')
 starts-exist-says starts = refl
 
 -- and of one call, of any record and of the record of a history
-module _ (p : Promises sane_kind) (s : SaneSession) (i : CallInput) (r : SaneResult) (out tag : List ℕ) where
+module _ (p : Promises sane_kind) (s : SaneSession) (i : CallInput) (r : CallResult SaneSession) (out tag : List ℕ) where
   pub any-wrap-says : AnyCallOf sane_kind sane p → p.wraps s i r out tag → AnyWrap sane incremental (state_of s) i (call_result r out tag)
   any-wrap-says c = c.wraps s i r out tag
 
@@ -102,12 +102,7 @@ pub whole : Whole sane_kind
 whole =
     record {
       made = λ n c s.
-          let d = s.history in
-          record {
-            number = n;
-            count = c;
-            session = record { acc = d.acc; mask = d.mask; index = d.index; toggle = s.toggle; opened = s.opened };
-          };
+          record { number = n; count = c; left = record { history = s.history; toggle = s.toggle; opened = s.opened } };
       same = λ n c s. refl;
     }
 
@@ -130,7 +125,7 @@ demand-3-either = either-sane-demand-3 start_is (program false) (program true)
 -- a record is the session that it holds, and nothing more
 pub same-record : (s t : SaneSession) → state_of s ≡ state_of t → s ≡ t
 same-record s t e =
-    λ j. record { acc = (e j).history.acc; mask = (e j).history.mask; index = (e j).history.index; toggle = (e j).toggle; opened = (e j).opened }
+    λ j. record { history = (e j).history; toggle = (e j).toggle; opened = (e j).opened }
 
 -- nobody can tell
 pub nobody-tells : NobodyCanTell sane_kind (promises false) (promises true)

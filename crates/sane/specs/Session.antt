@@ -8,30 +8,30 @@ use Rattle.modes.specs.Rules.{SessionState, Outcome, NonceOpening}
 use Rattle.modes.specs.Promises as promises
 use Rattle.modes.specs.SaneDemands as starts
 use Rattle.sane.specs.declared.SaneSession.{SaneSession}
-use Rattle.sane.specs.declared.SaneResult.{SaneResult}
+use Rattle.steps.specs.declared.CallResult.{CallResult}
 
 -- the session that a record holds
 abbrev pub state_of : SaneSession → SessionState DeckState
-state_of s = record { history = record { acc = s.acc; mask = s.mask; index = s.index }; toggle = s.toggle; opened = s.opened }
+state_of s = record { history = s.history; toggle = s.toggle; opened = s.opened }
 
 -- the kind of record
 abbrev pub sane_kind : promises.Kind
 sane_kind =
     record {
       Record = SaneSession;
-      Result = SaneResult;
+      Result = CallResult SaneSession;
       state_of = state_of;
       number = λ r. r.number;
       count = λ r. r.count;
-      left = λ r. r.session;
+      left = λ r. r.left;
     }
 
 -- what start gave, with the tag buffer as it left it
-abbrev pub nonce_result : SaneResult → (tag : List ℕ) → NonceOpening
+abbrev pub nonce_result : CallResult SaneSession → (tag : List ℕ) → NonceOpening
 nonce_result = starts.nonce_result sane_kind
 
 -- what wrap or unwrap gave, with the output buffer and the tag as the call left them
-abbrev pub call_result : SaneResult → (out tag : List ℕ) → Outcome DeckState
+abbrev pub call_result : CallResult SaneSession → (out tag : List ℕ) → Outcome DeckState
 call_result = promises.call_result sane_kind
 
 -- what wrap or unwrap was handed beside the record

@@ -7,14 +7,14 @@ use Rattle.modes.specs.Mode.{sane, sane_parameters, incremental}
 use Rattle.modes.specs.Rules.{nonce_start_at, wrap_at, unwrap_at}
 use Rattle.modes.specs.Promises.{Promises, by_rules}
 use Rattle.modes.specs.SaneDemands.{NonceStarts, nonce_by_rules}
+use Rattle.steps.specs.declared.Answer.{Answer}
+use Rattle.steps.specs.declared.CallResult.{CallResult}
 use Rattle.sane.specs.declared.SaneSession.{SaneSession}
-use Rattle.sane.specs.declared.SaneResult.{SaneResult}
 use Rattle.sane.specs.Session.{state_of, nonce_result, call_result, sane_kind}
-use Rattle.session.specs.declared.Answer.{Answer}
 
 -- an answer, with the record as the call left it
-abbrev pub result_of : Answer → SaneSession → SaneResult
-result_of r s = record { number = r.number; count = r.count; session = s }
+abbrev pub result_of : Answer → SaneSession → CallResult SaneSession
+result_of r s = record { number = r.number; count = r.count; left = s }
 
 -- a start with the key, the nonce and the tag buffer answered r and left the record s and the tag buffer tag'. What the record was before does
 -- not matter

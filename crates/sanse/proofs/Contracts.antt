@@ -25,7 +25,7 @@ use Rattle.modes.specs.Rules.{Outcome, start_at, wrap_at, unwrap_at}
 use Rattle.modes.proofs.AnySession.{any-unwrap}
 use Rattle.deck.specs.declared.DeckState.{DeckState}
 use Rattle.sanse.specs.declared.Session.{Session}
-use Rattle.sanse.specs.declared.CallResult.{CallResult}
+use Rattle.steps.specs.declared.CallResult.{CallResult}
 use Rattle.sanse.specs.Session.{state_of, start_result, call_result, handed, handed_for, sanse_kind}
 use Rattle.sanse.specs.contracts.start as start
 use Rattle.sanse.specs.contracts.wrap as wrap
@@ -123,7 +123,7 @@ module _ {M : Type 1} {𝓤 : Ura M} (𝓛 : Logic 𝓤) (mem : Memory → SProp
 -- ---- the promises: a call with some arguments, of which the function's `ensures` holds
 
 -- a start that was handed the key gave r
-pub record StartPromise (key : List ℕ) (r : CallResult) : Type 0 where
+pub record StartPromise (key : List ℕ) (r : CallResult Session) : Type 0 where
   pub κs : Lfts 1
   pub args : Dens κs start-ps
   pub exits : AtExit (ended_of 1 start-ps start-r) κs
@@ -131,7 +131,7 @@ pub record StartPromise (key : List ℕ) (r : CallResult) : Type 0 where
   pub met : StartPost κs args r exits
 
 -- a wrap that was handed the record s and i, and whether to take full blocks four side by side, gave r, and left the output buffer and the tag
-pub record WrapPromise (four : Bool) (s : Session) (i : CallInput) (r : CallResult) (out tag : List ℕ) : Type 0 where
+pub record WrapPromise (four : Bool) (s : Session) (i : CallInput) (r : CallResult Session) (out tag : List ℕ) : Type 0 where
   pub κs : Lfts 4
   pub args : Dens κs wrap-ps
   pub exits : AtExit (ended_of 4 wrap-ps wrap-r) κs
@@ -143,7 +143,7 @@ pub record WrapPromise (four : Bool) (s : Session) (i : CallInput) (r : CallResu
   pub met : WrapPost κs args r exits
 
 -- and so of an unwrap, whose tag is a shared slice: no call alters it
-pub record UnwrapPromise (four : Bool) (s : Session) (i : CallInput) (r : CallResult) (out tag : List ℕ) : Type 0 where
+pub record UnwrapPromise (four : Bool) (s : Session) (i : CallInput) (r : CallResult Session) (out tag : List ℕ) : Type 0 where
   pub κs : Lfts 4
   pub args : Dens κs unwrap-ps
   pub exits : AtExit (ended_of 4 unwrap-ps unwrap-r) κs
@@ -155,7 +155,7 @@ pub record UnwrapPromise (four : Bool) (s : Session) (i : CallInput) (r : CallRe
   pub met : UnwrapPost κs args r exits
 
 -- the same of a wrap and of an unwrap for an envelope
-pub record WrapEnvelopePromise (four : Bool) (s : Session) (i : CallInput) (r : CallResult) (out tag : List ℕ) : Type 0 where
+pub record WrapEnvelopePromise (four : Bool) (s : Session) (i : CallInput) (r : CallResult Session) (out tag : List ℕ) : Type 0 where
   pub κs : Lfts 5
   pub args : Dens κs wrap-envelope-ps
   pub exits : AtExit (ended_of 5 wrap-envelope-ps wrap-envelope-r) κs
@@ -166,7 +166,7 @@ pub record WrapEnvelopePromise (four : Bool) (s : Session) (i : CallInput) (r : 
   pub is_tag : exits.1.1.1.1.1.0.now ≡ tag
   pub met : WrapEnvelopePost κs args r exits
 
-pub record UnwrapEnvelopePromise (four : Bool) (s : Session) (i : CallInput) (r : CallResult) (out tag : List ℕ) : Type 0 where
+pub record UnwrapEnvelopePromise (four : Bool) (s : Session) (i : CallInput) (r : CallResult Session) (out tag : List ℕ) : Type 0 where
   pub κs : Lfts 5
   pub args : Dens κs unwrap-envelope-ps
   pub exits : AtExit (ended_of 5 unwrap-envelope-ps unwrap-envelope-r) κs
@@ -179,25 +179,25 @@ pub record UnwrapEnvelopePromise (four : Bool) (s : Session) (i : CallInput) (r 
 
 -- ---- every call of which the function's `ensures` holds keeps its promise: nothing else is asked of it
 
-pub start-kept : (κs : Lfts 1) (args : Dens κs start-ps) (exits : AtExit (ended_of 1 start-ps start-r) κs) (r : CallResult)
+pub start-kept : (κs : Lfts 1) (args : Dens κs start-ps) (exits : AtExit (ended_of 1 start-ps start-r) κs) (r : CallResult Session)
     → StartPost κs args r exits → StartPromise args.0.now r
 start-kept κs args exits r h = record { κs = κs; args = args; exits = exits; is_key = refl; met = h }
 
-pub wrap-kept : (κs : Lfts 4) (args : Dens κs wrap-ps) (exits : AtExit (ended_of 4 wrap-ps wrap-r) κs) (r : CallResult)
+pub wrap-kept : (κs : Lfts 4) (args : Dens κs wrap-ps) (exits : AtExit (ended_of 4 wrap-ps wrap-r) κs) (r : CallResult Session)
     → WrapPost κs args r exits
     → WrapPromise args.1.1.1.1.1.0 args.0 (handed args.1.0.now args.1.1.0.now args.1.1.1.0.now args.1.1.1.1.0.now) r
     exits.1.1.1.0.now exits.1.1.1.1.0.now
 wrap-kept κs args exits r h =
     record { κs = κs; args = args; exits = exits; is_record = refl; is_four = refl; is_input = refl; is_out = refl; is_tag = refl; met = h }
 
-pub unwrap-kept : (κs : Lfts 4) (args : Dens κs unwrap-ps) (exits : AtExit (ended_of 4 unwrap-ps unwrap-r) κs) (r : CallResult)
+pub unwrap-kept : (κs : Lfts 4) (args : Dens κs unwrap-ps) (exits : AtExit (ended_of 4 unwrap-ps unwrap-r) κs) (r : CallResult Session)
     → UnwrapPost κs args r exits
     → UnwrapPromise args.1.1.1.1.1.0 args.0 (handed args.1.0.now args.1.1.0.now args.1.1.1.1.0.now args.1.1.1.0.now) r
     exits.1.1.1.1.0.now args.1.1.1.0.now
 unwrap-kept κs args exits r h =
     record { κs = κs; args = args; exits = exits; is_record = refl; is_four = refl; is_input = refl; is_out = refl; is_tag = refl; met = h }
 
-pub wrap-envelope-kept : (κs : Lfts 5) (args : Dens κs wrap-envelope-ps) (exits : AtExit (ended_of 5 wrap-envelope-ps wrap-envelope-r) κs) (r : CallResult)
+pub wrap-envelope-kept : (κs : Lfts 5) (args : Dens κs wrap-envelope-ps) (exits : AtExit (ended_of 5 wrap-envelope-ps wrap-envelope-r) κs) (r : CallResult Session)
     → WrapEnvelopePost κs args r exits
     → WrapEnvelopePromise args.1.1.1.1.1.1.0 args.0
     (handed_for args.1.0.now args.1.1.0.now args.1.1.1.0.now args.1.1.1.1.0.now args.1.1.1.1.1.0.now) r
@@ -206,7 +206,7 @@ wrap-envelope-kept κs args exits r h =
     record { κs = κs; args = args; exits = exits; is_record = refl; is_four = refl; is_input = refl; is_out = refl; is_tag = refl; met = h }
 
 pub unwrap-envelope-kept : (κs : Lfts 5) (args : Dens κs unwrap-envelope-ps) (exits : AtExit (ended_of 5 unwrap-envelope-ps unwrap-envelope-r) κs)
-    (r : CallResult)
+    (r : CallResult Session)
     → UnwrapEnvelopePost κs args r exits
     → UnwrapEnvelopePromise args.1.1.1.1.1.1.0 args.0
     (handed_for args.1.0.now args.1.1.0.now args.1.1.1.0.now args.1.1.1.1.1.0.now args.1.1.1.1.0.now) r
@@ -236,10 +236,10 @@ lifetimes = ([], ([], ([], ([], tt))))
 
 -- ---- what they say: just the equation with the rules
 
-pub start_is : (key : List ℕ) (r : CallResult) → StartPromise key r ↔ (start_result r ≡ start_at key)
+pub start_is : (key : List ℕ) (r : CallResult Session) → StartPromise key r ↔ (start_result r ≡ start_at key)
 start_is key r = (λ p. p.met ∙ ap start_at p.is_key, λ e. start-kept ([], tt) (to key, tt) (to key, tt) r e)
 
-module _ (four : Bool) (s : Session) (i : CallInput) (r : CallResult) (out tag : List ℕ) where
+module _ (four : Bool) (s : Session) (i : CallInput) (r : CallResult Session) (out tag : List ℕ) where
   -- the tag handed to an unwrap is not altered
   tag-kept : (h : CallHeader) → call_result r out tag ≡ unwrap_at sanse incremental (state_of s) (with_header h i) → i.tag ≡ tag
   tag-kept h e = sym (ap (λ (o : Outcome DeckState). o.tag) e ∙ (any-unwrap sanse incremental (state_of s) (with_header h i)).tag)

@@ -24,7 +24,7 @@ use Rattle.modes.proofs.Envelopes.{readdressed-of, sanse-readdressed}
 use Rattle.modes.proofs.Modes.{sanse-follows}
 use Rattle.modes.proofs.Demands.{ByRules, Whole, both-by-rules, start_of, any-call-of, one-call-of, demand-3-of, runs-exist, kept, starts-exist}
 use Rattle.sanse.specs.declared.Session.{Session}
-use Rattle.sanse.specs.declared.CallResult.{CallResult}
+use Rattle.steps.specs.declared.CallResult.{CallResult}
 use Rattle.sanse.specs.Session.{state_of, start_result, call_result, sanse_kind}
 use Rattle.sanse.proofs.Contracts.{StartPromise, promises, start_is, wrap-is, unwrap-is, wrap-envelope-is, unwrap-envelope-is}
 
@@ -32,29 +32,29 @@ use Rattle.sanse.proofs.Contracts.{StartPromise, promises, start_is, wrap-is, un
 
 pub wrap-says : (p : Promises sanse_kind)
     → WrapOf sanse_kind sanse_paper p
-    ≡ ((key : List ℕ) (h : List Str) (e : Bool) (s : Session) (i : CallInput) (r : CallResult) (out tag : List ℕ)
+    ≡ ((key : List ℕ) (h : List Str) (e : Bool) (s : Session) (i : CallInput) (r : CallResult Session) (out tag : List ℕ)
     → state_of s ≡ session_of key h e → p.wraps s i r out tag → WrapClaim sanse_paper key h e i (call_result r out tag))
 wrap-says p = refl
 
 pub unwrap-says : (p : Promises sanse_kind)
     → UnwrapOf sanse_kind sanse_paper p
-    ≡ ((key : List ℕ) (h : List Str) (e : Bool) (s : Session) (i : CallInput) (r : CallResult) (out tag : List ℕ)
+    ≡ ((key : List ℕ) (h : List Str) (e : Bool) (s : Session) (i : CallInput) (r : CallResult Session) (out tag : List ℕ)
     → state_of s ≡ session_of key h e → p.unwraps s i r out tag → UnwrapClaim sanse_paper key h e i (call_result r out tag))
 unwrap-says p = refl
 
-pub demand-3-says : (starts : (key : List ℕ) → CallResult → Type 0) (p : Promises sanse_kind)
+pub demand-3-says : (starts : (key : List ℕ) → CallResult Session → Type 0) (p : Promises sanse_kind)
     → Demand3Of sanse_kind starts p
-    ≡ ((key : List ℕ) → 16 ≤ length key → length key ≤ 47 → (first second : CallResult) → starts key first → starts key second
+    ≡ ((key : List ℕ) → 16 ≤ length key → length key ≤ 47 → (first second : CallResult Session) → starts key first → starts key second
     → (cs : List Call) (os : List (Outcome DeckState)) (to : Records sanse_kind)
-    → Run sanse_kind p cs (record { office = first.session; group = second.session }) os to
+    → Run sanse_kind p cs (record { office = first.left; group = second.left }) os to
     → Demand3 key cs (start_result first) (start_result second) os (sessions_held sanse_kind to))
 demand-3-says starts p = refl
 
-pub start-says : (starts : (key : List ℕ) → CallResult → Type 0)
-    → StartOf sanse_kind starts ≡ ((key : List ℕ) (r : CallResult) → starts key r → StartExactly key (start_result r))
+pub start-says : (starts : (key : List ℕ) → CallResult Session → Type 0)
+    → StartOf sanse_kind starts ≡ ((key : List ℕ) (r : CallResult Session) → starts key r → StartExactly key (start_result r))
 start-says starts = refl
 
-pub starts-exist-says : (starts : (key : List ℕ) → CallResult → Type 0) → StartsExist sanse_kind starts ≡ ((key : List ℕ) → (r : CallResult) × starts key r)
+pub starts-exist-says : (starts : (key : List ℕ) → CallResult Session → Type 0) → StartsExist sanse_kind starts ≡ ((key : List ℕ) → (r : CallResult Session) × starts key r)
 starts-exist-says starts = refl
 
 pub runs-exist-says : (p : Promises sanse_kind)
@@ -63,7 +63,7 @@ pub runs-exist-says : (p : Promises sanse_kind)
 runs-exist-says p = refl
 
 -- and of one call, of any record and of the record of a history
-module _ (p : Promises sanse_kind) (s : Session) (i : CallInput) (r : CallResult) (out tag : List ℕ) where
+module _ (p : Promises sanse_kind) (s : Session) (i : CallInput) (r : CallResult Session) (out tag : List ℕ) where
   pub any-wrap-says : AnyCallOf sanse_kind sanse p → p.wraps s i r out tag → AnyWrap sanse incremental (state_of s) i (call_result r out tag)
   any-wrap-says c = c.wraps s i r out tag
 
@@ -116,12 +116,7 @@ pub whole : Whole sanse_kind
 whole =
     record {
       made = λ n c s.
-          let d = s.history in
-          record {
-            number = n;
-            count = c;
-            session = record { acc = d.acc; mask = d.mask; index = d.index; toggle = s.toggle; opened = s.opened };
-          };
+          record { number = n; count = c; left = record { history = s.history; toggle = s.toggle; opened = s.opened } };
       same = λ n c s. refl;
     }
 
@@ -141,7 +136,7 @@ demand-3-either = either-demand-3 start_is (program false) (program true)
 -- a record is the session that it holds, and nothing more
 pub same-record : (s t : Session) → state_of s ≡ state_of t → s ≡ t
 same-record s t e =
-    λ j. record { acc = (e j).history.acc; mask = (e j).history.mask; index = (e j).history.index; toggle = (e j).toggle; opened = (e j).opened }
+    λ j. record { history = (e j).history; toggle = (e j).toggle; opened = (e j).opened }
 
 -- nobody can tell
 pub nobody-tells : NobodyCanTell sanse_kind (promises false) (promises true)

@@ -7,30 +7,30 @@ use Rattle.modes.specs.Call.{bare, under, CallInput}
 use Rattle.modes.specs.Rules.{SessionState, Outcome, Opening}
 use Rattle.modes.specs.Promises as promises
 use Rattle.sanse.specs.declared.Session.{Session}
-use Rattle.sanse.specs.declared.CallResult.{CallResult}
+use Rattle.steps.specs.declared.CallResult.{CallResult}
 
 -- the session that a record holds
 abbrev pub state_of : Session → SessionState DeckState
-state_of s = record { history = record { acc = s.acc; mask = s.mask; index = s.index }; toggle = s.toggle; opened = s.opened }
+state_of s = record { history = s.history; toggle = s.toggle; opened = s.opened }
 
 -- the kind of record
 abbrev pub sanse_kind : promises.Kind
 sanse_kind =
     record {
       Record = Session;
-      Result = CallResult;
+      Result = CallResult Session;
       state_of = state_of;
       number = λ r. r.number;
       count = λ r. r.count;
-      left = λ r. r.session;
+      left = λ r. r.left;
     }
 
 -- what start gave
-abbrev pub start_result : CallResult → Opening
+abbrev pub start_result : CallResult Session → Opening
 start_result = promises.start_result sanse_kind
 
 -- what wrap or unwrap gave, with the output buffer and the tag as the call left them
-abbrev pub call_result : CallResult → (out tag : List ℕ) → Outcome DeckState
+abbrev pub call_result : CallResult Session → (out tag : List ℕ) → Outcome DeckState
 call_result = promises.call_result sanse_kind
 
 -- what wrap or unwrap was handed beside the record

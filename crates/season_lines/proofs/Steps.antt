@@ -1,13 +1,12 @@
 -- One line added to a pool in its season, by whether it is a line and what the season says. Assumes nothing.
-use Prim.Native.Nat.{ℕ, ◌≤◌}
-use mathlib.Core.Path.{◌≡◌, refl, sym, ap, ◌∙◌, subst}
+use Prim.Native.Nat.{ℕ}
+use mathlib.Core.Path.{◌≡◌, refl, sym, ap, ◌∙◌}
 use mathlib.Core.Bool.{Bool, true, false}
 use mathlib.Core.List.{List}
 use lib.Dec.{eqb}
 use borrow.Author.Tests.{eq-eqb, ne_eqb, eqb-true, eqb-false}
-use Rattle.issue_line.specs.declared.Line.{Line}
+use Rattle.issue_line.specs.Read.{Line}
 use Rattle.issue_line.specs.Read.{read_line}
-use Rattle.issue_line.proofs.Reading.{line-sound}
 use Rattle.pool.specs.declared.Pool.{Pool}
 use Rattle.pool.specs.Pool.{add_run}
 use Rattle.pool_lines.specs.Lines.{run_of}
@@ -15,12 +14,6 @@ use Rattle.seasons.specs.declared.Windows.{Windows}
 use Rattle.season_lines.specs.Lines.{season_of, add_read_in_season, add_in_season}
 
 module _ (bytes : List ℕ) (l : Line) (is : l ≡ read_line bytes) where
-  -- the size of a line is one of the eight
-  pub size-within : l.found ≡ true → (65 ≤ l.size) × (l.size ≤ 72)
-  size-within e =
-      let h = line-sound bytes (ap (λ (x : Line). x.found) (sym is) ∙ e) in
-      subst (λ (x : Line). (65 ≤ x.size) × (x.size ≤ 72)) (sym is) (h.size_from, h.size_to)
-
   module _ (ws : Windows) (p : Pool) where
     pub not-a-line : l.found ≡ false → add_in_season ws p bytes ≡ record { number = 13; pool = p }
     unfolding add_in_season add_read_in_season

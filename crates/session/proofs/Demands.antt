@@ -4,9 +4,11 @@ use Rattle.modes.specs.Mode.{sanse}
 use Rattle.modes.specs.Ledger.{sanse_paper}
 use Rattle.modes.specs.Demands.{StartOf, AnyCallOf, OneCallOf, Demand3Of, StartsExist, RunsExist}
 use Rattle.modes.specs.Envelopes.{ReaddressedOf}
+use Rattle.modes.specs.EitherWay.{EitherDemand3Of, NobodyCanTell, ChoicesExist, Among}
 use Rattle.modes.proofs.Envelopes.{readdressed-of, sanse-readdressed}
 use Rattle.modes.proofs.Modes.{sanse-follows}
 use Rattle.modes.proofs.Demands.{ByRules, rules-by-rules, start-by-rules, start_of, any-call-of, one-call-of, demand-3-of, runs-exist, kept, starts-exist}
+use Rattle.modes.proofs.EitherWay.{either-demand-3, nobody-can-tell, choices-exist, among}
 use Rattle.sanse.specs.Session.{sanse_kind}
 use Rattle.sanse.proofs.Demands.{whole}
 use Rattle.session.specs.Lent.{lent_starts, lent_promises}
@@ -40,3 +42,21 @@ start-exists = starts-exist whole lent_starts (start-by-rules sanse_kind)
 
 pub run-exists : RunsExist sanse_kind lent_promises
 run-exists = runs-exist (kept whole lent)
+
+-- ---- each call of a list may take full blocks four side by side or not: its promise is one and the same (`wrap-same` and its neighbours of
+-- `proofs/Contracts.antt`)
+
+-- demand 3, whichever way each call of the list is made
+pub demand-3-either : EitherDemand3Of sanse_kind lent_starts lent_promises lent_promises
+demand-3-either = either-demand-3 (start-by-rules sanse_kind) lent lent
+
+-- nobody can tell
+pub nobody-tells : NobodyCanTell sanse_kind lent_promises lent_promises
+nobody-tells = nobody-can-tell lent lent
+
+-- such lists are there, with any choice for each call, and those of one way alone are among them
+pub choice-exists : ChoicesExist sanse_kind lent_promises lent_promises
+choice-exists = choices-exist (kept whole lent) (kept whole lent)
+
+pub one-way-alone : Among sanse_kind lent_promises lent_promises
+one-way-alone = among lent_promises lent_promises

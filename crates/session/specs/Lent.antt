@@ -6,14 +6,14 @@ use Rattle.modes.specs.Call.{CallInput}
 use Rattle.modes.specs.Mode.{sanse, incremental}
 use Rattle.modes.specs.Rules.{start_at, wrap_at, unwrap_at}
 use Rattle.modes.specs.Promises.{Promises, Starts, by_rules, start_by_rules}
+use Rattle.steps.specs.declared.Answer.{Answer}
+use Rattle.steps.specs.declared.CallResult.{CallResult}
 use Rattle.sanse.specs.declared.Session.{Session}
-use Rattle.sanse.specs.declared.CallResult.{CallResult}
 use Rattle.sanse.specs.Session.{state_of, start_result, call_result, sanse_kind}
-use Rattle.session.specs.declared.Answer.{Answer}
 
 -- an answer, with the record as the call left it
-abbrev pub result_of : Answer → Session → CallResult
-result_of r s = record { number = r.number; count = r.count; session = s }
+abbrev pub result_of : Answer → Session → CallResult Session
+result_of r s = record { number = r.number; count = r.count; left = s }
 
 -- a start under the key answered r and left the record s. What the record was before does not matter
 abbrev pub Started : (key : List ℕ) → Answer → (s : Session) → Type 0

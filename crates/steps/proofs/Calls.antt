@@ -1,13 +1,15 @@
 -- What the calls of a session mode compute, step by step, is what the rules say: for any mode, over plain values, so that a function's proof
 -- only hands its facts over. Assumes nothing.
 use mathlib.Core.Path.{◌≡◌, refl, sym, ap, ap₂, ◌∙◌}
-use mathlib.Core.Logic.{◌≢◌}
 use mathlib.Core.Bool.{Bool, true, false, not, ◌||◌, cond}
 use mathlib.Core.List.{List, [], ◌∷◌, ◌++◌}
 use Prim.Native.Nat.{ℕ, zero, suc, ◌+◌, ◌≤◌, ◌<◌}
 use native.Mathlib.Omega.{arith}
 use lib.ListN.{length, drop, replicate, length-replicate, length-append}
 use lib.Seq.{drop_at}
+use Rattle.refusals.specs.declared.Refusal.{Refusal}
+use Rattle.refusals.specs.Numbers.{number_of}
+use Rattle.refusals.proofs.Numbers.{number-positive}
 use Rattle.deck.specs.declared.DeckState.{DeckState}
 use Rattle.xoofff.specs.declared.Compressed.{Compressed}
 use Rattle.deck.specs.Strings.{b, framed}
@@ -73,14 +75,12 @@ first_of m s i =
     first_check_of s.opened (s.history.index + growth (length (metadata_string i)) (length i.text)) m.parameters.tag_length
     (length i.metadata) (length i.text) (length i.tag) (length i.out)
 
--- no check was met, and the history d gained A
-pub record Begun (m : Mode) (s : SessionState DeckState) (i : CallInput) (n : ℕ) (d : DeckState) (c : ℕ) (h : Compressed) : Type 0 where
-  pub checked : n ≡ first_of m s i
-  pub none : n ≡ 0
-  pub held : d ≡ s.history
+-- no check was met, and the history gained A
+pub record Begun (m : Mode) (s : SessionState DeckState) (i : CallInput) (c : ℕ) (h : Compressed) : Type 0 where
+  pub none : 0 ≡ first_of m s i
   pub closes : c ≡ closing_byte (m.parameters.frame_a s.toggle)
   pub long : length (metadata_string i) ≤ 16401
-  pub is_a : h ≡ compressed_if (not (is_empty (metadata_string i)) || is_empty i.text) d (closed_by (metadata_string i) c)
+  pub is_a : h ≡ compressed_if (not (is_empty (metadata_string i)) || is_empty i.text) s.history (closed_by (metadata_string i) c)
 
 -- what the string of A does to the index
 index-most : (p : Parameters) → ShortFrames p → (d : DeckState) (e : Bool) (a x : List ℕ)
@@ -97,29 +97,29 @@ Within m s i =
     Passed (s.history.index + growth (length (metadata_string i)) (length i.text)) m.parameters.tag_length (length i.metadata) (length i.text)
     (length i.tag) (length i.out)
 
-pub within : (m : Mode) (s : SessionState DeckState) (i : CallInput) {n : ℕ} → n ≡ first_of m s i → n ≡ 0 → Within m s i
-within m s i h z = passed s.opened _ _ _ _ _ _ (sym h ∙ z)
+pub within : (m : Mode) (s : SessionState DeckState) (i : CallInput) → 0 ≡ first_of m s i → Within m s i
+within m s i z = passed s.opened _ _ _ _ _ _ (sym z)
 
--- so the history d can gain A, with this closing byte, where the header has k bytes
-pub begins : (m : Mode) (s : SessionState DeckState) (i : CallInput) {d : DeckState} {c k : ℕ} → Within m s i → k ≤ 17 → d ≡ s.history
-    → c ≡ closing_byte (m.parameters.frame_a s.toggle) → (0 < c) × (k ≤ 17) × (length i.metadata ≤ 16384) × (d.index ≤ 1048576)
-begins m s i w h held closes = (
+-- so the history can gain A, with this closing byte, where the header has k bytes
+pub begins : (m : Mode) (s : SessionState DeckState) (i : CallInput) {c k : ℕ} → Within m s i → k ≤ 17
+    → c ≡ closing_byte (m.parameters.frame_a s.toggle) → (0 < c) × (k ≤ 17) × (length i.metadata ≤ 16384) × (s.history.index ≤ 1048576)
+begins m s i w h closes = (
   omega (arith, closes, closing-pos (m.parameters.frame_a s.toggle)),
   h,
   w.metadata,
-  omega (arith, ap (λ (u : DeckState). u.index) held, w.index),
+  omega (arith, w.index),
 )
 
-module _ {m : Mode} (f : ShortFrames m.parameters) {s : SessionState DeckState} {i : CallInput} {n : ℕ} {d : DeckState} {c : ℕ} {h : Compressed}
-    (k : Begun m s i n d c h) where
+module _ {m : Mode} (f : ShortFrames m.parameters) {s : SessionState DeckState} {i : CallInput} {c : ℕ} {h : Compressed} (k : Begun m s i c h) where
   pub begun-state : h.state ≡ with_a m.parameters incremental s.history s.toggle (metadata_string i) i.text
   begun-state =
-      state-if (not (is_empty (metadata_string i)) || is_empty i.text) d (metadata_string i) c (m.parameters.frame_a s.toggle) h (f.of_a s.toggle) k.closes k.is_a
-      ∙ ap (λ (u : DeckState). with_a m.parameters incremental u s.toggle (metadata_string i) i.text) k.held
+      state-if (not (is_empty (metadata_string i)) || is_empty i.text) s.history (metadata_string i) c (m.parameters.frame_a s.toggle) h
+      (f.of_a s.toggle) k.closes k.is_a
 
   pub begun-count : h.count ≡ cond (not (is_empty (metadata_string i)) || is_empty i.text) (b (length (metadata_string i))) 0
   begun-count =
-      count-if (not (is_empty (metadata_string i)) || is_empty i.text) d (metadata_string i) c (m.parameters.frame_a s.toggle) h (f.of_a s.toggle) k.closes k.is_a
+      count-if (not (is_empty (metadata_string i)) || is_empty i.text) s.history (metadata_string i) c (m.parameters.frame_a s.toggle) h
+      (f.of_a s.toggle) k.closes k.is_a
 
   -- the index with it is within the limit
   pub begun-index : h.state.index ≤ 1048576
@@ -128,7 +128,7 @@ module _ {m : Mode} (f : ShortFrames m.parameters) {s : SessionState DeckState} 
         arith,
         ap (λ (u : DeckState). u.index) begun-state,
         index-most m.parameters f s.history s.toggle (metadata_string i) i.text,
-        (within m s i k.checked k.none).index,
+        (within m s i k.none).index,
       )
 
 -- ---- what a call gives, in any mode
@@ -138,26 +138,26 @@ module _ (m : Mode) (s : SessionState DeckState) (i : CallInput) where
   abbrev pub gives : (number count : ℕ) (d : DeckState) (e : Bool) (out tag : List ℕ) → Outcome DeckState
   gives n c d e o t = record { number = n; count = c; session = record { history = d; toggle = e; opened = s.opened }; out = o; tag = t }
 
-  -- refused before any work
-  module _ (n : ℕ) (d : DeckState) (h : n ≡ first_of m s i) (held : d ≡ s.history) where
-    refused-if : (o : Outcome DeckState) → n ≢ 0 → gives n 0 d s.toggle i.out i.tag ≡ if_no_check (first_of m s i) s i o
-    refused-if o g = ap (λ (u : DeckState). gives n 0 u s.toggle i.out i.tag) held ∙ go n g ∙ ap (λ (k : ℕ). if_no_check k s i o) h
+  -- refused before any work, by this check
+  module _ (e : Refusal) (h : number_of e ≡ first_of m s i) where
+    refused-if : (o : Outcome DeckState) → gives (number_of e) 0 s.history s.toggle i.out i.tag ≡ if_no_check (first_of m s i) s i o
+    refused-if o = go (number_of e) (number-positive e) ∙ ap (λ (k : ℕ). if_no_check k s i o) h
       where
-        go : (k : ℕ) → k ≢ 0 → gives k 0 s.history s.toggle i.out i.tag ≡ if_no_check k s i o
-        go zero g = absurd (g refl)
+        go : (k : ℕ) → 0 < k → gives k 0 s.history s.toggle i.out i.tag ≡ if_no_check k s i o
+        go zero g = absurd (omega (arith, g))
         go (suc k) g = refl
 
-    pub wrap-refused : n ≢ 0 → gives n 0 d s.toggle i.out i.tag ≡ wrap_from5 m incremental s i
+    pub wrap-refused : gives (number_of e) 0 s.history s.toggle i.out i.tag ≡ wrap_from5 m incremental s i
     unfolding wrap_from5 check_from5
-    wrap-refused g = refused-if _ g
+    wrap-refused = refused-if _
 
-    pub unwrap-refused : n ≢ 0 → gives n 0 d s.toggle i.out i.tag ≡ unwrap_from5 m incremental s i
+    pub unwrap-refused : gives (number_of e) 0 s.history s.toggle i.out i.tag ≡ unwrap_from5 m incremental s i
     unfolding unwrap_from5 check_from5
-    unwrap-refused g = refused-if _ g
+    unwrap-refused = refused-if _
 
   -- no check was met, and the work gave what the mode's steps find, r: the history d, the count c, the output buffer o and the tag t
   pub record Worked (r : StepResult DeckState) (d : DeckState) (c : ℕ) (o t : List ℕ) : Type 0 where
-    pub none : first_of m s i ≡ 0
+    pub none : 0 ≡ first_of m s i
     pub after : d ≡ r.after
     pub count : c ≡ m.parameters.count (length (metadata_string i)) (length i.text)
     pub sized : length r.body ≡ length i.text
@@ -175,7 +175,7 @@ module _ (m : Mode) (s : SessionState DeckState) (i : CallInput) where
   wrap-accepted w =
       accepted-is w
       ∙ ap (accepted m incremental s i (wrap_steps m incremental s i)) w.tag
-      ∙ sym (ap (λ (k : ℕ). if_no_check k s i (accepted m incremental s i (wrap_steps m incremental s i) (wrap_steps m incremental s i).tag)) w.none)
+      ∙ sym (ap (λ (k : ℕ). if_no_check k s i (accepted m incremental s i (wrap_steps m incremental s i) (wrap_steps m incremental s i).tag)) (sym w.none))
 
   module _ {d : DeckState} {c : ℕ} {o t : List ℕ} (w : Worked (unwrap_steps m incremental s i) d c o t) where
     compared : (v : Bool) → same_bytes i.tag t ≡ v
@@ -183,15 +183,15 @@ module _ (m : Mode) (s : SessionState DeckState) (i : CallInput) where
     unfolding unwrap_from5 check_from5
     compared v e =
         sym (ap₂ (λ (k : ℕ) (q : Bool). if_no_check k s i (cond q (accepted m incremental s i (unwrap_steps m incremental s i) i.tag) (wrong_tag m incremental s i)))
-        w.none (sym (ap (same_bytes i.tag) w.tag) ∙ e))
+        (sym w.none) (sym (ap (same_bytes i.tag) w.tag) ∙ e))
 
     pub unwrap-accepted : same_bytes i.tag t ≡ true → gives 0 c d (m.parameters.next_toggle s.toggle) o i.tag ≡ unwrap_from5 m incremental s i
     unwrap-accepted e = accepted-is w ∙ compared true e
 
-    -- refused by 11, with zeros for the message in the output buffer o', and a session of the history u
-    pub unwrap-wrong : same_bytes i.tag t ≡ false → (o' : List ℕ) → o' ≡ written (replicate (length i.text) 0) o → (u : DeckState) → u ≡ s.history
-        → gives 11 c u s.toggle o' i.tag ≡ unwrap_from5 m incremental s i
-    unwrap-wrong e o' z u held = (λ j. gives 11 (w.count j) (held j) s.toggle (zeroed j) i.tag) ∙ compared false e
+    -- refused by 11, with zeros for the message in the output buffer o'
+    pub unwrap-wrong : same_bytes i.tag t ≡ false → (o' : List ℕ) → o' ≡ written (replicate (length i.text) 0) o
+        → gives 11 c s.history s.toggle o' i.tag ≡ unwrap_from5 m incremental s i
+    unwrap-wrong e o' z = (λ j. gives 11 (w.count j) s.history s.toggle (zeroed j) i.tag) ∙ compared false e
       where
         zeroed : o' ≡ written (replicate (length i.text) 0) i.out
         zeroed =
@@ -224,22 +224,15 @@ module _ (m : Mode) (s : SessionState DeckState) (head metadata text out tag : L
   string-long h w = omega (arith, w.metadata, length-append head metadata)
 
   -- what the code knows once no check was met and A is in the history
-  pub begun-of : {n c : ℕ} {d : DeckState} {h : Compressed}
-      → n ≡ first_check_of s.opened (s.history.index + growth (length head + length metadata) (length text)) m.parameters.tag_length
-      (length metadata) (length text) (length tag) (length out) → n ≡ 0 → d ≡ s.history → c ≡ closing_byte (m.parameters.frame_a s.toggle) → length head ≤ 17
-      → h ≡ compressed_if (not (is_empty (head ++ metadata)) || is_empty text) d (closed_by (head ++ metadata) c)
-      → Begun m s (headed (under head) metadata text out tag) n d c h
+  pub begun-of : {c : ℕ} {h : Compressed}
+      → 0 ≡ first_check_of s.opened (s.history.index + growth (length head + length metadata) (length text)) m.parameters.tag_length
+      (length metadata) (length text) (length tag) (length out) → c ≡ closing_byte (m.parameters.frame_a s.toggle) → length head ≤ 17
+      → h ≡ compressed_if (not (is_empty (head ++ metadata)) || is_empty text) s.history (closed_by (head ++ metadata) c)
+      → Begun m s (headed (under head) metadata text out tag) c h
   unfolding metadata_string
-  begun-of e z held closes l is =
+  begun-of e closes l is =
       let k = first-of e in
-      record {
-        checked = k;
-        none = z;
-        held = held;
-        closes = closes;
-        long = string-long l (within m s (headed (under head) metadata text out tag) k z);
-        is_a = is;
-      }
+      record { none = k; closes = closes; long = string-long l (within m s (headed (under head) metadata text out tag) k); is_a = is }
 
 -- the header plays no part in what a refusal leaves
 pub same-unless : (n : ℕ) (s : SessionState DeckState) (h g : CallHeader) (metadata text out tag : List ℕ) (o : Outcome DeckState)
@@ -279,15 +272,13 @@ module _ (m : Mode) (s : SessionState DeckState) (i : CallInput) where
   fitted-unwrap h =
       sym (ap (λ (q : Bool). if_no_check (cond q (check_from5 m incremental s i) 1) s i (compare_tag m incremental s i (unwrap_steps m incremental s i))) h)
 
-  -- and one that does not, with d as the session's history
-  pub unfitted-wrap : (d : DeckState) → d ≡ s.history → fitted ≡ false → gives m s i 1 0 d s.toggle i.out i.tag ≡ wrap_at m incremental s i
+  -- and one that does not
+  pub unfitted-wrap : fitted ≡ false → gives m s i 1 0 s.history s.toggle i.out i.tag ≡ wrap_at m incremental s i
   unfolding wrap_at check_number
-  unfitted-wrap d e h =
-      ap (λ (u : DeckState). gives m s i 1 0 u s.toggle i.out i.tag) e
-      ∙ sym (ap (λ (q : Bool). if_no_check (cond q (check_from5 m incremental s i) 1) s i (accepted m incremental s i (wrap_steps m incremental s i) (wrap_steps m incremental s i).tag)) h)
+  unfitted-wrap h =
+      sym (ap (λ (q : Bool). if_no_check (cond q (check_from5 m incremental s i) 1) s i (accepted m incremental s i (wrap_steps m incremental s i) (wrap_steps m incremental s i).tag)) h)
 
-  pub unfitted-unwrap : (d : DeckState) → d ≡ s.history → fitted ≡ false → gives m s i 1 0 d s.toggle i.out i.tag ≡ unwrap_at m incremental s i
+  pub unfitted-unwrap : fitted ≡ false → gives m s i 1 0 s.history s.toggle i.out i.tag ≡ unwrap_at m incremental s i
   unfolding unwrap_at check_number
-  unfitted-unwrap d e h =
-      ap (λ (u : DeckState). gives m s i 1 0 u s.toggle i.out i.tag) e
-      ∙ sym (ap (λ (q : Bool). if_no_check (cond q (check_from5 m incremental s i) 1) s i (compare_tag m incremental s i (unwrap_steps m incremental s i))) h)
+  unfitted-unwrap h =
+      sym (ap (λ (q : Bool). if_no_check (cond q (check_from5 m incremental s i) 1) s i (compare_tag m incremental s i (unwrap_steps m incremental s i))) h)

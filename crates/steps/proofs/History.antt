@@ -1,6 +1,6 @@
 -- Laws of the first check and of the strings that enter the history, over plain values. Assumes nothing.
-use mathlib.Core.Path.{◌≡◌, refl, sym, ap, ◌∙◌}
-use mathlib.Core.Logic.{◌≢◌, ◌⊎◌, inl, inr}
+use mathlib.Core.Path.{◌≡◌, refl, ap}
+use mathlib.Core.Logic.{◌≢◌}
 use mathlib.Core.Bool.{Bool, true, false, not, ◌||◌, cond}
 use mathlib.Core.List.{List, [], ◌∷◌, ◌++◌}
 use Prim.Native.Nat.{ℕ, zero, suc, ◌+◌, ◌/◌, ◌≤◌}
@@ -11,6 +11,7 @@ use borrow.Author.Tests.{ltb-false, eqb-true}
 use Rattle.deck.specs.declared.DeckState.{DeckState}
 use Rattle.deck.specs.Strings.{Str}
 use Rattle.deck.specs.Closing.{closed_by}
+use Rattle.deck.proofs.Strings.{closed-blocks}
 use Rattle.xoofff.specs.declared.Compressed.{Compressed}
 use Rattle.xoofff.specs.Leaves.{compressed}
 use Rattle.modes.specs.Mode.{is_empty}
@@ -67,37 +68,13 @@ passed is_open index l a n t o h = go (not is_open) (ltb longest a) (ltb longest
 
 -- ---- strings that may be left out
 
-pub appended-a : (d : DeckState) (r : Compressed) (a m : List ℕ) (s : Str) → (length a ≢ 0) ⊎ (length m ≡ 0) → r ≡ compressed d s
-    → r ≡ compressed_if (not (is_empty a) || is_empty m) d s
-appended-a d r [] [] s h e = e
-appended-a d r [] (y ∷ m) s (inl h) e = absurd (h refl)
-appended-a d r [] (y ∷ m) s (inr h) e = absurd (omega (arith, h))
-appended-a d r (x ∷ a) m s h e = e
-
-pub skipped-a : (d : DeckState) (a m : List ℕ) (s : Str) → length a ≡ 0 → length m ≢ 0
-    → ◌≡◌ {A = Compressed} (record { state = d; count = 0 }) (compressed_if (not (is_empty a) || is_empty m) d s)
-skipped-a d [] [] s h g = absurd (g refl)
-skipped-a d [] (y ∷ m) s h g = refl
-skipped-a d (x ∷ a) m s h g = absurd (omega (arith, h))
-
--- A with a header before the metadata, and with none
+-- A with a header before the metadata
 pub headed-a : (d : DeckState) (r : Compressed) (head a m : List ℕ) (s : Str) → length head ≢ 0 → r ≡ compressed d s
     → r ≡ compressed_if (not (is_empty (head ++ a)) || is_empty m) d s
 headed-a d r [] a m s h e = absurd (h refl)
 headed-a d r (x ∷ head) a m s h e = e
 
-no-head : (head a : List ℕ) → length head ≡ 0 → head ++ a ≡ a
-no-head [] a h = refl
-no-head (x ∷ head) a h = absurd (omega (arith, h))
-
-pub bare-a : (d : DeckState) (r : Compressed) (head a m : List ℕ) (c : ℕ) → length head ≡ 0
-    → r ≡ compressed_if (not (is_empty a) || is_empty m) d (closed_by a c) → r ≡ compressed_if (not (is_empty (head ++ a)) || is_empty m) d (closed_by (head ++ a) c)
-bare-a d r head a m c h e = e ∙ sym (ap (λ (x : List ℕ). compressed_if (not (is_empty x) || is_empty m) d (closed_by x c)) (no-head head a h))
-
-pub appended-text : (d : DeckState) (r : Compressed) (m : List ℕ) (s : Str) → length m ≢ 0 → r ≡ compressed d s → r ≡ compressed_if (not (is_empty m)) d s
-appended-text d r [] s h e = absurd (h refl)
-appended-text d r (y ∷ m) s h e = e
-
-pub skipped-text : (d : DeckState) (m : List ℕ) (s : Str) → length m ≡ 0 → ◌≡◌ {A = Compressed} (record { state = d; count = 0 }) (compressed_if (not (is_empty m)) d s)
-skipped-text d [] s h = refl
-skipped-text d (y ∷ m) s h = absurd (omega (arith, h))
+-- what a string costs is little
+pub few-of : (d : DeckState) (r : Compressed) (x : List ℕ) (c : ℕ) → r ≡ compressed d (closed_by x c) → length x ≤ 16401 → r.count ≤ 16402
+unfolding compressed
+few-of d r x c e h = omega (arith, ap (λ (u : Compressed). u.count) e, closed-blocks x c, h)

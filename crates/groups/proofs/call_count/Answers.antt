@@ -9,5 +9,5 @@ returns-then-m-eq0 c = (count-bare _ _ c.if-m-eq0.true, omega arith)
 pub returns-then-a-eq0 : goal.returns-then-a-eq0
 returns-then-a-eq0 c = (count-text _ _ c.if-m-eq0.false c.if-a-eq0.true, omega arith)
 
-pub returns : goal.returns
-returns c = (count-both _ _ c.if-m-eq0.false c.if-a-eq0.false, omega arith)
+pub returns-else-a-eq0 : goal.returns-else-a-eq0
+returns-else-a-eq0 c = (count-both _ _ c.if-m-eq0.false c.if-a-eq0.false, omega arith)

@@ -1,10 +1,15 @@
--- `groups::open` meets its contract; that a key is too long is found by `open_long`. Assumes nothing.
-use native.Mathlib.Omega.{arith}
-use Rattle.groups.proofs.Laws.{open-short, open_above, open-fits, open-charged}
+-- `groups::open` meets its contract. Assumes nothing.
+use Rattle.std.proofs.Common.{arith}
+use Rattle.groups.proofs.Laws.{open-short, open-long, open_above, open-fits, open-charged}
 use Rattle.groups.proofs.open.Goals as goal
+use Rattle.groups.proofs.open.Goals.{then-key-lt16-via-then-key-lt16, then-key-lt16-via-else-key-lt16+then-key-gt47}
 
 pub returns-then-key-lt16 : goal.returns-then-key-lt16
-returns-then-key-lt16 c = open-short _ _ _ _ c.if-key-lt16.true c.refused.ensures
+returns-then-key-lt16 c =
+    elim c.then-key-lt16.branch [
+      | then-key-lt16-via-then-key-lt16 w ↦ open-short _ _ _ _ w.if-key-lt16.true c.refused.ensures
+      | then-key-lt16-via-else-key-lt16+then-key-gt47 w ↦ open-long _ _ _ _ w.if-key-lt16.false w.if-key-gt47.true c.refused.ensures
+    ]
 
 pub returns-then-above_allowance : goal.returns-then-above_allowance
 returns-then-above_allowance c =
@@ -13,10 +18,10 @@ returns-then-above_allowance c =
 pub charged-requires : goal.charged-requires
 charged-requires c =
     let z = c.args in
-    open-fits z.allowance z.r z.key.now c.if-key-lt16.false (omega arith) _ c.above_allowance.ensures c.start-fresh.result
-    c.if-above_allowance.false c.start-fresh.ensures
+    open-fits z.allowance z.r z.key.now c.if-key-lt16.false (omega arith) _ c.above_allowance.ensures c.start.result
+    c.if-above_allowance.false c.start.ensures
 
 pub returns : goal.returns
 returns c =
     open-charged _ _ _ c.if-key-lt16.false (omega arith) _ c.above_allowance.ensures _ _ c.if-above_allowance.false
-    c.start-fresh.ensures c.charged.ensures
+    c.start.ensures c.charged.ensures

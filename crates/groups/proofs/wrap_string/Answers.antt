@@ -1,22 +1,24 @@
 -- `groups::wrap_string` meets its contract. Assumes nothing.
+use Rattle.std.proofs.Common.{refl}
+use Rattle.refusals.proofs.Numbers.{number-positive}
 use Rattle.groups.proofs.Counts.{wrap-count}
 use Rattle.groups.proofs.Laws.{call-refused, call_fits, call-charged}
 use Rattle.groups.proofs.wrap_string.Goals as goal
 
-pub returns-then-number-ne0 : goal.returns-then-number-ne0
-returns-then-number-ne0 c =
+pub returns-in-Err : goal.returns-in-Err
+returns-in-Err c =
     let z = c.args in
-    call-refused z.allowance z.r z.head.now z.metadata.now z.message.now z.out.now z.tag.now _ c.check-number.ensures _ _
-    c.if-number-ne0.true c.refused.ensures
+    call-refused z.allowance z.r z.head.now z.metadata.now z.message.now z.out.now z.tag.now _ c.in-Err.ensures _ _
+    (number-positive c.in-Err.e) c.refused.ensures
 
 pub charged-requires : goal.charged-requires
 charged-requires c =
     let z = c.args in
-    call_fits z.allowance z.r z.head.now z.metadata.now z.message.now z.out.now z.tag.now _ c.check-number.ensures _
-    c.wrap_string-given.result _ _ (wrap-count _ _) c.if-number-ne0.false c.wrap_string-given.ensures
+    call_fits z.allowance z.r z.head.now z.metadata.now z.message.now z.out.now z.tag.now 0 c.in_default.ensures _
+    c.wrap_string-given.result _ _ (wrap-count _ _) refl c.wrap_string-given.ensures
 
 pub returns : goal.returns
 returns c =
     let z = c.args in
-    call-charged z.allowance z.r z.head.now z.metadata.now z.message.now z.out.now z.tag.now _ c.check-number.ensures _
-    c.wrap_string-given.result _ _ _ c.if-number-ne0.false c.wrap_string-given.ensures c.charged.ensures
+    call-charged z.allowance z.r z.head.now z.metadata.now z.message.now z.out.now z.tag.now 0 c.in_default.ensures _
+    c.wrap_string-given.result _ _ _ refl c.wrap_string-given.ensures c.charged.ensures

@@ -1,31 +1,26 @@
 -- `office_envelope::unwrap_envelope_group` meets its contract: check 1 or 3, or the group's own call, with its record written back. Assumes nothing.
-use mathlib.Core.Path.{sym}
 use lib.ListN.{length}
 use Rattle.modes.specs.Mode.{sanse, incremental}
 use Rattle.modes.specs.Rules.{unwrap_from5}
 use Rattle.sanse.specs.Session.{handed_for}
 use Rattle.office.proofs.Laws.{call-refused, call-stored}
-use Rattle.office_envelope.proofs.Laws.{goes_on, goes-inside, goes-short}
+use Rattle.office_envelope.proofs.Laws.{goes-inside, goes-short}
 use Rattle.office_envelope.proofs.unwrap_envelope_group.Goals as goal
 
-pub returns-then-number-ne0 : goal.returns-then-number-ne0
-returns-then-number-ne0 c =
+pub returns-in-Err : goal.returns-in-Err
+returns-in-Err c =
     let a = c.args in
     let i = handed_for a.header.now a.metadata.now a.cryptogram.now a.out.now a.tag.now in
-    call-refused (unwrap_from5 sanse incremental) a.allowance i a.table.now a.group c.first_check-number.result (sym c.first_check-number.ensures) c.if-number-ne0.true
-    c.refused.result c.refused.ensures
+    call-refused (unwrap_from5 sanse incremental) a.allowance i a.table.now a.group c.in-Err.e c.in-Err.ensures c.refused.result c.refused.ensures
 
 pub unwrap_string-r-requires : goal.unwrap_string-r-requires
 unwrap_string-r-requires c =
-    let a = c.args in
-    goes-short a.header.now (length a.metadata.now) (length a.cryptogram.now) (length a.table.now) a.group c.first_check-number.result c.first_check-number.ensures c.if-number-ne0.false
+    let a = c.args in goes-short a.header.now (length a.metadata.now) (length a.cryptogram.now) (length a.table.now) a.group c.in_default.ensures
 
 pub returns : goal.returns
 returns c =
     let a = c.args in
     let i = handed_for a.header.now a.metadata.now a.cryptogram.now a.out.now a.tag.now in
-    let first = c.first_check-number.ensures in
-    call-stored (unwrap_from5 sanse incremental) a.allowance i a.table.now a.group
-    (goes_on a.header.now (length a.metadata.now) (length a.cryptogram.now) (length a.table.now) a.group c.first_check-number.result first c.if-number-ne0.false)
-    (goes-inside a.header.now (length a.metadata.now) (length a.cryptogram.now) (length a.table.now) a.group c.first_check-number.result first c.if-number-ne0.false)
-    c.unwrap_string-r.result _ c.unwrap_string-r.ensures
+    call-stored (unwrap_from5 sanse incremental) a.allowance i a.table.now a.group c.in_default.ensures
+    (goes-inside a.header.now (length a.metadata.now) (length a.cryptogram.now) (length a.table.now) a.group c.in_default.ensures)
+    c.unwrap_string-r.result _ c.unwrap_string-r.ensures c.into.result c.into.ensures

@@ -3,8 +3,9 @@ use mathlib.Core.Path.{sym, ap, ◌∙◌}
 use Rattle.envelope.specs.Layout.{letter_n}
 use Rattle.headers.proofs.Exactly.{fits-short}
 use Rattle.modes.specs.Mode.{sane}
+use Rattle.steps.specs.declared.CallResult.{CallResult}
 use Rattle.steps.proofs.Calls.{fitted-unwrap, unfitted-unwrap}
-use Rattle.sane.specs.declared.SaneResult.{SaneResult}
+use Rattle.sane.specs.declared.SaneSession.{SaneSession}
 use Rattle.sane.specs.Session.{state_of, call_result, handed_for}
 use Rattle.sane.proofs.unwrap_envelope.Goals as goal
 
@@ -12,8 +13,7 @@ pub returns-then-not-fits : goal.returns-then-not-fits
 returns-then-not-fits c =
     let a = c.args in
     let i = handed_for a.header.now a.metadata.now a.cryptogram.now a.out.now a.tag.now in
-    ap (λ (r : SaneResult). call_result r i.out i.tag) c.result.ensures
-    ∙ unfitted-unwrap sane (state_of a.s) i c.deck_of-d.result c.deck_of-d.ensures (sym c.fits.ensures ∙ c.if-not-fits.true)
+    ap (λ (r : CallResult SaneSession). call_result r i.out i.tag) c.refused.ensures ∙ unfitted-unwrap sane (state_of a.s) i (sym c.fits.ensures ∙ c.if-not-fits.true)
 
 pub unwrap_string-requires : goal.unwrap_string-requires
 unwrap_string-requires c = fits-short letter_n _ _ _ (sym c.fits.ensures ∙ c.if-not-fits.false)

@@ -1,81 +1,60 @@
 -- `sane::wrap_string` meets its contract. Assumes nothing.
 use mathlib.Core.Path.{refl, ap, ◌∙◌}
+use mathlib.Core.Bool.{true}
+use mathlib.Core.List.{[], ◌∷◌}
 use Prim.Native.Nat.{◌≤◌}
 use native.Mathlib.Omega.{arith}
 use lib.ListN.{length}
 use lib.Seq.{length-take-le}
+use Rattle.deck.proofs.Closing.{closing-pos}
 use Rattle.modes.specs.Mode.{sane}
+use Rattle.steps.specs.declared.CallResult.{CallResult}
 use Rattle.steps.proofs.Calls.{begins, begun-index, within, first-of, begun-of, wrap-refused, wrap-accepted}
-use Rattle.sane.specs.declared.SaneResult.{SaneResult}
+use Rattle.sane.specs.declared.SaneSession.{SaneSession}
 use Rattle.sane.specs.Session.{state_of, call_result, handed_for}
-use Rattle.sane.proofs.Calls.{short, done-of, done-most, wrap-worked}
+use Rattle.sane.proofs.Calls.{short, done-of, wrap-worked}
 use Rattle.sane.proofs.wrap_string.Goals as goal
 
-pub returns-then-number-ne0 : goal.returns-then-number-ne0
-returns-then-number-ne0 c =
+pub returns-in-Err : goal.returns-in-Err
+returns-in-Err c =
     let a = c.args in
     let s = state_of a.s in
     let i = handed_for a.head.now a.metadata.now a.message.now a.out.now a.tag.now in
-    let k = first-of sane s a.head.now a.metadata.now a.message.now a.out.now a.tag.now c.check-number.ensures in
-    ap (λ (r : SaneResult). call_result r i.out i.tag) c.result.ensures
-    ∙ wrap-refused sane s i c.check-number.result c.deck_of-d.result k c.deck_of-d.ensures c.if-number-ne0.true
+    ap (λ (r : CallResult SaneSession). call_result r i.out i.tag) c.refused.ensures
+    ∙ wrap-refused sane s i c.in-Err.e (first-of sane s a.head.now a.metadata.now a.message.now a.out.now a.tag.now c.in-Err.ensures)
 
 pub append_metadata-h-requires : goal.append_metadata-h-requires
 append_metadata-h-requires c =
     let a = c.args in
     let s = state_of a.s in
     let i = handed_for a.head.now a.metadata.now a.message.now a.out.now a.tag.now in
-    let k = first-of sane s a.head.now a.metadata.now a.message.now a.out.now a.tag.now c.check-number.ensures in
-    begins sane s i (within sane s i k c.if-number-ne0.false) c.requires c.deck_of-d.ensures c.closing.ensures
+    let k = first-of sane s a.head.now a.metadata.now a.message.now a.out.now a.tag.now c.in_default.ensures in
+    begins sane s i (within sane s i k) c.requires c.closing.ensures
 
 pub finish-g-requires : goal.finish-g-requires
 finish-g-requires c =
     let a = c.args in
     let s = state_of a.s in
     let i = handed_for a.head.now a.metadata.now a.message.now a.out.now a.tag.now in
-    let h =
-    begun-of sane s a.head.now a.metadata.now a.message.now a.out.now a.tag.now c.check-number.ensures c.if-number-ne0.false
-    c.deck_of-d.ensures c.closing.ensures c.requires c.append_metadata-h.ensures in
-    let w = within sane s i h.checked h.none in
-    let l : length a.message.now ≤ length c.add_stream-c.new.out = omega (arith, w.holds, c.add_stream-c.auto.out) in
-    (omega (arith, length-take-le _ _ l, w.text), w.tag, begun-index short h)
-
-pub overflow_add-c : goal.overflow_add-c
-overflow_add-c c =
-    let a = c.args in
-    let s = state_of a.s in
-    let i = handed_for a.head.now a.metadata.now a.message.now a.out.now a.tag.now in
-    let h =
-    begun-of sane s a.head.now a.metadata.now a.message.now a.out.now a.tag.now c.check-number.ensures c.if-number-ne0.false
-    c.deck_of-d.ensures c.closing.ensures c.requires c.append_metadata-h.ensures in
-    let w = within sane s i h.checked h.none in
-    let l : length a.message.now ≤ length c.add_stream-c.new.out = omega (arith, w.holds, c.add_stream-c.auto.out) in
-    let k = done-of h c.add_stream-c.ensures (length-take-le _ _ l) c.finish-g.ensures in
-    omega (arith, done-most k)
-
-pub overflow_add-c-2 : goal.overflow_add-c-2
-overflow_add-c-2 c =
-    let a = c.args in
-    let s = state_of a.s in
-    let i = handed_for a.head.now a.metadata.now a.message.now a.out.now a.tag.now in
-    let h =
-    begun-of sane s a.head.now a.metadata.now a.message.now a.out.now a.tag.now c.check-number.ensures c.if-number-ne0.false
-    c.deck_of-d.ensures c.closing.ensures c.requires c.append_metadata-h.ensures in
-    let w = within sane s i h.checked h.none in
-    let l : length a.message.now ≤ length c.add_stream-c.new.out = omega (arith, w.holds, c.add_stream-c.auto.out) in
-    let k = done-of h c.add_stream-c.ensures (length-take-le _ _ l) c.finish-g.ensures in
-    omega (arith, done-most k)
+    let h = begun-of sane s a.head.now a.metadata.now a.message.now a.out.now a.tag.now c.in_default.ensures c.closing.ensures c.requires c.append_metadata-h.ensures.gives in
+    let w = within sane s i h.none in
+    let l : length a.message.now ≤ length c.add_stream-c.new.out = omega (arith, w.holds, c.add_stream-c.auto.out) in (
+      omega (arith, c.closing-2.ensures, closing-pos (true ∷ a.s.toggle ∷ [])),
+      omega (arith, length-take-le _ _ l, w.text),
+      omega (arith, w.tag),
+      begun-index short h,
+    )
 
 pub returns : goal.returns
 returns c =
     let a = c.args in
     let s = state_of a.s in
     let i = handed_for a.head.now a.metadata.now a.message.now a.out.now a.tag.now in
-    let h =
-    begun-of sane s a.head.now a.metadata.now a.message.now a.out.now a.tag.now c.check-number.ensures c.if-number-ne0.false
-    c.deck_of-d.ensures c.closing.ensures c.requires c.append_metadata-h.ensures in
-    let w = within sane s i h.checked h.none in
+    let h = begun-of sane s a.head.now a.metadata.now a.message.now a.out.now a.tag.now c.in_default.ensures c.closing.ensures c.requires c.append_metadata-h.ensures.gives in
+    let w = within sane s i h.none in
     let l : length a.message.now ≤ length c.add_stream-c.new.out = omega (arith, w.holds, c.add_stream-c.auto.out) in
-    let k = done-of h c.add_stream-c.ensures (length-take-le _ _ l) c.finish-g.ensures in
-    ap (λ (r : SaneResult). call_result r c.add_stream-c.new.out c.finish-g.new.tag) c.result-2.ensures
+    let x = c.add_stream-c.ensures in
+    let g = c.finish-g.ensures in
+    let k = done-of h x.adds x.counts (length-take-le _ _ l) c.closing-2.ensures w.tag g.gains g.fills g.counts in
+    ap (λ (r : CallResult SaneSession). call_result r c.add_stream-c.new.out c.finish-g.new.tag) c.accepted.ensures
     ∙ wrap-accepted sane s i (wrap-worked k refl)

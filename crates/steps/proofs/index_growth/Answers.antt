@@ -8,5 +8,5 @@ returns-then-mlen-eq0 c = growth-bare _ _ c.if-mlen-eq0.true
 pub returns-then-alen-eq0 : goal.returns-then-alen-eq0
 returns-then-alen-eq0 c = growth-text _ _ c.if-mlen-eq0.false c.if-alen-eq0.true
 
-pub returns : goal.returns
-returns c = growth-both _ _ c.if-mlen-eq0.false c.if-alen-eq0.false
+pub returns-else-alen-eq0 : goal.returns-else-alen-eq0
+returns-else-alen-eq0 c = growth-both _ _ c.if-mlen-eq0.false c.if-alen-eq0.false

@@ -7,4 +7,4 @@ use Rattle.capi.proofs.c_table.pevghazo_nearly_full.Goals as goal
 
 pub narrow-requires : goal.narrow-requires
 narrow-requires c =
-    subst (λ (f : TableFinding). f.group < 32) (sym c.nearly_full-r.ensures) (group-below (table_of c.args.table.now) c.args.mark)
+    subst (λ (f : TableFinding). f.group < 32) (sym c.nearly_full.ensures) (group-below (table_of c.args.table.now) c.args.mark)

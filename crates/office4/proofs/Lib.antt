@@ -1,2 +1,0 @@
--- The clauses of the crate's functions.
-pub mod Contracts
