@@ -18,7 +18,7 @@ pub fn add<const N: usize>(mut a: [u32; N], b: [u32; N]) -> [u32; N]
     a
 }
 
-// The lane of the four bytes from byte `at` on, the lowest first.
+// The lane of the four bytes from byte `at` on, the lowest first. An offset, for a part of s would give each caller a `take` and a `drop` in its laws.
 pub fn lane_at(s: &[u8], at: usize) -> u32
     requires { at + 4 ≤ length s.now }
     ensures { result ≡ lane (byte_bit (drop at s.now)) }
@@ -26,7 +26,7 @@ pub fn lane_at(s: &[u8], at: usize) -> u32
     u32::from_le_bytes([s[at], s[at + 1], s[at + 2], s[at + 3]])
 }
 
-// The state of the 48 bytes from byte `at` on, read where they stand.
+// The state of the 48 bytes from byte `at` on, read where they stand; an offset as in `lane_at`.
 pub fn from_bytes_at(s: &[u8], at: usize) -> [u32; 12]
     requires { at + 48 ≤ length s.now }
     ensures { result ≡ from_bytes (drop at s.now) }

@@ -45,7 +45,7 @@ fn permute_four(w: [u32; 48]) -> [u32; 48]
 }
 
 // The permutation of each of four states that are laid out in a with the steps dx and dy from place n on; the results are added to w, or put in its
-// place. One function for both leaves, for speed: docs/BENCHMARKS.md.
+// place. A flag says which: where the caller added what is put, `compress` took 83 ns for 79 ns (docs/BENCHMARKS.md, "What was tried on the way").
 pub fn permute_into(w: &mut [u32; 48], add: bool, a: &[u32], n: usize, dx: usize, dy: usize)
     requires { (length w.old ≡ 48) × (n + 3 * dx + 2 * dy + 4 ≤ length a.now) }
     ensures { w.new ≡ into add w.old (beside (λ j. perm (laid n dx dy a.now j))) }
