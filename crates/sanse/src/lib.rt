@@ -28,7 +28,7 @@ pub struct Session {
     pub opened: bool,
 }
 
-// ---- the bytes that follow a string: its frame bits and the padding bit
+// ---- the bytes that follow a string: its frame bits and the padding bit. One function of any bits would be no plainer: a fold, where these are values
 
 // After A: 0, e.
 #[tactic(auto, unfolding(deck::specs::Closing::closing_byte))]
