@@ -1,6 +1,6 @@
 // Message envelopes (document 01, "Envelope", and document 02, requests 2 and 9): a header `letter,group,A length,M length,`, and then metadata,
-// cryptogram and tag. Reading takes any bytes and hands out the caller's own. Each answer has a number of document 01's "What stops a call", 0 where
-// nothing stopped it. specs/Layout.antt has the layout and Read.antt what is found; the theorems over them are in proofs/.
+// cryptogram and tag. Reading takes any bytes and hands out the caller's own. A refusal is a check of document 01's "What stops a call".
+// specs/Layout.antt has the layout and Read.antt what is found; the theorems over them are in proofs/.
 #![tactic(auto)]
 
 ghost use Rattle.std.specs.Prelude.{◌≡◌};
