@@ -1,6 +1,6 @@
 // Message envelopes (document 01, "Envelope", and document 02, requests 2 and 9): a header `letter,group,A length,M length,`, and then metadata,
-// cryptogram and tag. Reading takes any bytes and hands out the caller's own. Each answer has a number of document 01's "What stops a call", 0 where
-// nothing stopped it. specs/Layout.antt has the layout and Read.antt what is found; the theorems over them are in proofs/.
+// cryptogram and tag. Reading takes any bytes and hands out the caller's own. A refusal is a check of document 01's "What stops a call".
+// specs/Layout.antt has the layout and Read.antt what is found; the theorems over them are in proofs/.
 #![tactic(auto)]
 
 ghost use Rattle.std.specs.Prelude.{◌≡◌};
@@ -17,7 +17,8 @@ pub const MAX_LENGTH: u32 = 16384;
 
 pub const COMMA: u8 = b',';
 
-// The letters: S for a message of SANSE, N for one of SANE, F for an old letter of the first version, which is read and never written.
+// The letters: S for a message of SANSE, N for one of SANE, F for an old letter of the first version, which is read and never written. They stay
+// bytes: C hands any byte to each call, and gets one, so that an enum would be made and undone in each, and say no more.
 pub const LETTER_S: u8 = b'S';
 
 pub const LETTER_N: u8 = b'N';
@@ -163,7 +164,8 @@ pub fn read_envelope(s: &[u8]) -> Result<Envelope, Refusal>
     })
 }
 
-// The header's bytes of the envelope at the start of some bytes, as a part of these; empty where it is refused.
+// The header's bytes of the envelope at the start of some bytes, as a part of these; empty where it is refused. The three parts below are told in the
+// same way by two places each; a function that is handed these would be no shorter.
 #[tactic(auto, using(crate::proofs::Reading::in_order), unfolding(crate::specs::Read::header_part))]
 pub fn header_bytes(s: &[u8]) -> &[u8]
     ensures { result.now ≡ header_part s.now }

@@ -1,6 +1,6 @@
 // Writes envelopes (document 01, "Envelope", and document 02, request 2), and headers alone (request 7), to the start of a lent buffer, but none with the
-// letter F (request 9). Each answer has a number of document 01's "What stops a call", 0 where nothing stopped it. specs/Write.antt says what is
-// written; that reading gives it back is shown in proofs/RoundTrip.antt.
+// letter F (request 9). A refusal is a check of document 01's "What stops a call". specs/Write.antt says what is written; that reading gives it back is
+// shown in proofs/RoundTrip.antt.
 #![tactic(auto)]
 
 ghost use Rattle.std.specs.Prelude.{◌≡◌, ℕ, ◌≤◌, length, MatchResult};
