@@ -15,8 +15,7 @@ use deck::DeckState;
 pub extern "C" fn pevghazo_permute(s: &mut [u32; 12])
     ensures { s.new ≡ perm s.old }
 {
-    let t = xoodoo::permute(*s);
-    *s = t;
+    *s = xoodoo::permute(*s);
 }
 
 // Accumulator and mask, in place, after the string of these bytes with no frame bits.
@@ -32,11 +31,7 @@ pub extern "C" fn pevghazo_compress(acc: &mut [u32; 12], mask: &mut [u32; 12], s
         index: 0,
     };
     let r = xoofff::compress(d, s, 1);
-    let e = r.state;
-    let x = e.acc;
-    let k = e.mask;
-    *acc = x;
-    *mask = k;
+    (*acc, *mask) = (r.state.acc, r.state.mask);
 }
 
 // The output of the rolled state y under the mask, from its first byte on, added to the buffer.
@@ -49,7 +44,7 @@ pub extern "C" fn pevghazo_expand(y: &[u32; 12], mask: &[u32; 12], out: &mut [u8
     xoofff::expand(*y, mask, 0, out)
 }
 
-// ---- the same two, with full blocks taken four side by side
+// ---- the same two, with full blocks taken four side by side: functions of their own, since C names each
 
 #[unsafe(no_mangle)]
 pub extern "C" fn pevghazo_compress_four(acc: &mut [u32; 12], mask: &mut [u32; 12], s: &[u8])
@@ -63,11 +58,7 @@ pub extern "C" fn pevghazo_compress_four(acc: &mut [u32; 12], mask: &mut [u32; 1
         index: 0,
     };
     let r = compress4::compress_four(d, s, 1);
-    let e = r.state;
-    let x = e.acc;
-    let k = e.mask;
-    *acc = x;
-    *mask = k;
+    (*acc, *mask) = (r.state.acc, r.state.mask);
 }
 
 #[unsafe(no_mangle)]

@@ -2,7 +2,7 @@
 ghost use Rattle.codes.specs.Code.{Coded};
 
 use sanse::Session;
-use session::Answer;
+use steps::Answer;
 
 // The code of a packet, 0 to 2,047: 8 bytes at the start of `out`. Checks 5, 12 and 8, in this order. No session is altered.
 #[unsafe(no_mangle)]

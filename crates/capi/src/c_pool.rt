@@ -6,13 +6,14 @@ ghost use Rattle.pool_lines.specs.Lines.{add_line};
 ghost use Rattle.lent_pool.specs.Lent.{added_result};
 
 use pool::Pool;
+use refusals::number_given;
 
 // Adds an issue line, its line feed included. The pool stays as it was where the call is refused. Checks 13, 14 and 15.
 #[unsafe(no_mangle)]
 pub extern "C" fn pevghazo_pool_add(pool: &mut Pool, line: &[u8]) -> u32
     ensures { added_result result pool.new ≡ add_line pool.old line.now }
 {
-    lent_pool::add_line(pool, line)
+    number_given(lent_pool::add_line(pool, line))
 }
 
 // Whether a number of a size is in the pool.

@@ -3,7 +3,7 @@ ghost use Rattle.sae.specs.Session.{handed};
 ghost use Rattle.sae_session.specs.Lent.{Started, Unwrapped, Wrapped};
 
 use sae::SaeSession;
-use session::Answer;
+use steps::Answer;
 
 // Opens a session in the place of the record, under a key of 16 to 47 bytes and with the nonce that the letters were made with; the tag of the start
 // fills `tag`. Checks 4, 6 and 7; a refused start closes the record, and the session that it held is lost.

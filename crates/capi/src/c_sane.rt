@@ -3,7 +3,7 @@ ghost use Rattle.sane.specs.Session.{handed, handed_for};
 ghost use Rattle.sane_session.specs.Lent.{Started, Wrapped, Unwrapped};
 
 use sane::SaneSession;
-use session::Answer;
+use steps::Answer;
 
 // Opens a session in the place of the record, under a key of 16 to 47 bytes and with a nonce that was not used under it before; the tag of the
 // start fills `tag`. Checks 4, 6 and 7; a refused start closes the record, and the session that it held is lost.

@@ -3,7 +3,7 @@ ghost use Rattle.sanse.specs.Session.{handed, handed_for};
 ghost use Rattle.session.specs.Lent.{Started, Wrapped, Unwrapped};
 
 use sanse::Session;
-use session::Answer;
+use steps::Answer;
 
 // Opens a session under a key of 16 to 47 bytes in the place of the record. Check 4; a refused start closes the record,
 // and the session that it held is lost.

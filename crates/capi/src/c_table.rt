@@ -6,7 +6,7 @@ ghost use Rattle.capi.specs.Found.{found_result};
 
 use groups::Record;
 use refusals::Refusal;
-use session::Answer;
+use steps::Answer;
 
 // The answer of the nearly-full question: its number (0: answered), whether a group was found, and the group, 0 where none was.
 #[repr(C)]

@@ -3,7 +3,7 @@ ghost use Rattle.std.specs.Prelude.{◌≡◌};
 ghost use Rattle.charges.specs.Charges.{price_line};
 
 use charges::Prices;
-use tills::{Priced, Till};
+use tills::{Priced, Till, answer};
 
 // Prices an issue line, its line feed included, and gives its charge and the till afterwards, which is the one handed in where the call is refused.
 // Checks 13, 16, 19 and 22.
@@ -11,5 +11,5 @@ use tills::{Priced, Till};
 pub extern "C" fn pevghazo_price(till: Till, prices: Prices, line: &[u8]) -> Priced
     ensures { result ≡ price_line prices till line.now }
 {
-    charges::price(till, prices, line)
+    answer(till, charges::price(till, prices, line))
 }

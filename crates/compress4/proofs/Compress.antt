@@ -92,6 +92,16 @@ block-lane s at i m h e ev = ev ∙ sym (is_word (is-more (is-own (lanes-words (
         ap (λ (k : ℕ). bit (get_or l k 0) z) d ∙ string-to-state (byte_bit (drop at s)) (i % 4) (i / 4) z (omega arith) (omega arith) g
         ∙ ap (λ (k : ℕ). byte_bit (drop at s) (z + 32 * k)) (sym d) ∙ sym (lane-further s at i m e z g)
 
+-- the blocks of the bytes from place `at` on, which are lent
+pub blocks-lent : (s : List ℕ) (at : ℕ) (g : ℕ → List ℕ) → at ≤ length s
+    → beside (λ j. perm (sum (block_at (take (length s - at) (drop at s)) 0 j) (g j))) ≡ beside (λ j. perm (sum (block_at s at j) (g j)))
+blocks-lent s at g h =
+    beside-ext (λ j. perm (sum (block_at (take (length s - at) (drop at s)) 0 j) (g j))) (λ j. perm (sum (block_at s at j) (g j)))
+    (λ j l.
+    let e : at + (0 + 48 * j) ≡ at + 48 * j = omega arith in
+    ap (λ (t : List ℕ). perm (sum (from_bytes t) (g j)))
+    (ap (drop (0 + 48 * j)) (take_all (length s - at) (drop at s) (omega (arith, length-drop at s))) ∙ drop-drop (0 + 48 * j) at s ∙ ap (λ (n : ℕ). drop n s) e))
+
 -- blocks and masks, permuted
 pub group-permuted : (s : List ℕ) (at : ℕ) (g : ℕ → List ℕ) {w : List ℕ} → ((j : ℕ) → length (g j) ≡ 12) → w ≡ sum (beside (block_at s at)) (beside g)
     → beside (λ j. perm (laid 0 4 16 w j)) ≡ beside (λ j. perm (sum (block_at s at j) (g j)))

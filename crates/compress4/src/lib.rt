@@ -12,50 +12,47 @@ ghost use Rattle.xoofff.specs.Leaves.{compressed};
 ghost use Rattle.compress4.specs.Four.{add_four, block_at};
 
 use deck::DeckState;
+use rows::{Input, Row};
 use xoofff::Compressed;
 
-// The four blocks from byte `at` on, side by side.
-fn blocks_beside(s: &[u8], at: usize) -> [u32; 48]
-    requires { at + 192 ≤ length s.now }
-    ensures { result ≡ beside (block_at s.now at) }
+// The first four blocks, side by side.
+fn blocks_beside(s: &[u8]) -> [u32; 48]
+    requires { 192 ≤ length s.now }
+    ensures { result ≡ beside (block_at s.now 0) }
 {
     let mut w = [0u32; 48];
-    let mut i: usize = 0;
-    while i < 12 {
-        let p = at + 4 * i;
+    for i in 0..12 {
+        let p = 4 * i;
         w[4 * i] = state::lane_at(s, p);
         w[4 * i + 1] = state::lane_at(s, p + 48);
         w[4 * i + 2] = state::lane_at(s, p + 96);
         w[4 * i + 3] = state::lane_at(s, p + 144);
-        i += 1;
     }
     w
 }
 
-// The four states from word n of a row on, added to those of w.
-fn add_row(w: [u32; 48], r: &[u32; 80], n: usize) -> [u32; 48]
-    requires { n + 15 ≤ 80 }
-    ensures { result ≡ sum w (beside (laid n 3 1 r.now)) }
+// The next four states of a row, added to those of w.
+fn add_row(w: [u32; 48], row: &Row<Input>) -> [u32; 48]
+    ensures { result ≡ sum w (beside (laid row.now.at 3 1 row.now.words)) }
 {
+    let r = &row.words;
     let mut t = [0u32; 48];
-    let mut i: usize = 0;
-    while i < 12 {
-        let p = 3 * (i % 4) + i / 4 + n;
+    for i in 0..12 {
+        let p = 3 * (i % 4) + i / 4 + row.at;
         t[4 * i] = w[4 * i] ^ r[p];
         t[4 * i + 1] = w[4 * i + 1] ^ r[p + 1];
         t[4 * i + 2] = w[4 * i + 2] ^ r[p + 2];
         t[4 * i + 3] = w[4 * i + 3] ^ r[p + 3];
-        i += 1;
     }
     t
 }
 
-// Adds to the sums the permutations of the four full blocks from byte `at` on, with the masks from word n of their row on.
-fn add_group(sums: &mut [u32; 48], s: &[u8], at: usize, r: &[u32; 80], n: usize)
-    requires { (length sums.old ≡ 48) × (at + 192 ≤ length s.now) × (n + 15 ≤ 80) }
-    ensures { sums.new ≡ sum sums.old (beside (λ j. perm (sum (block_at s.now at j) (laid n 3 1 r.now j)))) }
+// Adds to the sums the permutations of the first four full blocks, with the next four masks of their row.
+fn add_group(sums: &mut [u32; 48], s: &[u8], row: &Row<Input>)
+    requires { (length sums.old ≡ 48) × (192 ≤ length s.now) }
+    ensures { sums.new ≡ sum sums.old (beside (λ j. perm (sum (block_at s.now 0 j) (laid row.now.at 3 1 row.now.words j)))) }
 {
-    let w = add_row(blocks_beside(s, at), r, n);
+    let w = add_row(blocks_beside(s), row);
     xoodoo4::permute_into(sums, true, &w, 0, 4, 16);
 }
 
@@ -63,6 +60,7 @@ fn add_group(sums: &mut [u32; 48], s: &[u8], at: usize, r: &[u32; 80], n: usize)
 fn add_four(x: [u32; 12], w: &[u32; 48]) -> [u32; 12]
     ensures { result ≡ add_four x w.now }
 {
+    // no loop: the borrow checker covers no call's result that is laid in an array again
     let p = state::add(x, xoodoo4::part(w, 0));
     let q = state::add(p, xoodoo4::part(w, 1));
     let r = state::add(q, xoodoo4::part(w, 2));
@@ -75,33 +73,26 @@ pub fn compress_four(d: DeckState, s: &[u8], closing: u8) -> Compressed
     requires { (0 < closing) × (d.index + b (length s.now) + 1 ≤ 4294967295) }
     ensures { result ≡ compressed d (closed_by s.now closing) }
 {
-    let x = d.acc;
-    let k = d.mask;
+    let groups = s.len() / 192;
     let mut sums = [0u32; 48];
-    let mut row = rows::row_of(k);
-    rows::append_in(&mut row, 0);
-    let mut n: usize = 0;
-    let mut at: usize = 0;
-    while 192 <= s.len() - at {
-        let m = rows::renew(&mut row, n);
-        n = m + 4;
-        rows::append_in(&mut row, n);
-        add_group(&mut sums, s, at, &row, m);
-        at += 192;
+    let mut row = Row::<Input>::new(d.mask);
+    for j in 0..groups {
+        add_group(&mut sums, &s[192 * j..], &row);
+        row.advance();
     }
-    let acc = add_four(x, &sums);
-    let mask = rows::state_at(&row, n);
-    let taken = (at / 48) as u32;
-    let before = d.index + taken;
+    let acc = add_four(d.acc, &sums);
+    let mask = row.state();
     let r = xoofff::compress(
         DeckState {
             acc,
             mask,
             index: 0,
         },
-        &s[at..],
+        &s[192 * groups..],
         closing,
     );
+    let taken = 4 * groups as u32;
+    let before = d.index + taken;
     let mut state = r.state;
     state.index += before;
     let count = taken + r.count;

@@ -1,13 +1,13 @@
 -- The next day is the one after a day: it comes later, it exists unless the day was the last, and no day lies between. Assumes nothing.
 use Prim.Native.Nat.{ℕ, ◌+◌, ◌*◌, ◌/◌, ◌<◌, ◌≤◌}
 use mathlib.Core.Path.{◌≡◌, refl, ap, ap₂, ◌∙◌}
-use mathlib.Core.Bool.{Bool, true, false, cond}
+use mathlib.Core.Bool.{Bool, true, false}
 use native.Mathlib.Omega.{arith}
-use lib.Dec.{ltb, eqb}
-use borrow.Author.Tests.{le-ltb, ltb-true, ltb-false}
+use lib.Dec.{ltb}
+use borrow.Author.Tests.{ltb-true, ltb-false}
 use Rattle.days.specs.Days.{year_of, month_of, date_of, Exists, is_leap, month_length, length_at, last_day, is_day, next_day, NextExactly}
 use Rattle.days.proofs.Rules.{no-month-below, no-month-above, Parts, parts, of_parts, day-right}
-use Rattle.days.proofs.Steps.{next-date, next-month, next-year}
+use Rattle.std.proofs.lemmas.Bool.Decides.{nat_tests}
 
 -- the month of a day that exists is one of the twelve
 pub month-within : (day : ℕ) → is_day day ≡ true → (1 ≤ month_of day) × (month_of day ≤ 12)
@@ -27,32 +27,13 @@ month-within day e = (low (ltb (month_of day) 1) refl, high (ltb 12 (month_of da
 -- a month has a first day and no thirty-second
 pub some-days : (leap : Bool) (month : ℕ) → 1 ≤ month → month ≤ 12 → 1 ≤ month_length leap month
 unfolding month_length
-some-days leap month from to =
-    simp (le-ltb month 1 from, le-ltb 12 month to) (go leap (eqb month 2) (eqb month 4) (eqb month 6) (eqb month 9) (eqb month 11))
-  where
-    go : (l a b c d e : Bool) → 1 ≤ cond a (cond l 29 28) (cond b 30 (cond c 30 (cond d 30 (cond e 30 31))))
-    go true true b c d e = omega arith
-    go false true b c d e = omega arith
-    go l false true c d e = omega arith
-    go l false false true d e = omega arith
-    go l false false false true e = omega arith
-    go l false false false false true = omega arith
-    go l false false false false false = omega arith
+some-days true month from to = grind (arith, nat_tests)
+some-days false month from to = grind (arith, nat_tests)
 
 pub few-days : (leap : Bool) (month : ℕ) → month_length leap month ≤ 31
 unfolding month_length
-few-days leap month = go leap (eqb month 2) (eqb month 4) (eqb month 6) (eqb month 9) (eqb month 11) (ltb month 1) (ltb 12 month)
-  where
-    go : (l a b c d e f g : Bool) → cond a (cond l 29 28) (cond b 30 (cond c 30 (cond d 30 (cond e 30 (cond f 0 (cond g 0 31)))))) ≤ 31
-    go true true b c d e f g = omega arith
-    go false true b c d e f g = omega arith
-    go l false true c d e f g = omega arith
-    go l false false true d e f g = omega arith
-    go l false false false true e f g = omega arith
-    go l false false false false true f g = omega arith
-    go l false false false false false true g = omega arith
-    go l false false false false false false true = omega arith
-    go l false false false false false false false = omega arith
+few-days true month = grind (arith, nat_tests)
+few-days false month = grind (arith, nat_tests)
 
 -- December has 31 days
 december : (leap : Bool) (month : ℕ) → month ≡ 12 → month_length leap month ≡ 31
@@ -66,18 +47,13 @@ pub data Following (day : ℕ) : Type 0 where
   new-year : length_at day ≤ date_of day → 12 ≤ month_of day → next_day day ≡ year_of day * 10000 + 10101 → Following day
 
 pub following : (day : ℕ) → Following day
+unfolding next_day
 following day = go (ltb (date_of day) (length_at day)) (ltb (month_of day) 12) refl refl
   where
     go : (s t : Bool) → ltb (date_of day) (length_at day) ≡ s → ltb (month_of day) 12 ≡ t → Following day
-    go true t p q = let h = ltb-true (date_of day) (length_at day) p in same-month h (next-date day (is_leap (year_of day)) (length_at day) refl refl h)
-    go false true p q =
-        let h = ltb-false (date_of day) (length_at day) p in
-        let m = ltb-true (month_of day) 12 q in
-        new-month h m (next-month day (is_leap (year_of day)) (length_at day) refl refl h m)
-    go false false p q =
-        let h = ltb-false (date_of day) (length_at day) p in
-        let m = ltb-false (month_of day) 12 q in
-        new-year h m (next-year day (is_leap (year_of day)) (length_at day) refl refl h m)
+    go true t p q = same-month (ltb-true (date_of day) (length_at day) p) (simp p)
+    go false true p q = new-month (ltb-false (date_of day) (length_at day) p) (ltb-true (month_of day) 12 q) (simp (p, q))
+    go false false p q = new-year (ltb-false (date_of day) (length_at day) p) (ltb-false (month_of day) 12 q) (simp (p, q))
 
 -- it comes later
 pub next-later : (day : ℕ) → day < next_day day

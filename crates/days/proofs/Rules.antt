@@ -4,8 +4,9 @@ use mathlib.Core.Path.{◌≡◌, refl, sym, ap, ◌∙◌, subst}
 use mathlib.Core.Bool.{Bool, true, false, not, ◌&&◌, ◌||◌, true≢false, false≢true}
 use mathlib.Core.Logic.{◌↔◌, ◌⊎◌, inl, inr}
 use native.Mathlib.Omega.{arith}
-use lib.Dec.{ltb, leb, eqb}
-use borrow.Author.Tests.{lt-ltb, le-ltb, le-leb, eq-eqb, ne_eqb, ltb-true, ltb-false, leb-true, eqb-true, eqb-false}
+use lib.Dec.{ltb, eqb}
+use Rattle.std.proofs.lemmas.Bool.Decides.{nat_tests}
+use borrow.Author.Tests.{eq-eqb, ne_eqb, ltb-true, ltb-false, eqb-true, eqb-false}
 use Rattle.days.specs.Calendar.{Leap, Lasts, leap-february, february, april, june, september, november, the_rest, Before, by-year, by-month, by-date}
 use Rattle.days.specs.Days.{year_of, month_of, date_of, day_of, Exists, is_leap, month_length, length_at, is_day, DayExactly, DigitsExactly}
 
@@ -36,42 +37,18 @@ common-right year = ((λ e h. true≢false (sym ((leap-right year).1 h) ∙ e)),
 
 -- the months
 module _ (leap : Bool) (month : ℕ) where
-  pub april-days : month ≡ 4 → month_length leap month ≡ 30
-  unfolding month_length
-  april-days e = ap (month_length leap) e
-
-  pub june-days : month ≡ 6 → month_length leap month ≡ 30
-  unfolding month_length
-  june-days e = ap (month_length leap) e
-
-  pub september-days : month ≡ 9 → month_length leap month ≡ 30
-  unfolding month_length
-  september-days e = ap (month_length leap) e
-
-  pub november-days : month ≡ 11 → month_length leap month ≡ 30
-  unfolding month_length
-  november-days e = ap (month_length leap) e
-
   pub no-month-below : month < 1 → month_length leap month ≡ 0
   unfolding month_length
-  no-month-below h = let zero : month ≡ 0 = omega arith in ap (month_length leap) zero
+  no-month-below h = grind (arith, nat_tests)
 
   pub no-month-above : 12 < month → month_length leap month ≡ 0
   unfolding month_length
-  no-month-above h =
-      let two : month ≡ 2 → ⊥ = λ e. omega arith in
-      let four : month ≡ 4 → ⊥ = λ e. omega arith in
-      let six : month ≡ 6 → ⊥ = λ e. omega arith in
-      let nine : month ≡ 9 → ⊥ = λ e. omega arith in
-      let eleven : month ≡ 11 → ⊥ = λ e. omega arith in
-      let some : 1 ≤ month = omega arith in
-      simp (ne_eqb month 2 two, ne_eqb month 4 four, ne_eqb month 6 six, ne_eqb month 9 nine, ne_eqb month 11 eleven, le-ltb month 1 some, lt-ltb 12 month h)
+  no-month-above h = grind (arith, nat_tests)
 
   pub other-month : (month ≡ 2 → ⊥) → (month ≡ 4 → ⊥) → (month ≡ 6 → ⊥) → (month ≡ 9 → ⊥) → (month ≡ 11 → ⊥) → 1 ≤ month → month ≤ 12
       → month_length leap month ≡ 31
   unfolding month_length
-  other-month two four six nine eleven from to =
-      simp (ne_eqb month 2 two, ne_eqb month 4 four, ne_eqb month 6 six, ne_eqb month 9 nine, ne_eqb month 11 eleven, le-ltb month 1 from, le-ltb 12 month to)
+  other-month two four six nine eleven from to = grind (arith, nat_tests)
 
 -- A month has as many days as the rules say, and it is a month where that is at least one.
 pub lasts-right : (year month days : ℕ) → ((month_length (is_leap year) month ≡ days) × (1 ≤ days)) ↔ Lasts year month days
@@ -136,19 +113,11 @@ pub record Parts (day : ℕ) : Type 0 where
 pub parts : (day : ℕ) → is_day day ≡ true → Parts day
 unfolding is_day
 parts day e =
-    let a = both (leb 1900 (year_of day)) (leb (year_of day) 2199 && (leb 1 (date_of day) && leb (date_of day) (length_at day))) e in
-    let b = both (leb (year_of day) 2199) (leb 1 (date_of day) && leb (date_of day) (length_at day)) a.1 in
-    let c = both (leb 1 (date_of day)) (leb (date_of day) (length_at day)) b.1 in
-    record {
-      from = leb-true 1900 (year_of day) a.0;
-      to = leb-true (year_of day) 2199 b.0;
-      date_from = leb-true 1 (date_of day) c.0;
-      date_to = leb-true (date_of day) (length_at day) c.1;
-    }
+    record { from = grind (arith, nat_tests); to = grind (arith, nat_tests); date_from = grind (arith, nat_tests); date_to = grind (arith, nat_tests) }
 
 pub of_parts : (day : ℕ) → 1900 ≤ year_of day → year_of day ≤ 2199 → 1 ≤ date_of day → date_of day ≤ length_at day → is_day day ≡ true
 unfolding is_day
-of_parts day a b c d = simp (le-leb 1900 (year_of day) a, le-leb (year_of day) 2199 b, le-leb 1 (date_of day) c, le-leb (date_of day) (length_at day) d)
+of_parts day a b c d = grind (arith, nat_tests)
 
 -- A day exists exactly where its year, month and day of the month are a date by the rules.
 pub day-right : (day : ℕ) → (is_day day ≡ true) ↔ Exists day

@@ -4,84 +4,87 @@
 #![tactic(auto)]
 
 ghost use Rattle.std.specs.Prelude.{◌≡◌, ◌≤◌};
-ghost use Rattle.days.specs.Days.{is_leap, month_length, is_day, next_day};
+ghost use Rattle.days.specs.Days.{year_of, month_of, date_of, is_leap, month_length, is_day, next_day};
 
 // The first and the last year.
 const FIRST_YEAR: u32 = 1900;
 
 const LAST_YEAR: u32 = 2199;
 
+// A day's year, its month, and its date in the month.
+#[derive(Clone, Copy)]
+struct Date {
+    year: u32,
+    month: u32,
+    date: u32,
+}
+
+impl Date {
+    // The parts of a day's digits.
+    fn of(day: u32) -> Date
+        ensures year { result.year ≡ year_of day }
+        ensures month { result.month ≡ month_of day }
+        ensures date { result.date ≡ date_of day }
+    {
+        Date {
+            year: day / 10000,
+            month: day / 100 % 100,
+            date: day % 100,
+        }
+    }
+
+    // How many days its month has.
+    fn month_length(self) -> u32
+        ensures { result ≡ month_length (is_leap self.year) self.month }
+    {
+        month_length(leap(self.year), self.month)
+    }
+}
+
 // Whether a year is a leap year.
+#[tactic(auto, unfolding(crate::specs::Days::is_leap))]
 pub fn leap(year: u32) -> bool
     ensures { result ≡ is_leap year }
 {
-    if year % 4 != 0 {
-        return false;
-    }
-    if year % 100 != 0 {
-        return true;
-    }
-    year % 400 == 0
+    year % 4 == 0 && (year % 100 != 0 || year % 400 == 0)
 }
 
 // How many days a month has, in a leap year or another; 0 where there is no such month.
+// (d) The flag is a fact of the year and switches no step: a window asks it of leap years, without a year.
+#[tactic(auto, unfolding(crate::specs::Days::month_length))]
 pub fn month_length(long: bool, month: u32) -> u32
     ensures { result ≡ month_length long month }
 {
-    if month == 2 {
-        if long {
-            return 29;
-        }
-        return 28;
+    match month {
+        2 if long => 29,
+        2 => 28,
+        4 | 6 | 9 | 11 => 30,
+        1..=12 => 31,
+        _ => 0,
     }
-    if month == 4 {
-        return 30;
-    }
-    if month == 6 {
-        return 30;
-    }
-    if month == 9 {
-        return 30;
-    }
-    if month == 11 {
-        return 30;
-    }
-    if month < 1 {
-        return 0;
-    }
-    if 12 < month {
-        return 0;
-    }
-    31
 }
 
 // Whether a day exists, in the years 1900 to 2199.
+#[tactic(auto, unfolding(crate::specs::Days::is_day))]
 pub fn exists(day: u32) -> bool
     ensures { result ≡ is_day day }
 {
-    let year = day / 10000;
-    if year < FIRST_YEAR {
-        return false;
-    }
-    if LAST_YEAR < year {
-        return false;
-    }
-    if day % 100 < 1 {
-        return false;
-    }
-    day % 100 <= month_length(leap(year), day / 100 % 100)
+    let d = Date::of(day);
+    FIRST_YEAR <= d.year && d.year <= LAST_YEAR && 1 <= d.date && d.date <= d.month_length()
 }
 
 // The day after a day: the next of its month, else the first of the next month, else the first of the next year.
+#[tactic(auto, unfolding(crate::specs::Days::next_day))]
 pub fn next_day(day: u32) -> u32
     requires { day ≤ 99999999 }
     ensures { result ≡ next_day day }
 {
-    if day % 100 < month_length(leap(day / 10000), day / 100 % 100) {
-        return day + 1;
+    let d = Date::of(day);
+    if d.date < d.month_length() {
+        day + 1
+    } else if d.month < 12 {
+        day / 100 * 100 + 101
+    } else {
+        d.year * 10000 + 10101
     }
-    if day / 100 % 100 < 12 {
-        return day / 100 * 100 + 101;
-    }
-    day / 10000 * 10000 + 10101
 }

@@ -3,9 +3,11 @@ use Prim.Native.Nat.{ℕ, zero, suc, ◌+◌, ◌-◌, ◌*◌, ◌/◌, ◌%◌
 use mathlib.Core.Path.{◌≡◌, refl, sym, ap, ◌∙◌}
 use mathlib.Core.Bool.{Bool, true, false}
 use mathlib.Core.Logic.{◌⊎◌, inl, inr}
+use Rattle.std.specs.Prelude.{Some, None}
 use mathlib.Core.List.{List, [], ◌∷◌, ◌++◌}
 use native.Mathlib.Omega.{arith}
 use native.Mathlib.Nat.{le_refl, pow-suc}
+use native.Mathlib.Numerals.{add-one}
 use lib.ListN.{length, drop, get_or, length-append, get_or-append}
 use lib.Seq.{drop-append-add, drop-drop}
 use lib.Dec.{ltb, leb}
@@ -119,22 +121,79 @@ decimal-within (suc k) n h = go (lt-or-le n 10) (decimal-within k (n / 10))
         let tenth : n / 10 < 10 ^ suc k = omega (arith, pow-suc 10 (suc k)) in
         omega (arith, ih tenth, simp length-append at (ap length (decimal-large n large)))
 
+pow-pos : (k : ℕ) → 1 ≤ 10 ^ k
+pow-pos zero = omega arith
+pow-pos (suc k) = omega (arith, pow-suc 10 k, pow-pos k)
+
+-- a number from 10 to the k on has more than k digits; so their number is found by powers of ten
+decimal-above : (k n : ℕ) → 10 ^ k ≤ n → suc k ≤ length (decimal n)
+decimal-above zero n h = decimal-some n
+decimal-above (suc k) n h =
+    let tenth : 10 ^ k ≤ n / 10 = omega (arith, pow-suc 10 k) in
+    let large : 10 ≤ n = omega (arith, pow-suc 10 k, pow-pos k) in
+    omega (arith, decimal-above k (n / 10) tenth, simp length-append at (ap length (decimal-large n large)))
+
+pub decimal-length : (k n : ℕ) → 10 ^ k ≤ n → n < 10 * 10 ^ k → length (decimal n) ≡ k + 1
+decimal-length k n low high = omega (arith, decimal-above k n low, decimal-within k n (omega (arith, pow-suc 10 k)))
+
+-- the last digits of v, as many as the width says
+pub digits : (width v : ℕ) → List ℕ
+digits zero v = []
+digits (suc width) v = digits width (v / 10) ++ (digit_char (v % 10) ∷ [])
+
+pub digits-none : (i v : ℕ) → i ≡ 0 → digits i v ≡ []
+unfolding digits
+digits-none i v e = ap (λ (k : ℕ). digits k v) e
+
+pub digits-more : (i j v : ℕ) → i ≡ j + 1 → digits i v ≡ digits j (v / 10) ++ (digit_char (v % 10) ∷ [])
+unfolding digits
+digits-more i j v e = ap (λ (k : ℕ). digits k v) (e ∙ add-one j)
+
+pub length-digits : (i v : ℕ) → length (digits i v) ≡ i
+unfolding digits
+length-digits zero v = refl
+length-digits (suc i) v = length-append (digits i (v / 10)) (digit_char (v % 10) ∷ []) ∙ omega (arith, length-digits i (v / 10))
+
+one-digit : (n : ℕ) → n < 10 → digits (length (decimal n)) n ≡ decimal n
+unfolding digits
+one-digit n h =
+    let same : n % 10 ≡ n = omega arith in
+    ap (λ (l : List ℕ). digits (length l) n) (decimal-small n h) ∙ ap (λ (d : ℕ). digit_char d ∷ []) same ∙ sym (decimal-small n h)
+
+-- all digits of a number
+digits-within : (f n : ℕ) → n ≤ f → digits (length (decimal n)) n ≡ decimal n
+digits-within zero n hf = one-digit n (omega arith)
+digits-within (suc f) n hf = go (lt-or-le n 10) (digits-within f (n / 10))
+  where
+    go : (n < 10) ⊎ (10 ≤ n) → (n / 10 ≤ f → digits (length (decimal (n / 10))) (n / 10) ≡ decimal (n / 10)) → digits (length (decimal n)) n ≡ decimal n
+    go (inl h) ih = one-digit n h
+    go (inr h) ih =
+        let longer : length (decimal n) ≡ length (decimal (n / 10)) + 1 = ap length (decimal-large n h) ∙ simp length-append in
+        digits-more (length (decimal n)) (length (decimal (n / 10))) n longer
+        ∙ ap (λ (l : List ℕ). l ++ (digit_char (n % 10) ∷ [])) (ih (omega arith))
+        ∙ sym (decimal-large n h)
+
+pub digits-all : (n : ℕ) → digits (length (decimal n)) n ≡ decimal n
+digits-all n = digits-within n n (le_refl n)
+
 -- the digit of a digit's character, and the character of a digit
-pub digit-back : (d : ℕ) → d < 10 → digit_of (digit_char d) ≡ d
+pub digit-back : (d : ℕ) → d < 10 → digit_of (digit_char d) ≡ Some d
 unfolding digit_of
 digit-back d h =
     let lo : 48 ≤ 48 + d = omega arith in
     let hi : 48 + d ≤ 57 = omega arith in
-    simp (le-leb 48 (48 + d) lo, le-leb (48 + d) 57 hi) (omega arith)
+    simp (le-leb 48 (48 + d) lo, le-leb (48 + d) 57 hi) (ap Some (omega arith))
 
-pub digit-forth : (b : ℕ) → digit_of b ≤ 9 → digit_char (digit_of b) ≡ b
+pub digit-forth : (b d : ℕ) → digit_of b ≡ Some d → (d < 10) × (digit_char d ≡ b)
 unfolding digit_of
-digit-forth b h = go (leb 48 b) (leb b 57) refl refl
+digit-forth b d h = go (leb 48 b) (leb b 57) refl refl
   where
-    go : (s t : Bool) → leb 48 b ≡ s → leb b 57 ≡ t → digit_char (digit_of b) ≡ b
-    go true true e f = simp (e, f) (omega (arith, leb-true 48 b e))
-    go true false e f = let no : 10 ≤ 9 = simp (e, f) at h in let n : ⊥ = omega arith in absurd n
-    go false t e f = let no : 10 ≤ 9 = simp e at h in let n : ⊥ = omega arith in absurd n
+    go : (s t : Bool) → leb 48 b ≡ s → leb b 57 ≡ t → (d < 10) × (digit_char d ≡ b)
+    go true true e f = let is : Some (b - 48) ≡ Some d = simp (e, f) at h in
+        let d-is : b - 48 ≡ d = cc in
+        (omega (arith, leb-true b 57 f), omega (arith, leb-true 48 b e))
+    go true false e f = let no : None ≡ Some d = simp (e, f) at h in cc
+    go false t e f = let no : None ≡ Some d = simp e at h in cc
 
 -- what stands behind a number and the byte that ends it
 pub after-number : (end : ℕ) (s : List ℕ) (at n : ℕ) (rest : List ℕ) → drop at s ≡ decimal n ++ (end ∷ rest) → drop (at + length (decimal n) + 1) s ≡ rest

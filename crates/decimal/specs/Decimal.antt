@@ -1,7 +1,7 @@
 -- Decimal numbers in bytes, as document 01 has them in "Envelope": decimal without leading zeros, zero being `0`.
 -- First what the bytes of a number are; then what a reader finds who looks for a number up to a maximum and the byte that ends it.
 -- proofs/Reading.antt shows that the reader finds exactly the numbers that are spelled so. Assumes nothing.
-use Rattle.std.specs.Prelude.{ℕ, suc, zero, ◌+◌, ◌-◌, ◌*◌, ◌/◌, ◌%◌, ◌≤◌, ◌≡◌, true, false, cond, List, [], ◌∷◌, ◌++◌, drop, ltb, leb, eqb}
+use Rattle.std.specs.Prelude.{ℕ, suc, zero, ◌+◌, ◌-◌, ◌*◌, ◌/◌, ◌%◌, ◌≤◌, ◌≡◌, cond, ◌&&◌, Option, Some, None, option_and_then, List, [], ◌∷◌, ◌++◌, drop, ltb, leb, eqb}
 use Rattle.decimal.specs.declared.Number.{Number}
 
 -- the character of a digit 0 to 9
@@ -28,32 +28,31 @@ value_from v (b ∷ s) = value_from (v * 10 + (b - 48)) s
 abbrev pub Spelled : (max end : ℕ) → List ℕ → ℕ → List ℕ → Type 0
 Spelled max end s n rest = (n ≤ max) × (s ≡ decimal n ++ (end ∷ rest))
 
--- the digit that a byte is the character of, or 10 where it is none
-unfoldable pub digit_of : ℕ → ℕ
-digit_of b = cond (leb 48 b) (cond (leb b 57) (b - 48) 10) 10
+-- the digit that a byte is the character of, if it is one
+unfoldable pub digit_of : ℕ → Option ℕ
+digit_of b = cond (leb 48 b && leb b 57) (Some (b - 48)) None
 
--- no number was found
-abbrev pub no_number : Number
-no_number = record { found = false; value = 0; next = 0 }
+-- a number that is at most max
+abbrev pub up_to : (max n : ℕ) → Option ℕ
+up_to max n = cond (leb n max) (Some n) None
+
+-- The number so far with the digit of the byte b behind it: there has to be one, which may not follow a 0 and may not lead past `max`.
+abbrev pub with_digit : (max value b : ℕ) → Option ℕ
+with_digit max value b = option_and_then (λ d. cond (eqb value 0) None (up_to max (value * 10 + d))) (digit_of b)
 
 -- The bytes after a number's first digit: `value` is the number so far, `i` the place of the first byte of these.
--- The byte `end` ends the number. Any other byte has to be one more digit, which may not follow a 0 and may not lead past `max`.
-unfoldable pub read_more : (max end value i : ℕ) → List ℕ → Number
-read_more max end value i [] = no_number
+-- The byte `end` ends the number. Any other byte has to be one more digit.
+unfoldable pub read_more : (max end value i : ℕ) → List ℕ → Option Number
+read_more max end value i [] = None
 read_more max end value i (b ∷ s) =
-    cond (eqb b end) (record { found = true; value = value; next = i + 1 })
-    (cond (ltb 9 (digit_of b)) no_number
-    (cond (eqb value 0) no_number
-    (cond (ltb max (value * 10 + digit_of b)) no_number
-    (read_more max end (value * 10 + digit_of b) (i + 1) s))))
+    cond (eqb b end) (Some (record { value = value; next = i + 1 }))
+    (option_and_then (λ v. read_more max end v (i + 1) s) (with_digit max value b))
 
 -- A number from its first byte, which stands at the place `at`
-unfoldable pub read_first : (max end at : ℕ) → List ℕ → Number
-read_first max end at [] = no_number
-read_first max end at (b ∷ s) =
-    cond (ltb 9 (digit_of b)) no_number
-    (cond (ltb max (digit_of b)) no_number (read_more max end (digit_of b) (at + 1) s))
+unfoldable pub read_first : (max end at : ℕ) → List ℕ → Option Number
+read_first max end at [] = None
+read_first max end at (b ∷ s) = option_and_then (λ v. read_more max end v (at + 1) s) (option_and_then (up_to max) (digit_of b))
 
 -- What stands at the place `at` of the bytes s: a number up to `max` and the byte `end`, with the place after that byte, or no number
-unfoldable pub read_decimal : (max end : ℕ) → List ℕ → ℕ → Number
+unfoldable pub read_decimal : (max end : ℕ) → List ℕ → ℕ → Option Number
 read_decimal max end s at = read_first max end at (drop at s)

@@ -3,91 +3,69 @@
 // what is spelled there.
 #![tactic(auto)]
 
-ghost use Rattle.std.specs.Prelude.{◌≡◌, ◌+◌, ◌<◌, ◌≤◌, length};
-ghost use Rattle.decimal.specs.Decimal.{decimal, digit_char, digit_of, no_number, read_decimal};
+ghost use Rattle.std.specs.Prelude.{◌≡◌, ◌<◌, ◌≤◌, length};
+ghost use Rattle.decimal.specs.Decimal.{decimal, digit_char, digit_of, up_to, with_digit, read_decimal};
 ghost use Rattle.decimal.specs.Buffer.{written_at};
 
-// What was found: a number and the place after the byte that ends it; or nothing, and then both are 0.
+// A number that was found, and the place after the byte that ends it.
 #[derive(Clone, Copy)]
 pub struct Number {
-    pub found: bool,
     pub value: u32,
     pub next: usize,
 }
 
-// The answer where no number stands.
-pub fn none() -> Number
-    ensures { result ≡ no_number }
+// The digit that a byte is the character of, if it is one.
+#[tactic(auto, unfolding(crate::specs::Decimal::digit_of))]
+pub fn digit_of(b: u8) -> Option<u32>
+    ensures { result ≡ digit_of b }
 {
-    Number {
-        found: false,
-        value: 0,
-        next: 0,
+    match b {
+        b'0'..=b'9' => Some(u32::from(b - b'0')),
+        _ => None,
     }
 }
 
-// The digit that a byte is the character of, or 10 where it is none.
-pub fn digit_of(b: u8) -> u64
-    ensures { result ≡ digit_of b }
+// A number that is at most `max`.
+fn up_to(max: u32, n: u32) -> Option<u32>
+    ensures { result ≡ up_to max n }
 {
-    if 48 <= b {
-        if b <= 57 {
-            return (b - 48) as u64;
-        }
+    (n <= max).then_some(n)
+}
+
+// The number so far with one more digit, which may not follow a 0 and may not lead past `max`.
+fn with_digit(max: u32, value: u32, b: u8) -> Option<u32>
+    ensures { result ≡ with_digit max value b }
+{
+    let d = digit_of(b)?;
+    if value == 0 {
+        return None;
     }
-    10
+    up_to(max, value.checked_mul(10)?.checked_add(d)?)
 }
 
 // The number that stands at a place of some bytes, at most `max` and ended by the byte `end`, and the place after it.
-pub fn read_decimal(s: &[u8], at: usize, max: u32, end: u8) -> Number
+pub fn read_decimal(s: &[u8], at: usize, max: u32, end: u8) -> Option<Number>
     ensures { result ≡ read_decimal max end s.now at }
 {
-    if s.len() <= at {
-        return none();
-    }
-    let mut value = digit_of(s[at]);
-    if 9 < value {
-        return none();
-    }
-    if (max as u64) < value {
-        return none();
-    }
-    let mut i = at + 1;
-    while i < s.len() {
+    let first = *s.get(at)?;
+    let mut value = up_to(max, digit_of(first)?)?;
+    for i in at + 1..s.len() {
         if s[i] == end {
-            return Number {
-                found: true,
-                value: value as u32,
-                next: i + 1,
-            };
+            return Some(Number { value, next: i + 1 });
         }
-        let d = digit_of(s[i]);
-        if 9 < d {
-            return none();
-        }
-        if value == 0 {
-            return none();
-        }
-        value = value * 10 + d;
-        if (max as u64) < value {
-            return none();
-        }
-        i += 1;
+        value = with_digit(max, value, s[i])?;
     }
-    none()
+    None
 }
 
 // How many digits a number has.
 pub fn decimal_len(n: u32) -> usize
     ensures { result ≡ length (decimal n) }
 {
-    let mut v = n;
-    let mut count = 1;
-    while 10 <= v {
-        v = v / 10;
-        count += 1;
+    match n.checked_ilog10() {
+        Some(k) => k as usize + 1,
+        None => 1,
     }
-    count
 }
 
 // The character of a digit.
@@ -95,23 +73,19 @@ fn digit_char(d: u32) -> u8
     requires { d < 10 }
     ensures { result ≡ digit_char d }
 {
-    48 + d as u8
+    b'0' + d as u8
 }
 
-// Writes a number to a buffer from the place `at` on, where there is room for its digits, and gives the place after them.
-// The last digit is written first.
-pub fn write_decimal(n: u32, out: &mut [u8], at: usize) -> usize
-    requires { at + length (decimal n) ≤ length out.old }
-    ensures { (result ≡ at + length (decimal n)) × (out.new ≡ written_at out.old at (decimal n)) }
+// Writes a number to the start of a buffer that has room for its digits, and gives the place after them. The last digit is written first.
+pub fn write_decimal(n: u32, out: &mut [u8]) -> usize
+    requires { length (decimal n) ≤ length out.old }
+    ensures { (result ≡ length (decimal n)) × (out.new ≡ written_at out.old 0 (decimal n)) }
 {
-    let end = at + decimal_len(n);
+    let len = decimal_len(n);
     let mut v = n;
-    let mut i = end;
-    while 10 <= v {
-        i = i - 1;
+    for i in (0..len).rev() {
         out[i] = digit_char(v % 10);
-        v = v / 10;
+        v /= 10;
     }
-    out[at] = digit_char(v);
-    end
+    len
 }

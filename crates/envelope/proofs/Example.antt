@@ -1,4 +1,6 @@
 -- The example of a header, `S,7,20,48,` (document 01, "Envelope"), with each letter (document 02, requests 2 and 9). Assumes nothing.
+use Rattle.std.specs.Prelude.{Ok, Err}
+use Rattle.refusals.specs.declared.Refusal.TheVariants.{TooFewBytes}
 use Prim.Native.Nat.{ℕ, ◌+◌, ◌<◌, ◌≤◌}
 use mathlib.Core.Path.{◌≡◌, refl, sym, ap, ◌∙◌}
 use mathlib.Core.List.{List, [], ◌∷◌, ◌++◌}
@@ -17,8 +19,8 @@ example letter = letter ∷ 44 ∷ 55 ∷ 44 ∷ 50 ∷ 48 ∷ 44 ∷ 52 ∷ 56 
 -- it needs n bytes after it: with fewer, number 2; with as many, or more, it is read, and ends n bytes behind its header of 10
 abbrev pub ExampleNeeds : (letter n : ℕ) → Type 0
 ExampleNeeds letter n =
-    (body : List ℕ) → (length body < n → read_envelope (example letter ++ body) ≡ record { number = 2; letter = 0; group = 0; place = 0 })
-    × (n ≤ length body → read_envelope (example letter ++ body) ≡ an_envelope letter 7 (10 + n))
+    (body : List ℕ) → (length body < n → read_envelope (example letter ++ body) ≡ Err TooFewBytes)
+    × (n ≤ length body → read_envelope (example letter ++ body) ≡ Ok (an_envelope letter 7 (10 + n)))
 
 example-header : (letter : ℕ) → example letter ≡ header letter 7 20 48
 unfolding example header field decimal decimal_within
@@ -36,8 +38,8 @@ example-needs letter t is known body =
       (λ less. ap answer_of (parts-few (example letter ++ body) letter 7 20 48 body begins (omega arith))),
       (λ enough.
           ap answer_of (parts_whole (example letter ++ body) letter 7 20 48 body begins (omega arith))
-          ∙ ap (λ (l : List ℕ). an_envelope letter 7 (length l + (20 + 48 + tag_length letter))) (sym (example-header letter))
-          ∙ ap (λ (k : ℕ). an_envelope letter 7 (10 + (20 + 48 + k))) is),
+          ∙ ap (λ (l : List ℕ). Ok (an_envelope letter 7 (length l + (20 + 48 + tag_length letter)))) (sym (example-header letter))
+          ∙ ap (λ (k : ℕ). Ok (an_envelope letter 7 (10 + (20 + 48 + k)))) is),
     )
 
 -- `S,7,20,48,` needs 100 bytes after it, `N,7,20,48,` and `F,7,20,48,` 84.

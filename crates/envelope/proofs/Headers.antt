@@ -1,40 +1,28 @@
 -- A header is found exactly where one stands that follows the layout. Assumes nothing.
-use Prim.Native.Nat.{ℕ, ◌+◌, ◌<◌}
+use Rattle.std.specs.Prelude.{Option, Some, None, option_map, option_and_then}
+use Prim.Native.Nat.{ℕ, ◌+◌}
 use mathlib.Core.Path.{◌≡◌, refl, sym, ap, ap₂, ◌∙◌, subst}
-use mathlib.Core.Logic.{◌↔◌, ◌⊎◌, inl, inr}
+use mathlib.Core.Logic.{◌↔◌}
 use mathlib.Core.Bool.{Bool, true, false, cond}
 use mathlib.Core.List.{List, [], ◌∷◌, ◌++◌}
 use native.Mathlib.Omega.{arith}
 use lib.ListN.{length, drop, get_or}
 use lib.Seq.{drop_at}
-use lib.Dec.{eqb, lit<}
+use lib.Dec.{eqb}
 use borrow.Author.Tests.{ne_eqb, eqb-true, eqb-false}
 use Rattle.decimal.specs.Decimal.{decimal, digit_of, read_decimal, Spelled}
 use Rattle.decimal.specs.declared.Number.{Number}
 use Rattle.decimal.proofs.Laws.{after-number}
 use Rattle.decimal.proofs.Reading.{read-sound, read-complete}
 use Rattle.envelope.specs.Layout.{comma, max_group, max_length, tag_length, header, InRange, Begins}
-use Rattle.envelope.specs.Read.{no_header, a_header, header_m, header_a, header_g, read_header}
+use Rattle.envelope.specs.Read.{a_header, header_m, header_a, header_g, read_header}
 use Rattle.envelope.specs.declared.Header.{Header}
 use Rattle.envelope.proofs.Layouts.{header-length, header-then}
 
-one≢zero : {n : ℕ} → ◌≡◌ {A = ℕ} 1 n → n ≡ 0 → ⊥
-one≢zero e f = omega arith
-
 -- a comma is no digit
-pub comma-ends : 9 < digit_of comma
+pub comma-ends : digit_of comma ≡ None
 unfolding digit_of
-comma-ends = lit< tt
-
--- which way a header that was accepted went
-found_here : (t : Bool) (h : Header) → (cond t h no_header).number ≡ 0 → t ≡ true
-found_here true h e = refl
-found_here false h e = absurd (one≢zero refl e)
-
-starts-here : (p q : Bool) (h : Header) → (cond p no_header (cond q h no_header)).number ≡ 0 → (p ≡ false) × (q ≡ true)
-starts-here true q h e = absurd (one≢zero refl e)
-starts-here false true h e = (refl, refl)
-starts-here false false h e = absurd (one≢zero refl e)
+comma-ends = refl
 
 two_bytes : (s : List ℕ) → get_or s 1 0 ≡ comma → s ≡ get_or s 0 0 ∷ get_or s 1 0 ∷ drop 2 s
 two_bytes [] e = let no : ⊥ = omega arith in absurd no
@@ -68,32 +56,41 @@ joined s l g a m known first hg ha hm =
     )
 
 -- A header that was found stands there.
-pub header-sound : (s : List ℕ) → (read_header s).number ≡ 0 → Stands s (read_header s)
-unfolding read_header header_g header_a header_m
-header-sound s e =
-    let l = get_or s 0 0 in
-    let g = read_decimal max_group comma s 2 in
-    let a = read_decimal max_length comma s g.next in
-    let m = read_decimal max_length comma s a.next in
-    let start = starts-here (eqb (tag_length l) 0) (eqb (get_or s 1 0) comma) (header_g s l g) e in
-    let e₁ : (header_g s l g).number ≡ 0 = simp (start.0, start.1) at e in
-    let g-found = found_here g.found (header_a s l g a) e₁ in
-    let e₂ : (header_a s l g a).number ≡ 0 = simp g-found at e₁ in
-    let a-found = found_here a.found (header_m l g a m) e₂ in
-    let e₃ : (header_m l g a m).number ≡ 0 = simp a-found at e₂ in
-    let m-found = found_here m.found (a_header l g.value a.value m.value m.next) e₃ in
-    let all : read_header s ≡ a_header l g.value a.value m.value m.next =
-    simp (start.0, start.1, g-found, a-found, m-found) in
-    let comma-next : get_or s 1 0 ≡ comma = eqb-true (get_or s 1 0) comma start.1 in
-    subst (Stands s) (sym all)
-    (joined s l g a m (eqb-false (tag_length l) 0 start.0)
-    (two_bytes s comma-next ∙ ap (λ (x : ℕ). l ∷ x ∷ drop 2 s) comma-next)
-    (read-sound max_group comma s 2 g-found) (read-sound max_length comma s g.next a-found) (read-sound max_length comma s a.next m-found))
+pub header-sound : (s : List ℕ) (h : Header) → read_header s ≡ Some h → Stands s h
+unfolding read_header
+header-sound s h e = start (eqb (tag_length (get_or s 0 0)) 0) refl (eqb (get_or s 1 0) comma) refl e
+  where
+    by-mlen : (l : ℕ) (g a : Number) → (tag_length l ≡ 0 → ⊥) → s ≡ l ∷ comma ∷ drop 2 s → Stood max_group s 2 g → Stood max_length s g.next a
+        → (o : Option Number) → read_decimal max_length comma s a.next ≡ o
+        → option_map (λ m. a_header l g.value a.value m.value m.next) o ≡ Some h → Stands s h
+    by-mlen l g a known first hg ha None q e = let no : ⊥ = cc in absurd no
+    by-mlen l g a known first hg ha (Some m) q e =
+        let is : a_header l g.value a.value m.value m.next ≡ h = cc in
+        subst (Stands s) is (joined s l g a m known first hg ha (read-sound max_length comma s a.next m q))
+
+    by-alen : (l : ℕ) (g : Number) → (tag_length l ≡ 0 → ⊥) → s ≡ l ∷ comma ∷ drop 2 s → Stood max_group s 2 g
+        → (o : Option Number) → read_decimal max_length comma s g.next ≡ o → option_and_then (header_m s l g) o ≡ Some h → Stands s h
+    by-alen l g known first hg None q e = let no : ⊥ = cc in absurd no
+    by-alen l g known first hg (Some a) q e = by-mlen l g a known first hg (read-sound max_length comma s g.next a q) _ refl e
+
+    by-group : (l : ℕ) → (tag_length l ≡ 0 → ⊥) → s ≡ l ∷ comma ∷ drop 2 s
+        → (o : Option Number) → read_decimal max_group comma s 2 ≡ o → option_and_then (header_a s l) o ≡ Some h → Stands s h
+    by-group l known first None q e = let no : ⊥ = cc in absurd no
+    by-group l known first (Some g) q e = by-alen l g known first (read-sound max_group comma s 2 g q) _ refl e
+
+    start : (p : Bool) → eqb (tag_length (get_or s 0 0)) 0 ≡ p → (q : Bool) → eqb (get_or s 1 0) comma ≡ q
+        → cond p None (cond q (header_g s (get_or s 0 0)) None) ≡ Some h → Stands s h
+    start true i q j e = let no : ⊥ = cc in absurd no
+    start false i false j e = let no : ⊥ = cc in absurd no
+    start false i true j e =
+        let second : get_or s 1 0 ≡ comma = eqb-true (get_or s 1 0) comma j in
+        by-group (get_or s 0 0) (eqb-false (tag_length (get_or s 0 0)) 0 i)
+        (two_bytes s second ∙ ap (λ (x : ℕ). get_or s 0 0 ∷ x ∷ drop 2 s) second) _ refl e
 
 -- A header that stands there is found.
 pub header-complete : (s : List ℕ) (letter group alen mlen : ℕ) (rest : List ℕ) → Begins s letter group alen mlen rest
-    → read_header s ≡ a_header letter group alen mlen (length (header letter group alen mlen))
-unfolding read_header header_g header_a header_m
+    → read_header s ≡ Some (a_header letter group alen mlen (length (header letter group alen mlen)))
+unfolding read_header
 header-complete s letter group alen mlen rest h =
     let whole = h.bytes ∙ header-then letter group alen mlen rest in
     let g-there = ap (drop 2) whole in
@@ -106,50 +103,26 @@ header-complete s letter group alen mlen rest h =
     let second : eqb (get_or s 1 0) comma ≡ true = ap (λ (l : List ℕ). eqb (get_or l 1 0) comma) whole in
     let first : get_or s 0 0 ≡ letter = ap (λ (l : List ℕ). get_or l 0 0) whole in
     let place : 2 + length (decimal group) + 1 + length (decimal alen) + 1 + length (decimal mlen) + 1 ≡ length (header letter group alen mlen) = omega (arith, header-length letter group alen mlen) in
-    simp (known, second, g, a, m) (ap₂ (λ (l p : ℕ). a_header l group alen mlen p) first place)
+    simp (known, second, g, a, m) (ap₂ (λ (l p : ℕ). Some (a_header l group alen mlen p)) first place)
 
--- a header is found, or the answer is the refusal by 1
-either : (t : Bool) (h : Header) → (h.number ≡ 0) ⊎ (h ≡ no_header) → ((cond t h no_header).number ≡ 0) ⊎ (cond t h no_header ≡ no_header)
-either true h e = e
-either false h e = inr refl
-
-either-start : (p q : Bool) (h : Header) → (h.number ≡ 0) ⊎ (h ≡ no_header)
-    → ((cond p no_header (cond q h no_header)).number ≡ 0) ⊎ (cond p no_header (cond q h no_header) ≡ no_header)
-either-start true q h e = inr refl
-either-start false true h e = e
-either-start false false h e = inr refl
-
-pub header-decided : (s : List ℕ) → ((read_header s).number ≡ 0) ⊎ (read_header s ≡ no_header)
-unfolding read_header header_g header_a header_m
-header-decided s =
-    let l = get_or s 0 0 in
-    let g = read_decimal max_group comma s 2 in
-    let a = read_decimal max_length comma s g.next in
-    let m = read_decimal max_length comma s a.next in
-    either-start (eqb (tag_length l) 0) (eqb (get_or s 1 0) comma) (header_g s l g)
-    (either g.found (header_a s l g a) (either a.found (header_m l g a m) (either m.found (a_header l g.value a.value m.value m.next) (inl refl))))
-
--- Number 1 is given exactly where the bytes begin with no header that follows the layout.
-pub header_refused : (s : List ℕ)
-    → ((read_header s).number ≡ 1) ↔ ((letter group alen mlen : ℕ) (rest : List ℕ) → Begins s letter group alen mlen rest → ⊥)
-header_refused s = (
-  (λ e l g a m rest h. one≢zero (sym e) (ap (λ (x : Header). x.number) (header-complete s l g a m rest h))),
-  (λ none. go none (header-decided s)),
-)
+-- None is found exactly where the bytes begin with no header that follows the layout.
+pub header_refused : (s : List ℕ) → (read_header s ≡ None) ↔ ((letter group alen mlen : ℕ) (rest : List ℕ) → Begins s letter group alen mlen rest → ⊥)
+header_refused s = ((λ e l g a m rest h. let found = header-complete s l g a m rest h in cc), (λ none. go none (read_header s) refl))
   where
     go : ((letter group alen mlen : ℕ) (rest : List ℕ) → Begins s letter group alen mlen rest → ⊥)
-        → ((read_header s).number ≡ 0) ⊎ (read_header s ≡ no_header) → (read_header s).number ≡ 1
-    go none (inl e) = absurd (none _ _ _ _ _ (header-sound s e).0)
-    go none (inr e) = ap (λ (x : Header). x.number) e
+        → (o : Option Header) → read_header s ≡ o → o ≡ None
+    go none None e = refl
+    go none (Some h) e = absurd (none _ _ _ _ _ (header-sound s h e).0)
 
 -- A header shows what it is of: where two headers in range, and what follows them, are the same bytes, letter, group and lengths are the same, and so
 -- is what follows.
 pub header-then-injective : {l g a m l' g' a' m' : ℕ} (s s' : List ℕ) → InRange l g a m → InRange l' g' a' m'
     → header l g a m ++ s ≡ header l' g' a' m' ++ s' → (l ≡ l') × (g ≡ g') × (a ≡ a') × (m ≡ m') × (s ≡ s')
 header-then-injective {l} {g} {a} {m} {l'} {g'} {a'} {m'} s s' r r' e =
-    let same : a_header l g a m (length (header l g a m)) ≡ a_header l' g' a' m' (length (header l' g' a' m')) =
+    let both : Some (a_header l g a m (length (header l g a m))) ≡ Some (a_header l' g' a' m' (length (header l' g' a' m'))) =
     sym (header-complete (header l g a m ++ s) l g a m s (record { in_range = r; bytes = refl }))
     ∙ header-complete (header l g a m ++ s) l' g' a' m' s' (record { in_range = r'; bytes = e }) in
+    let same : a_header l g a m (length (header l g a m)) ≡ a_header l' g' a' m' (length (header l' g' a' m')) = cc in
     let place : length (header l g a m) ≡ length (header l' g' a' m') = ap (λ (h : Header). h.place) same in (
       ap (λ (h : Header). h.letter) same,
       ap (λ (h : Header). h.group) same,

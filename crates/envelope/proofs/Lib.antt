@@ -1,6 +1,5 @@
 -- Laws and theorems that belong to no one function.
 pub mod Layouts
-pub mod HeaderSteps
 pub mod Headers
 pub mod Reading
 pub mod PartSteps

@@ -4,160 +4,177 @@
 
 ghost use Rattle.std.specs.Prelude.{◌<◌};
 
+use envelope::ReadResult;
+use envelope_write::WriteResult;
 use std::io::Read;
+
+// The room for the longest envelope, and some more.
+const ROOM: usize = 33000;
+
+// Record 0, bytes that are read: `head` of the bytes of the header (20 at most), and after them a string of the cases.
+#[derive(Clone, Copy)]
+struct Reading {
+    head: u8,
+    header: [u8; 20],
+    rest: u16,
+}
+
+// Record 1, an envelope that is written: letter and group, the lengths of metadata, cryptogram and tag, which are parts of a string of the
+// cases, and the length of the buffer.
+#[derive(Clone, Copy)]
+struct Writing {
+    letter: u8,
+    group: u16,
+    metadata: u16,
+    cryptogram: u16,
+    tag: u16,
+    room: u16,
+}
+
+// A case.
+#[derive(Clone, Copy)]
+enum Case {
+    Reading(Reading),
+    Writing(Writing),
+}
+
+// The number at a place of a case.
+fn word(bytes: &[u8; 24], i: usize) -> u16
+    requires { i < 23 }
+{
+    u16::from_le_bytes([bytes[i], bytes[i + 1]])
+}
+
+// Byte 0 says which record it is. Record 0 has `head` at 1, the header from 2 on and at 22 how many bytes follow it. Record 1 has the letter at 1,
+// and its numbers from 2 on.
+impl From<&[u8; 24]> for Case {
+    fn from(bytes: &[u8; 24]) -> Self {
+        if bytes[0] == 0 {
+            let mut header = [0; 20];
+            header.copy_from_slice(&bytes[2..22]);
+            Case::Reading(Reading {
+                head: bytes[1],
+                header,
+                rest: word(bytes, 22),
+            })
+        } else {
+            Case::Writing(Writing {
+                letter: bytes[1],
+                group: word(bytes, 2),
+                metadata: word(bytes, 4),
+                cryptogram: word(bytes, 6),
+                tag: word(bytes, 8),
+                room: word(bytes, 10),
+            })
+        }
+    }
+}
 
 // Byte j of the strings that the cases are made of.
 fn pattern(j: usize) -> u8 {
     ((j % 251 * 7 + j / 251) % 256) as u8
 }
 
-// Writes a number and a space.
-fn put(rt: &impl Print, n: usize) {
-    let _ = print!(rt; "{n} ");
-}
-
-// A byte as a number.
-fn wide(b: u8) -> usize
-    ensures { result < 256 }
-{
-    b as usize
-}
-
-// The number at a place of a case.
-fn word(case: &[u8; 24], i: usize) -> usize
-    requires { i < 23 }
-    ensures { result < 65536 }
-{
-    hexline::pair(case[i], case[i + 1])
+// Fills a buffer with a string of the cases.
+fn fill(out: &mut [u8]) {
+    for (j, b) in out.iter_mut().enumerate() {
+        *b = pattern(j);
+    }
 }
 
 // A sum over all of the bytes in which each place counts.
-fn checksum(s: &[u8]) -> usize {
-    let mut sum = 0;
-    let mut i = 0;
-    while i < s.len() {
-        sum = (sum * 31 + wide(s[i])) % 65521;
-        i += 1;
-    }
-    sum
+fn checksum(s: &[u8]) -> u16 {
+    s.iter().fold(0, |sum, b| {
+        ((u32::from(sum) * 31 + u32::from(*b)) % 65521) as u16
+    })
 }
 
-// Writes the length of a part and a sum over it.
-fn put_part(rt: &impl Print, s: &[u8]) {
-    put(rt, s.len());
-    put(rt, checksum(s));
-}
-
-// Reads the envelope at the start of some bytes, and writes number, letter, group, place and the three parts.
+// Reads the envelope at the start of some bytes, and writes number, letter, group, place and, for each of the three parts, its length and a sum
+// over it.
 fn put_read(rt: &impl Print, s: &[u8]) {
-    let e = envelope::read_envelope(s);
-    put(rt, e.number as usize);
-    put(rt, wide(e.letter));
-    put(rt, e.group as usize);
-    put(rt, e.place);
-    put_part(rt, envelope::metadata(s));
-    put_part(rt, envelope::cryptogram(s));
-    put_part(rt, envelope::tag(s));
-}
-
-// Puts a string of the cases from a place of a buffer on.
-fn fill(out: &mut [u8], from: usize) {
-    let mut i = from;
-    while i < out.len() {
-        out[i] = pattern(i - from);
-        i += 1;
+    let e = ReadResult::from(envelope::read_parts(s));
+    let _ = print!(rt; "{} {} {} {} ", e.number, e.letter, e.group, e.place);
+    for part in [
+        envelope::metadata(s),
+        envelope::cryptogram(s),
+        envelope::tag(s),
+    ] {
+        let _ = print!(rt; "{} {} ", part.len(), checksum(part));
     }
 }
 
-// Puts the bytes of a case that can be a header at the start of a buffer.
-fn copy_header(case: &[u8; 24], out: &mut [u8]) {
-    if out.len() < 20 {
-        return;
-    }
-    let mut i = 0;
-    while i < 20 {
-        out[i] = case[i + 2];
-        i += 1;
+impl Reading {
+    // Writes what is read from the bytes, where there is room for them.
+    fn put(self, rt: &impl Print) {
+        let mut bytes = [0; ROOM];
+        let head = usize::from(self.head);
+        let n = head + usize::from(self.rest);
+        if bytes.len() < n {
+            return;
+        }
+        bytes[..20].copy_from_slice(&self.header);
+        fill(&mut bytes[head..]);
+        put_read(rt, &bytes[..n]);
     }
 }
 
-// Record 0: byte 1 is how many of the bytes from 2 on are the header (20 at most), and at 22 stands how many bytes follow it.
-fn put_case(rt: &impl Print, case: &[u8; 24], bytes: &mut [u8]) {
-    let head = wide(case[1]);
-    let n = head + word(case, 22);
-    if bytes.len() < n {
-        return;
+impl Writing {
+    // Writes an envelope to the first bytes of a buffer, where there is room for its parts; then writes number, length, a sum over the buffer, and
+    // what is read from it.
+    fn put(self, rt: &impl Print) {
+        let mut source = [0; ROOM];
+        let mut out = [0; ROOM];
+        fill(&mut source);
+        fill(&mut out[1..]);
+        let a = usize::from(self.metadata);
+        let c = usize::from(self.cryptogram) + 7;
+        let t = usize::from(self.tag) + 11;
+        let room = usize::from(self.room);
+        if source.len() < a.max(c).max(t) || out.len() < room {
+            return;
+        }
+        let w = WriteResult::from(envelope_write::write_envelope(
+            self.letter,
+            u32::from(self.group),
+            &source[..a],
+            &source[7..c],
+            &source[11..t],
+            &mut out[..room],
+        ));
+        let _ = print!(rt; "{} {} {} ", w.number, w.len, checksum(&out));
+        put_read(rt, &out);
     }
-    copy_header(case, bytes);
-    fill(bytes, head);
-    put_read(rt, &bytes[..n]);
 }
 
-fn read_case(rt: &impl Print, case: &[u8; 24]) {
-    let mut bytes = [0u8; 33000];
-    put_case(rt, case, &mut bytes);
-}
+impl Case {
+    // The next case, if there is a whole one.
+    fn read(input: &mut impl Read) -> Option<Self> {
+        let mut bytes = [0; 24];
+        if hexline::read_full(input, &mut bytes) < 24 {
+            None
+        } else {
+            Some(Case::from(&bytes))
+        }
+    }
 
-// Writes an envelope to the first bytes of a buffer, with parts of a string; then writes number, length, a sum over the buffer, and what is
-// read from it. Byte 1 of the case is the letter; at 2, 4, 6, 8 and 10 stand the group and the lengths of metadata, cryptogram, tag and buffer.
-fn put_write(rt: &impl Print, case: &[u8; 24], source: &[u8], out: &mut [u8]) {
-    let a = word(case, 4);
-    let c = word(case, 6) + 7;
-    let t = word(case, 8) + 11;
-    let room = word(case, 10);
-    if source.len() < a {
-        return;
+    // Writes what comes of a case.
+    fn put(self, rt: &impl Print) {
+        match self {
+            Case::Reading(case) => case.put(rt),
+            Case::Writing(case) => case.put(rt),
+        }
     }
-    if source.len() < c {
-        return;
-    }
-    if source.len() < t {
-        return;
-    }
-    if out.len() < room {
-        return;
-    }
-    let w = envelope_write::write_envelope(
-        case[1],
-        word(case, 2) as u32,
-        &source[..a],
-        &source[7..c],
-        &source[11..t],
-        &mut out[..room],
-    );
-    put(rt, w.number as usize);
-    put(rt, w.len);
-    put(rt, checksum(out));
-    put_read(rt, out);
-}
-
-// Record 1. The buffers have room for the longest envelope and some more.
-fn write_case(rt: &impl Print, case: &[u8; 24]) {
-    let mut source = [0u8; 33000];
-    let mut out = [0u8; 33000];
-    fill(&mut source, 0);
-    fill(&mut out, 1);
-    put_write(rt, case, &source, &mut out);
-}
-
-// One case; false at the end of the input.
-fn one_case(rt: &impl Print, input: &mut impl Read) -> bool {
-    let mut case = [0u8; 24];
-    if hexline::read_full(input, &mut case) < 24 {
-        return false;
-    }
-    if case[0] == 0 {
-        read_case(rt, &case);
-    } else {
-        write_case(rt, &case);
-    }
-    println!(rt; "").is_ok()
 }
 
 fn main(rt: HostRuntime) {
     let mut input = rt.stdin();
-    let mut turns = u64::MAX;
-    while turns > 0 && one_case(&rt, &mut input) {
-        turns -= 1;
+    for _ in 0..u64::MAX {
+        let Some(case) = Case::read(&mut input) else {
+            return;
+        };
+        case.put(&rt);
+        if println!(rt; "").is_err() {
+            return;
+        }
     }
 }

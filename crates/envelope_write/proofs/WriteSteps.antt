@@ -1,18 +1,28 @@
 -- What each test and each write of the code that makes an envelope comes to. Assumes nothing.
-use Prim.Native.Nat.{ℕ, ◌+◌, ◌<◌, ◌≤◌}
-use mathlib.Core.Path.{◌≡◌, refl, sym, ap, ◌∙◌}
+use Prim.Native.Nat.{ℕ, ◌+◌, ◌-◌, ◌<◌, ◌≤◌}
+use mathlib.Core.Path.{◌≡◌, sym, ap, ◌∙◌}
 use mathlib.Core.Bool.{cond}
-use mathlib.Core.List.{List, [], ◌∷◌, ◌++◌, append_assoc}
+use mathlib.Core.List.{List, [], ◌++◌, append_assoc, append-nil}
 use native.Mathlib.Omega.{arith}
-use lib.ListN.{length, set, length-append}
+use lib.ListN.{length, take, drop, length-append, length-set, length-take, length-drop}
+use lib.Seq.{take_at, drop_at}
+use borrow.Rule.Slice.PartMut.{mid_of, post_of, put_mid}
 use lib.Dec.{eqb, ltb}
 use borrow.Author.Tests.{lt-ltb, le-ltb, eq-eqb, ne_eqb}
 use Rattle.decimal.specs.Buffer.{written_at}
-use Rattle.decimal.proofs.Buffers.{written_at-join, written_at-pair}
-use Rattle.envelope.specs.Layout.{letter_f, comma, max_group, max_length, tag_length, field, header, envelope}
+use Rattle.std.proofs.lemmas.Grind.{common_steps}
+use Rattle.decimal.specs.Decimal.{decimal}
+use Rattle.decimal.proofs.Laws.{decimal-within}
+use Rattle.envelope.specs.Layout.{letter_f, max_group, max_length, tag_length, header}
 use Rattle.envelope.proofs.Layouts.{header-length, header-longest, field-length, tag-bound}
 use Rattle.envelope_write.specs.Checks.{Written, ToWrite}
 use Rattle.envelope_write.specs.Write.{range_then, write_number, header_number}
+
+-- how long what is written is
+pub decimal_short : (n : ℕ) → n < 4294967296 → length (decimal n) ≤ 10
+decimal_short n h = decimal-within 9 n (omega arith)
+
+pub ruleset lengths = (decimal_short, header-length, field-length, length-set, length-append, length-take, length-drop)
 
 module _ (letter group alen mlen n : ℕ) where
   -- the checks of letter, group and lengths; n is what comes after them
@@ -62,9 +72,6 @@ module _ (letter group alen mlen tlen room : ℕ) (r : ToWrite letter group alen
 
   -- n is the header's length
   module _ (t : tlen ≡ tag_length letter) (n : ℕ) (is-n : n ≡ length (header letter group alen mlen)) where
-    pub sizes : n + alen + mlen + tlen ≤ 32817
-    sizes = omega (arith, tag-bound letter, header-longest r.in_range, r.in_range.metadata_fits, r.in_range.message_fits)
-
     pub number-8 : room < n + alen + mlen + tlen → write_number letter group alen mlen tlen room ≡ 8
     number-8 h = to-tag ∙ simp (eq-eqb tlen (tag_length letter) t, sym is-n, lt-ltb room (n + alen + mlen + tlen) h)
 
@@ -81,34 +88,20 @@ module _ (letter group alen mlen room : ℕ) (r : ToWrite letter group alen mlen
   unfolding header_number
   header-0 h = range-passed letter group alen mlen _ r ∙ simp (sym is-n, le-ltb room n h)
 
--- letter and comma, and then the three numbers, one behind the other, are the header
-pub header-written : (letter group alen mlen p q : ℕ) (out o₁ o₂ o₃ : List ℕ) → length (header letter group alen mlen) ≤ length out
-    → p ≡ 2 + length (field group) → q ≡ p + length (field alen)
-    → o₁ ≡ written_at (set (set out 0 letter) 1 comma) 2 (field group) → o₂ ≡ written_at o₁ p (field alen) → o₃ ≡ written_at o₂ q (field mlen)
-    → o₃ ≡ written_at out 0 (header letter group alen mlen)
-unfolding header
-header-written letter group alen mlen p q out o₁ o₂ o₃ room is-p is-q e₁ e₂ e₃ =
-    let total : length (header letter group alen mlen) ≡ 2 + length (field group) + length (field alen) + length (field mlen) =
-    omega (arith, header-length letter group alen mlen, field-length group, field-length alen, field-length mlen) in
-    let start = letter ∷ comma ∷ [] in
-    let w₁ = written_at-join out start (field group) 2 refl (omega arith) (written_at-pair out letter comma (omega arith)) e₁ in
-    let w₂ = written_at-join out (start ++ field group) (field alen) p (omega (arith, length-append start (field group))) (omega (arith, length-append start (field group))) w₁ e₂ in
-    let l₂ : length ((start ++ field group) ++ field alen) ≡ 2 + length (field group) + length (field alen) = simp length-append in
-    let w₃ = written_at-join out ((start ++ field group) ++ field alen) (field mlen) q (omega arith) (omega arith) w₂ e₃ in
-    w₃ ∙ ap (written_at out 0) (ap (λ (l : List ℕ). letter ∷ comma ∷ l) (append_assoc (field group) (field alen) (field mlen)))
-
--- the header, metadata, cryptogram and tag, one behind the other, are the envelope
-pub envelope-written : (letter group p q r : ℕ) (metadata cryptogram tag out o₁ o₂ o₃ o₄ : List ℕ)
-    → length (header letter group (length metadata) (length cryptogram)) + length metadata + length cryptogram + length tag ≤ length out
-    → p ≡ length (header letter group (length metadata) (length cryptogram)) → q ≡ p + length metadata → r ≡ q + length cryptogram
-    → o₁ ≡ written_at out 0 (header letter group (length metadata) (length cryptogram)) → o₂ ≡ written_at o₁ p metadata → o₃ ≡ written_at o₂ q cryptogram → o₄ ≡ written_at o₃ r tag
-    → o₄ ≡ written_at out 0 (envelope letter group metadata cryptogram tag)
-unfolding envelope
-envelope-written letter group p q r metadata cryptogram tag out o₁ o₂ o₃ o₄ room is-p is-q is-r e₁ e₂ e₃ e₄ =
-    let h = header letter group (length metadata) (length cryptogram) in
-    let l₁ = length-append h metadata in
-    let l₂ = length-append (h ++ metadata) cryptogram in
-    let w₁ = written_at-join out h metadata p is-p (omega arith) e₁ e₂ in
-    let w₂ = written_at-join out (h ++ metadata) cryptogram q (omega arith) (omega arith) w₁ e₃ in
-    let w₃ = written_at-join out ((h ++ metadata) ++ cryptogram) tag r (omega arith) (omega arith) w₂ e₄ in
-    w₃ ∙ ap (written_at out 0) (append_assoc (h ++ metadata) cryptogram tag ∙ append_assoc h metadata (cryptogram ++ tag))
+-- a run written behind others, to the part of the buffer that begins where these end
+pub written-behind : (buffer : List ℕ) {out after : List ℕ} (bytes more : List ℕ) (at : ℕ) → at ≡ length bytes → at + length more ≤ length buffer
+    → out ≡ written_at buffer 0 bytes → after ≡ written_at (mid_of at (length out - at) out) 0 more
+    → put_mid at (length out - at) out after ≡ written_at buffer 0 (bytes ++ more)
+unfolding written_at
+written-behind buffer {out} {after} bytes more at is-at room before is-after =
+    let whole : out ≡ bytes ++ drop at buffer = before ∙ ap (λ (k : ℕ). bytes ++ drop k buffer) (omega arith) in
+    let size : length out ≡ length buffer = ap length whole ∙ simp (length-append, length-drop) (omega arith) in
+    let front : take at out ≡ bytes = ap (take at) whole ∙ take_at bytes (drop at buffer) at (sym is-at) in
+    let rest : drop at out ≡ drop at buffer = ap (drop at) whole ∙ drop_at bytes (drop at buffer) at (sym is-at) in
+    let left : length (drop at buffer) ≡ length out - at = simp length-drop (omega arith) in
+    let part : mid_of at (length out - at) out ≡ drop at buffer = ap (take (length out - at)) rest ∙ grind (arith, common_steps) in
+    let end : post_of at (length out - at) out ≡ [] = ap (drop (length out - at)) rest ∙ grind (arith, common_steps) in
+    let written : after ≡ more ++ drop (at + length more) buffer =
+    is-after ∙ ap (λ (l : List ℕ). more ++ drop (0 + length more) l) part ∙ ap (λ (l : List ℕ). more ++ l) (grind (arith, common_steps)) in
+    let size₂ : 0 + length (bytes ++ more) ≡ at + length more = simp length-append (omega arith) in
+    simp (front, written, end, append-nil, append_assoc) (ap (λ (k : ℕ). bytes ++ (more ++ drop k buffer)) (sym size₂))

@@ -1,6 +1,10 @@
 -- A writer, of an envelope or of a header alone, gives a number exactly where its condition holds. Assumes nothing.
+use Rattle.std.specs.Prelude.{Result, Err}
+use Rattle.refusals.specs.declared.Refusal.{Refusal}
+use Rattle.refusals.specs.Numbers.{number_of}
+use Rattle.refusals.proofs.Numbers.{number-positive}
 use Prim.Native.Nat.{ℕ, ◌+◌, ◌<◌, ◌≤◌}
-use mathlib.Core.Path.{◌≡◌, refl, sym, ◌∙◌, subst}
+use mathlib.Core.Path.{◌≡◌, refl, sym, ap, ◌∙◌, subst}
 use mathlib.Core.Logic.{◌↔◌, ◌⊎◌, inl, inr}
 use mathlib.Core.Bool.{Bool, true, false}
 use mathlib.Core.List.{List}
@@ -12,7 +16,7 @@ use Rattle.decimal.specs.Buffer.{written_at}
 use Rattle.decimal.proofs.Laws.{lt-or-le}
 use Rattle.envelope.specs.Layout.{letter_f, max_group, max_length, tag_length, Known, header}
 use Rattle.envelope_write.specs.Checks.{Written, ToWrite, RangeStop, only-read, bad-letter, group-above, metadata-long, message-long, WriteStop, out_of_range, tag-wrong, no_room, writable, HeaderStop, header-out-of-range, header-no-room, header-writable}
-use Rattle.envelope_write.specs.Write.{range_then, write_number, header_number, answer_by, buffer_by}
+use Rattle.envelope_write.specs.Write.{range_then, write_number, header_number, write_result, answer_by, buffer_by}
 use Rattle.envelope_write.specs.declared.WriteResult.{WriteResult}
 use Rattle.envelope_write.proofs.WriteSteps.{range-18, range-1, range-3, range-6-metadata, range-6-message, range-passed, number-7, number-8, number-0, header-8, header-0}
 
@@ -67,19 +71,12 @@ module _ (letter group alen mlen : ℕ) where
       by-F (inl h) = inr (18, only-read h)
       by-F (inr f) = by-letter f (eq-or-ne (tag_length letter) 0)
 
-  -- by the number r that the code has for them: where it is 0 all are in range, and any other stays, whatever comes after
-  pub range-fits : {r : ℕ} → r ≡ range_then letter group alen mlen 0 → r ≡ 0 → ToWrite letter group alen mlen
-  range-fits {r} is z = go range-cases
+  -- a check that is met stays, whatever comes after
+  pub range-kept : (e : Refusal) (after : ℕ) → number_of e ≡ range_then letter group alen mlen 0 → number_of e ≡ range_then letter group alen mlen after
+  range-kept e after is = go range-cases
     where
-      go : RangeCases → ToWrite letter group alen mlen
-      go (inl h) = h
-      go (inr h) = absurd (range-not-0 h.1 (sym (range-given 0 h.1) ∙ sym is ∙ z))
-
-  pub range-kept : {r : ℕ} (after : ℕ) → r ≡ range_then letter group alen mlen 0 → (r ≡ 0 → ⊥) → r ≡ range_then letter group alen mlen after
-  range-kept {r} after is h = go range-cases
-    where
-      go : RangeCases → r ≡ range_then letter group alen mlen after
-      go (inl i) = absurd (h (is ∙ range-passed letter group alen mlen 0 i))
+      go : RangeCases → number_of e ≡ range_then letter group alen mlen after
+      go (inl i) = let no : ⊥ = omega (arith, number-positive e, range-passed letter group alen mlen 0 i) in absurd no
       go (inr s) = is ∙ range-given 0 s.1 ∙ sym (range-given after s.1)
 
 module _ (letter group alen mlen tlen room : ℕ) where
@@ -125,8 +122,8 @@ module _ (letter group alen mlen tlen room : ℕ) where
     pub tag_fits : tlen ≡ tag_length letter
     pub room_fits : length (header letter group alen mlen) + alen + mlen + tlen ≤ room
 
-  pub accepted : {number : ℕ} → number ≡ write_number letter group alen mlen tlen room → number ≡ 0 → Writable
-  accepted is e = go 0 refl ((write-number-exact 0).0 (sym is ∙ e))
+  pub accepted : 0 ≡ write_number letter group alen mlen tlen room → Writable
+  accepted is = go 0 refl ((write-number-exact 0).0 (sym is))
     where
       go : (n : ℕ) → n ≡ 0 → WriteStop letter group alen mlen tlen room n → Writable
       go n z (out_of_range h) = absurd (range-not-0 letter group alen mlen h z)
@@ -161,9 +158,8 @@ module _ (letter group alen mlen room : ℕ) where
   )
 
   -- where nothing stops the call, all is in range, and there is room
-  pub header-accepted : {number : ℕ} → number ≡ header_number letter group alen mlen room → number ≡ 0
-      → ToWrite letter group alen mlen × (length (header letter group alen mlen) ≤ room)
-  header-accepted is e = go 0 refl ((header-number-exact 0).0 (sym is ∙ e))
+  pub header-accepted : 0 ≡ header_number letter group alen mlen room → ToWrite letter group alen mlen × (length (header letter group alen mlen) ≤ room)
+  header-accepted is = go 0 refl ((header-number-exact 0).0 (sym is))
     where
       go : (n : ℕ) → n ≡ 0 → HeaderStop letter group alen mlen room n → ToWrite letter group alen mlen × (length (header letter group alen mlen) ≤ room)
       go n z (header-out-of-range h) = absurd (range-not-0 letter group alen mlen h z)
@@ -176,6 +172,13 @@ module _ (check : ℕ) (bytes buffer : List ℕ) where
       → (◌≡◌ {A = WriteResult} (record { number = n; len = 0 }) (answer_by check bytes)) × (buffer ≡ buffer_by check bytes buffer)
   stopped n is h = (sym (simp (sym is, ne_eqb n 0 h)), sym (simp (sym is, ne_eqb n 0 h)))
 
-  pub done : {number : ℕ} (n : ℕ) (after : List ℕ) → number ≡ check → number ≡ 0 → n ≡ length bytes → after ≡ written_at buffer 0 bytes
+  pub done : (n : ℕ) (after : List ℕ) → 0 ≡ check → n ≡ length bytes → after ≡ written_at buffer 0 bytes
       → (◌≡◌ {A = WriteResult} (record { number = 0; len = n }) (answer_by check bytes)) × (after ≡ buffer_by check bytes buffer)
-  done n after is z is-n is-after = let e = sym is ∙ z in (sym (simp (e, sym is-n)), is-after ∙ sym (simp e))
+  done n after z is-n is-after = (sym (simp (sym z, sym is-n)), is-after ∙ sym (simp (sym z)))
+
+  -- the same of what a function gives, which stops with the check e
+  pub refused : (e : Refusal) {r : Result ℕ Refusal} → number_of e ≡ check → r ≡ Err e
+      → (write_result r ≡ answer_by check bytes) × (buffer ≡ buffer_by check bytes buffer)
+  refused e is given =
+      let s = stopped (number_of e) is (λ z. omega (arith, number-positive e)) in
+      (ap write_result given ∙ s.0, s.1)

@@ -1,7 +1,9 @@
 -- What a writer makes: document 01, "Envelope", and numbers 3, 6, 7 and 8 of "What stops a call"; document 02, request 2, has it handed the letter,
 -- with number 1 for one that is unknown, request 7 a header written alone, and request 9 number 18 for the letter F, before every other check. Assumes
 -- nothing.
-use Rattle.std.specs.Prelude.{ℕ, ◌+◌, cond, List, length, ltb, eqb}
+use Rattle.std.specs.Prelude.{ℕ, ◌+◌, cond, Result, Ok, Err, List, length, ltb, eqb}
+use Rattle.refusals.specs.declared.Refusal.{Refusal}
+use Rattle.refusals.specs.Numbers.{number_of}
 use Rattle.decimal.specs.Buffer.{written_at}
 use Rattle.envelope.specs.Layout.{letter_f, max_group, max_length, tag_length, header, envelope}
 use Rattle.envelope_write.specs.declared.WriteResult.{WriteResult}
@@ -24,6 +26,11 @@ write_number letter group alen mlen tlen room =
 -- the same for a header alone
 unfoldable pub header_number : (letter group alen mlen room : ℕ) → ℕ
 header_number letter group alen mlen room = range_then letter group alen mlen (cond (ltb room (length (header letter group alen mlen))) 8 0)
+
+-- what C gets of writing: number 0 and how many bytes were written; or the check's number, and no bytes
+abbrev pub write_result : Result ℕ Refusal → WriteResult
+write_result (Ok n) = record { number = 0; len = n }
+write_result (Err e) = record { number = number_of e; len = 0 }
 
 -- what writing some bytes answers, by the check that is met: the number, and how many bytes were written
 abbrev pub answer_by : ℕ → List ℕ → WriteResult

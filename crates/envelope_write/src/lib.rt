@@ -1,17 +1,20 @@
 // Writes envelopes (document 01, "Envelope", and document 02, request 2), and headers alone (request 7), to the start of a lent buffer, but none with the
-// letter F (request 9). Each answer has a number of document 01's "What stops a call", 0 where nothing stopped it. specs/Write.antt says what is
-// written; that reading gives it back is shown in proofs/round_trip.antt.
+// letter F (request 9). A refusal is a check of document 01's "What stops a call". specs/Write.antt says what is written; that reading gives it back is
+// shown in proofs/RoundTrip.antt.
 #![tactic(auto)]
 
-ghost use Rattle.std.specs.Prelude.{◌≡◌, ℕ, ◌+◌, ◌≤◌, length};
+ghost use Rattle.std.specs.Prelude.{◌≡◌, ℕ, ◌≤◌, length, MatchResult};
+ghost use Rattle.refusals.specs.Numbers.{number_of};
 ghost use Rattle.decimal.specs.Buffer.{written_at};
 ghost use Rattle.envelope.specs.Layout.{field, header};
-ghost use Rattle.envelope_write.specs.Write.{range_then, write_number, header_number, write_answer, write_buffer, header_answer, header_buffer};
+ghost use Rattle.envelope_write.specs.Checks.{ToWrite};
+ghost use Rattle.envelope_write.specs.Write.{range_then, write_result, write_answer, write_buffer, header_answer, header_buffer};
 
 use decimal::{decimal_len, write_decimal};
 use envelope::{COMMA, LETTER_F, MAX_GROUP, MAX_LENGTH, tag_len};
+use refusals::Refusal;
 
-// What writing answers: the number, and how many bytes were written.
+// What C gets of writing: the number of the check that was met, or 0, and how many bytes were written.
 #[repr(C)]
 #[derive(Clone, Copy)]
 pub struct WriteResult {
@@ -19,125 +22,132 @@ pub struct WriteResult {
     pub len: usize,
 }
 
-// Copies bytes into a buffer from the place `at` on, where there is room for them, and gives the place after them.
-fn copy_at(src: &[u8], out: &mut [u8], at: usize) -> usize
-    requires { at + length src.now ≤ length out.old }
-    ensures { (result ≡ at + length src.now) × (out.new ≡ written_at out.old at src.now) }
-{
-    let mut i = 0;
-    while i < src.len() {
-        out[at + i] = src[i];
-        i += 1;
+impl From<Result<usize, Refusal>> for WriteResult {
+    ghost from_gives = { λ r w. w ≡ write_result r };
+
+    fn from(r: Result<usize, Refusal>) -> WriteResult {
+        match r {
+            Ok(len) => WriteResult { number: 0, len },
+            Err(e) => WriteResult {
+                number: u32::from(e),
+                len: 0,
+            },
+        }
     }
-    at + i
 }
 
-// Writes a number of the header and its comma from the place `at` on, where there is room, and gives the place after them.
-fn write_field(n: u32, out: &mut [u8], at: usize) -> usize
-    requires { at + length (field n) ≤ length out.old }
-    ensures { (result ≡ at + length (field n)) × (out.new ≡ written_at out.old at (field n)) }
+// Writes bytes to the start of a buffer that has room for them, and gives how many.
+#[tactic(auto, unfolding(decimal::specs::Buffer::written_at))]
+fn put(src: &[u8], out: &mut [u8]) -> usize
+    requires { length src.now ≤ length out.old }
+    ensures { (result ≡ length src.now) × (out.new ≡ written_at out.old 0 src.now) }
 {
-    let p = write_decimal(n, out, at);
-    out[p] = COMMA;
-    p + 1
+    out[..src.len()].copy_from_slice(src);
+    src.len()
+}
+
+// Writes a number of the header and its comma to the start of a buffer that has room for them, and gives how many bytes that are.
+#[tactic(auto, using(crate::proofs::WriteSteps::lengths))]
+fn write_field(n: u32, out: &mut [u8]) -> usize
+    requires { length (field n) ≤ length out.old }
+    ensures { (result ≡ length (field n)) × (out.new ≡ written_at out.old 0 (field n)) }
+{
+    let len = write_decimal(n, out);
+    out[len] = COMMA;
+    len + 1
 }
 
 // How many bytes a header has, whatever its letter.
+#[tactic(auto, using(crate::proofs::WriteSteps::lengths))]
 pub fn header_len(group: u32, alen: u32, mlen: u32) -> usize
     ensures { (letter : ℕ) → result ≡ length (header letter group alen mlen) }
 {
     5 + decimal_len(group) + decimal_len(alen) + decimal_len(mlen)
 }
 
-// Writes a header to the start of a buffer that has room for it, and gives the place after it.
-fn put_header(letter: u8, group: u32, alen: u32, mlen: u32, out: &mut [u8]) -> usize
-    requires { length (header letter group alen mlen) ≤ length out.old }
-    ensures { (result ≡ length (header letter group alen mlen)) × (out.new ≡ written_at out.old 0 (header letter group alen mlen)) }
-{
-    out[0] = letter;
-    out[1] = COMMA;
-    let p = write_field(group, out, 2);
-    let q = write_field(alen, out, p);
-    write_field(mlen, out, q)
+// A header that can be written: letter, group, and the lengths of metadata and message, each within its range.
+#[derive(Clone, Copy)]
+struct Fields {
+    letter: u8,
+    group: u32,
+    alen: u32,
+    mlen: u32,
+    ghost to_write: { ToWrite letter group alen mlen },
 }
 
-// The first of the checks 18, 1, 3 and 6 that letter, group and lengths meet, or 0.
-fn range_number(letter: u8, group: u32, alen: usize, mlen: usize) -> u32
-    ensures { result ≡ range_then letter group alen mlen 0 }
-{
-    if letter == LETTER_F {
-        return 18;
+impl Fields {
+    // These as a header; or the first of the checks 18, 1, 3 and 6 that they meet.
+    #[tactic(auto, unfolding(crate::specs::Write::range_then))]
+    fn new(letter: u8, group: u32, alen: usize, mlen: usize) -> Result<Fields, Refusal>
+        ensures { MatchResult result
+            (λ h. (h.letter ≡ letter) × (h.group ≡ group) × (h.alen ≡ alen) × (h.mlen ≡ mlen))
+            (λ e. number_of e ≡ range_then letter group alen mlen 0) }
+    {
+        if letter == LETTER_F {
+            return Err(Refusal::ReadOnly);
+        }
+        if tag_len(letter) == 0 {
+            return Err(Refusal::BadHeader);
+        }
+        if group > MAX_GROUP {
+            return Err(Refusal::BadGroup);
+        }
+        if alen > MAX_LENGTH as usize || mlen > MAX_LENGTH as usize {
+            return Err(Refusal::TooLong);
+        }
+        Ok(Fields {
+            letter,
+            group,
+            alen: alen as u32,
+            mlen: mlen as u32,
+        })
     }
-    if tag_len(letter) == 0 {
-        return 1;
-    }
-    if MAX_GROUP < group {
-        return 3;
-    }
-    if (MAX_LENGTH as usize) < alen {
-        return 6;
-    }
-    if (MAX_LENGTH as usize) < mlen {
-        return 6;
-    }
-    0
-}
 
-// The first check that writing an envelope meets, by the lengths of metadata, cryptogram, tag and buffer, or 0.
-fn write_number(letter: u8, group: u32, alen: usize, mlen: usize, tlen: usize, room: usize) -> u32
-    ensures { result ≡ write_number letter group alen mlen tlen room }
-{
-    let range = range_number(letter, group, alen, mlen);
-    if range != 0 {
-        return range;
+    // How many bytes the header has.
+    fn len(self) -> usize
+        ensures { result ≡ length (header self.letter self.group self.alen self.mlen) }
+    {
+        header_len(self.group, self.alen, self.mlen)
     }
-    if tlen != tag_len(letter) {
-        return 7;
-    }
-    if room < header_len(group, alen as u32, mlen as u32) + alen + mlen + tlen {
-        return 8;
-    }
-    0
-}
 
-// The first check that writing a header alone meets, or 0.
-fn header_number(letter: u8, group: u32, alen: usize, mlen: usize, room: usize) -> u32
-    ensures { result ≡ header_number letter group alen mlen room }
-{
-    let range = range_number(letter, group, alen, mlen);
-    if range != 0 {
-        return range;
+    // Writes the header to the start of a buffer that has room for it, and gives the place after it.
+    #[tactic(auto, using(crate::proofs::WriteSteps::lengths))]
+    fn put(self, out: &mut [u8]) -> usize
+        requires { length (header self.letter self.group self.alen self.mlen) ≤ length out.old }
+        ensures { (result ≡ length (header self.letter self.group self.alen self.mlen))
+            × (out.new ≡ written_at out.old 0 (header self.letter self.group self.alen self.mlen)) }
+    {
+        out[0] = self.letter;
+        out[1] = COMMA;
+        let p = 2 + write_field(self.group, &mut out[2..]);
+        let q = p + write_field(self.alen, &mut out[p..]);
+        q + write_field(self.mlen, &mut out[q..])
     }
-    if room < header_len(group, alen as u32, mlen as u32) {
-        return 8;
-    }
-    0
-}
-
-// The answer for a call that is refused by a number: no bytes were written.
-fn refused(number: u32) -> WriteResult
-    ensures { result ≡ record { number = number; len = 0 } }
-{
-    WriteResult { number, len: 0 }
 }
 
 // Writes a header alone to the start of a buffer and gives how many bytes that are; the rest of the buffer is kept. Refusals: 18 (the letter is F), 1 (it
 // is neither S nor N), 3 (the group), 6 (a length is above 16,384), 8 (the buffer is shorter than the header); then the buffer is unaltered.
-pub fn write_header(letter: u8, group: u32, alen: usize, mlen: usize, out: &mut [u8]) -> WriteResult
-    ensures { (result ≡ header_answer letter group alen mlen out.old)
+pub fn write_header(
+    letter: u8,
+    group: u32,
+    alen: usize,
+    mlen: usize,
+    out: &mut [u8],
+) -> Result<usize, Refusal>
+    ensures { (write_result result ≡ header_answer letter group alen mlen out.old)
         × (out.new ≡ header_buffer letter group alen mlen out.old) }
 {
-    let number = header_number(letter, group, alen, mlen, out.len());
-    if number != 0 {
-        return refused(number);
+    let h = Fields::new(letter, group, alen, mlen)?;
+    if out.len() < h.len() {
+        return Err(Refusal::NoRoom);
     }
-    let n = put_header(letter, group, alen as u32, mlen as u32, out);
-    WriteResult { number: 0, len: n }
+    Ok(h.put(out))
 }
 
 // Writes an envelope to the start of a buffer and gives how many bytes that are; the rest of the buffer is kept. Refusals: 18 (the letter is F), 1 (it is
 // neither S nor N), 3 (the group), 6 (metadata or cryptogram too long), 7 (the tag has not the letter's length: 32 bytes for S, 16 for N), 8 (the
 // buffer is shorter than the envelope); then the buffer is unaltered.
+#[tactic(auto, using(crate::proofs::WriteSteps::lengths))]
 pub fn write_envelope(
     letter: u8,
     group: u32,
@@ -145,30 +155,19 @@ pub fn write_envelope(
     cryptogram: &[u8],
     tag: &[u8],
     out: &mut [u8],
-) -> WriteResult
-    ensures { (result ≡ write_answer letter group metadata.now cryptogram.now tag.now out.old)
+) -> Result<usize, Refusal>
+    ensures { (write_result result ≡ write_answer letter group metadata.now cryptogram.now tag.now out.old)
         × (out.new ≡ write_buffer letter group metadata.now cryptogram.now tag.now out.old) }
 {
-    let number = write_number(
-        letter,
-        group,
-        metadata.len(),
-        cryptogram.len(),
-        tag.len(),
-        out.len(),
-    );
-    if number != 0 {
-        return refused(number);
+    let h = Fields::new(letter, group, metadata.len(), cryptogram.len())?;
+    if tag.len() != tag_len(letter) {
+        return Err(Refusal::BadTagLength);
     }
-    let p = put_header(
-        letter,
-        group,
-        metadata.len() as u32,
-        cryptogram.len() as u32,
-        out,
-    );
-    let q = copy_at(metadata, out, p);
-    let r = copy_at(cryptogram, out, q);
-    let n = copy_at(tag, out, r);
-    WriteResult { number: 0, len: n }
+    if out.len() < h.len() + metadata.len() + cryptogram.len() + tag.len() {
+        return Err(Refusal::NoRoom);
+    }
+    let p = h.put(out);
+    let q = p + put(metadata, &mut out[p..]);
+    let r = q + put(cryptogram, &mut out[q..]);
+    Ok(r + put(tag, &mut out[r..]))
 }

@@ -7,7 +7,7 @@ use native.Mathlib.Omega.{arith}
 use lib.Dec.{lit<}
 use lib.ListN.{length, take, drop, length-take, length-drop}
 use Rattle.word.specs.Lists.{tabulate, sum}
-use Rattle.state.specs.Bytes.{state_byte}
+use Rattle.state.specs.Bytes.{state_byte, to_bytes}
 use Rattle.xoodoo.specs.Xoodoo.{perm}
 use Rattle.xoodoo.proofs.Facts.{perm-length}
 use Rattle.rolling.specs.Rolling.{roll_out}
@@ -29,6 +29,10 @@ rolled-byte y k' z i p k n ez ep en =
     ap₂ (λ (u : List ℕ) (m : ℕ). state_byte (sum (perm u) k') m)
     (ap (iterate (k / 48) roll_out) ez ∙ sym (iterate-add roll_out i (k / 48) y) ∙ ap (λ (j : ℕ). iterate j roll_out y) q) r
 
+-- the buffer o with e for its k bytes from place a on
+abbrev pub back : (a k : ℕ) (o e : List ℕ) → List ℕ
+back a k o e = take a o ++ (e ++ drop k (drop a o))
+
 -- ---- four blocks side by side
 
 -- byte k of block j
@@ -38,22 +42,42 @@ part-byte f k' w j k e h =
     let r : k ≡ (48 * j + k) % 48 = omega arith in
     ap₂ (λ (u : List ℕ) (m : ℕ). state_byte (sum u k') m) (e ∙ ap (λ (i : ℕ). perm (f i)) q) r
 
--- added one after another
-pub four-added : (f : ℕ → List ℕ) (k' : List ℕ) (at : ℕ) {w o o₁ o₂ o₃ o₄ : List ℕ} → w ≡ beside (λ j. perm (f j))
-    → Added (state_byte (sum (part 0 w) k')) at 48 o o₁ → Added (state_byte (sum (part 1 w) k')) (at + 48) 48 o₁ o₂
-    → Added (state_byte (sum (part 2 w) k')) (at + 96) 48 o₂ o₃ → Added (state_byte (sum (part 3 w) k')) (at + 144) 48 o₃ o₄
-    → Added (four_byte f k') at 192 o o₄
-four-added f k' at {w} {o} {o₁} {o₂} {o₃} {o₄} e a₀ a₁ a₂ a₃ =
-    let b₀ = added-on (four_byte f k') (g 0) at 0 at 48 o o o₁ (omega arith) (λ k l. part-byte f k' w 0 k (p 0 (lit< tt)) l) (added_none (four_byte f k') at o) a₀ in
-    let b₁ = added-on (four_byte f k') (g 1) at 48 (at + 48) 48 o o₁ o₂ refl (λ k l. part-byte f k' w 1 k (p 1 (lit< tt)) l) b₀ a₁ in
-    let b₂ = added-on (four_byte f k') (g 2) at 96 (at + 96) 48 o o₂ o₃ refl (λ k l. part-byte f k' w 2 k (p 2 (lit< tt)) l) b₁ a₂ in
-    added-on (four_byte f k') (g 3) at 144 (at + 144) 48 o o₃ o₄ refl (λ k l. part-byte f k' w 3 k (p 3 (lit< tt)) l) b₂ a₃
+-- added one after another, each to a part that was lent
+pub four-added : (f : ℕ → List ℕ) (k' o : List ℕ) {w b₀ b₁ b₂ b₃ : List ℕ} → length o ≡ 192 → w ≡ beside (λ j. perm (f j))
+    → b₀ ≡ sum (take 48 (drop 0 o)) (to_bytes (sum (part 0 w) k'))
+    → b₁ ≡ sum (take 48 (drop 48 (back 0 48 o b₀))) (to_bytes (sum (part 1 w) k'))
+    → b₂ ≡ sum (take 48 (drop 96 (back 48 48 (back 0 48 o b₀) b₁))) (to_bytes (sum (part 2 w) k'))
+    → b₃ ≡ sum (take 48 (drop 144 (back 96 48 (back 48 48 (back 0 48 o b₀) b₁) b₂))) (to_bytes (sum (part 3 w) k'))
+    → back 144 48 (back 96 48 (back 48 48 (back 0 48 o b₀) b₁) b₂) b₃ ≡ sum o (tabulate 192 (four_byte f k'))
+four-added f k' o {w} {b₀} {b₁} {b₂} {b₃} h e e₀ e₁ e₂ e₃ =
+    added-all (four_byte f k') 192 o (back 144 48 o₃ b₃) (sym h) a₄ ∙ ap (λ (n : ℕ). sum o (tabulate n (four_byte f k'))) h
   where
+    o₁ : List ℕ
+    o₁ = back 0 48 o b₀
+
+    o₂ : List ℕ
+    o₂ = back 48 48 o₁ b₁
+
+    o₃ : List ℕ
+    o₃ = back 96 48 o₂ b₂
+
     g : ℕ → ℕ → ℕ
     g j = state_byte (sum (part j w) k')
 
     p : (j : ℕ) → j < 4 → part j w ≡ perm (f j)
     p j l = ap (part j) e ∙ beside-part (λ i. perm (f i)) j l (perm-length _)
+
+    a₁ : Added (four_byte f k') 0 48 o o₁
+    a₁ = added-on (four_byte f k') (g 0) 0 0 0 48 o o o₁ refl (λ k l. part-byte f k' w 0 k (p 0 (lit< tt)) l) (added_none (four_byte f k') 0 o) (added-part (g 0) 0 48 o b₀ (omega arith) e₀)
+
+    a₂ : Added (four_byte f k') 0 96 o o₂
+    a₂ = added-on (four_byte f k') (g 1) 0 48 48 48 o o₁ o₂ refl (λ k l. part-byte f k' w 1 k (p 1 (lit< tt)) l) a₁ (added-part (g 1) 48 48 o₁ b₁ (omega (arith, a₁.size)) e₁)
+
+    a₃ : Added (four_byte f k') 0 144 o o₃
+    a₃ = added-on (four_byte f k') (g 2) 0 96 96 48 o o₂ o₃ refl (λ k l. part-byte f k' w 2 k (p 2 (lit< tt)) l) a₂ (added-part (g 2) 96 48 o₂ b₂ (omega (arith, a₂.size)) e₂)
+
+    a₄ : Added (four_byte f k') 0 192 o (back 144 48 o₃ b₃)
+    a₄ = added-on (four_byte f k') (g 3) 0 144 144 48 o o₃ (back 144 48 o₃ b₃) refl (λ k l. part-byte f k' w 3 k (p 3 (lit< tt)) l) a₃ (added-part (g 3) 144 48 o₃ b₃ (omega (arith, a₃.size)) e₃)
 
 -- of states that are rolled one after another: the output from the first of them on
 four-byte : (f : ℕ → List ℕ) (z k' : List ℕ) (k : ℕ) → f (k / 48) ≡ iterate (k / 48) roll_out z → four_byte f k' k ≡ output_byte z k' k
@@ -85,11 +109,6 @@ blocks-skip : (i n : ℕ) → output_blocks (i % 48) n ≡ output_blocks i n
 blocks-skip i zero = sym (no_blocks (i % 48)) ∙ no_blocks i
 blocks-skip i (suc n) = omega (arith, blocks-of (i % 48) (suc n) (omega arith), blocks-of i (suc n) (omega arith))
 
--- ---- a state's bytes added
-
-pub same-added : (at n : ℕ) {l m o o' : List ℕ} → l ≡ m → Added (state_byte l) at n o o' → Added (state_byte m) at n o o'
-same-added at n {o = o} {o' = o'} e a = subst (λ (l : List ℕ). Added (state_byte l) at n o o') e a
-
 -- ---- groups of four blocks: the first n bytes of the buffer have their sums
 pub record Groups (y k' o : List ℕ) (n : ℕ) (o' : List ℕ) : Type 0 where
   pub fits : n ≤ length o
@@ -115,10 +134,6 @@ groups-more y k' o n m o' r {o''} h row a d =
     }
 
 -- ---- a part of the buffer, lent and back: its k bytes from place a on have their sums
-
--- the buffer o with e for its k bytes from place a on
-abbrev pub back : (a k : ℕ) (o e : List ℕ) → List ℕ
-back a k o e = take a o ++ (e ++ drop k (drop a o))
 
 part-size : (a k : ℕ) (o : List ℕ) → a + k ≤ length o → length (take k (drop a o)) ≡ k
 part-size a k o h = omega (arith, length-take k (drop a o), length-drop a o)

@@ -2,39 +2,36 @@
 #![tactic(auto)]
 
 ghost use Rattle.std.specs.Prelude.{◌≡◌, ◌+◌, ◌<◌, ◌≤◌, length};
-ghost use Rattle.word.specs.Lists.{sum};
-ghost use Rattle.state.specs.Bytes.{state_byte};
+ghost use Rattle.word.specs.Lists.{tabulate, sum};
+ghost use Rattle.state.specs.Bytes.{to_bytes};
 ghost use Rattle.xoodoo.specs.Xoodoo.{perm};
 ghost use Rattle.xoodoo4.specs.Four.{part, beside, laid};
 ghost use Rattle.deck.specs.Deck.{output_byte, run};
-ghost use Rattle.xoofff.specs.Leaves.{output_blocks, Added};
+ghost use Rattle.xoofff.specs.Leaves.{output_blocks};
 ghost use Rattle.expand4.specs.Four.{four_byte};
 
-// Adds the 48 bytes of state j of w plus the mask to the buffer from byte `at` on.
-fn add_part(w: &[u32; 48], j: usize, mask: &[u32; 12], at: usize, out: &mut [u8])
-    requires { (j < 4) × (at + 48 ≤ length out.old) }
-    ensures { Added (state_byte (sum (part j w.now) mask.now)) at 48 out.old out.new }
+use rows::{Output, Row};
+
+// Adds the 48 bytes of state j of w plus the mask to as many bytes.
+fn add_part(w: &[u32; 48], j: usize, mask: &[u32; 12], out: &mut [u8])
+    requires { (j < 4) × (length out.old ≡ 48) }
+    ensures { out.new ≡ sum out.old (to_bytes (sum (part j w.now) mask.now)) }
 {
-    let p = xoodoo4::part(w, j);
-    let k = *mask;
-    let o = state::add(p, k);
-    state::add_bytes(&o, &mut out[at..at + 48]);
+    let o = state::add(xoodoo4::part(w, j), *mask);
+    state::add_bytes(&o, out);
 }
 
-// Adds to the buffer from byte `at` on the four blocks that the states from word n of a row on give; w is where their permutations are put.
-fn four_out(w: &mut [u32; 48], r: &[u32; 80], n: usize, mask: &[u32; 12], at: usize, out: &mut [u8])
-    requires { (length w.old ≡ 48) × (n + 15 ≤ 80) × (at + 192 ≤ length out.old) }
-    ensures { (w.new ≡ beside (λ j. perm (laid n 3 1 r.now j)))
-        × Added (four_byte (laid n 3 1 r.now) mask.now) at 192 out.old out.new }
+// Adds to 192 bytes the four blocks that the next four states of a row give; w is where their permutations are put.
+fn four_out(w: &mut [u32; 48], row: &Row<Output>, mask: &[u32; 12], out: &mut [u8])
+    requires { (length w.old ≡ 48) × (length out.old ≡ 192) }
+    ensures { (w.new ≡ beside (λ j. perm (laid row.now.at 3 1 row.now.words j)))
+        × (out.new ≡ sum out.old (tabulate 192 (four_byte (laid row.now.at 3 1 row.now.words) mask.now))) }
 {
-    let at1 = at + 48;
-    let at2 = at + 96;
-    let at3 = at + 144;
-    xoodoo4::permute_into(w, false, r, n, 3, 1);
-    add_part(w, 0, mask, at, out);
-    add_part(w, 1, mask, at1, out);
-    add_part(w, 2, mask, at2, out);
-    add_part(w, 3, mask, at3, out);
+    xoodoo4::permute_into(w, false, &row.words, row.at, 3, 1);
+    add_part(w, 0, mask, &mut out[0..48]);
+    add_part(w, 1, mask, &mut out[48..96]);
+    add_part(w, 2, mask, &mut out[96..144]);
+    add_part(w, 3, mask, &mut out[144..192]);
 }
 
 // Adds the output from its first byte on to the buffer, whole blocks four at a time; gives the permutations done.
@@ -45,21 +42,15 @@ fn expand_groups(y: [u32; 12], mask: &[u32; 12], out: &mut [u8]) -> u32
 {
     // a copy, which no store to the buffer can alter: it is read once
     let k = *mask;
+    let groups = out.len() / 192;
     let mut w = [0u32; 48];
-    let mut row = rows::row_of(y);
-    rows::append_out(&mut row, 0);
-    let mut n: usize = 0;
-    let mut at: usize = 0;
-    while 192 <= out.len() - at {
-        let m = rows::renew(&mut row, n);
-        n = m + 4;
-        rows::append_out(&mut row, n);
-        four_out(&mut w, &row, m, &k, at, out);
-        at += 192;
+    let mut row = Row::<Output>::new(y);
+    for j in 0..groups {
+        four_out(&mut w, &row, &k, &mut out[192 * j..192 * j + 192]);
+        row.advance();
     }
-    let z = rows::state_at(&row, n);
-    let count = xoofff::expand(z, mask, 0, &mut out[at..]);
-    (at / 48) as u32 + count
+    let count = xoofff::expand(row.state(), mask, 0, &mut out[192 * groups..]);
+    4 * groups as u32 + count
 }
 
 // Adds the output bytes from byte `from` on to the buffer, of the output that starts from the rolled state y; gives the permutations done: what
@@ -70,7 +61,7 @@ pub fn expand_four(y: [u32; 12], mask: &[u32; 12], from: usize, out: &mut [u8]) 
         × (result ≡ output_blocks from (length out.old)) }
 {
     let skip = from % 48;
-    let head = xoofff::smaller((48 - skip) % 48, out.len());
+    let head = ((48 - skip) % 48).min(out.len());
     let z = xoofff::roll_by(y, from / 48);
     let first = xoofff::expand(z, mask, skip, &mut out[0..head]);
     let t = xoofff::roll_by(z, (skip + head) / 48);

@@ -1,3 +1,2 @@
 -- Laws and theorems that belong to no one function.
-pub mod Steps
 pub mod Exactly

@@ -7,32 +7,23 @@ ghost use Rattle.headers.specs.Fits.{found_for, fits, fits_group};
 
 use envelope::{Header, read_header};
 
-// Whether a header that was read from n bytes has the letter and the lengths, and nothing follows it.
+// Whether a header was read that has the letter and the lengths and ends n bytes on, so that nothing follows it.
 #[tactic(auto, unfolding(crate::specs::Fits::found_for))]
-fn found_for(letter: u8, alen: usize, mlen: usize, n: usize, h: Header) -> bool
+fn found_for(letter: u8, alen: usize, mlen: usize, n: usize, h: Option<Header>) -> bool
     ensures { result ≡ found_for letter alen mlen n h }
 {
-    if h.number != 0 {
-        return false;
+    match h {
+        Some(h) => h.letter == letter && h.alen == alen && h.mlen == mlen && h.place == n,
+        None => false,
     }
-    if h.letter != letter {
-        return false;
-    }
-    if h.alen != alen {
-        return false;
-    }
-    if h.mlen != mlen {
-        return false;
-    }
-    h.place == n
 }
 
 // Whether bytes are a header with this letter and these lengths of metadata and message, of any group.
+#[tactic(auto, unfolding(crate::specs::Fits::fits))]
 pub fn fits(letter: u8, header: &[u8], alen: usize, mlen: usize) -> bool
     ensures { result ≡ fits letter alen mlen header.now }
 {
-    let h = read_header(header);
-    found_for(letter, alen, mlen, header.len(), h)
+    found_for(letter, alen, mlen, header.len(), read_header(header))
 }
 
 // Whether bytes are a header with this letter, this group and these lengths of metadata and message.
@@ -41,8 +32,5 @@ pub fn fits_group(letter: u8, group: usize, header: &[u8], alen: usize, mlen: us
     ensures { result ≡ fits_group letter group alen mlen header.now }
 {
     let h = read_header(header);
-    if h.group as usize != group {
-        return false;
-    }
-    found_for(letter, alen, mlen, header.len(), h)
+    h.is_some_and(|h| h.group as usize == group) && found_for(letter, alen, mlen, header.len(), h)
 }

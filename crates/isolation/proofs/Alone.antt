@@ -13,7 +13,7 @@ use Rattle.deck.specs.declared.DeckState.{DeckState}
 use Rattle.modes.specs.Call.{CallInput}
 use Rattle.modes.specs.Mode.{sanse, incremental}
 use Rattle.modes.specs.Rules.{Outcome, wrap_from5, unwrap_from5}
-use Rattle.session.specs.declared.Answer.{Answer}
+use Rattle.steps.specs.declared.Answer.{Answer}
 use Rattle.groups.specs.declared.Record.{Record}
 use Rattle.groups.specs.Groups.{GroupState, GroupOutcome, GroupOpening, on_day, wrap_on_day, unwrap_on_day, open_on_day, record_of}
 use Rattle.office.specs.Table.{Table, unopened, no_group_outcome, group_at, session_at, TableOutcome, TableOpening, header_passes, table_check, if_group, written_back, opened_back, call_group_at, open_group_at, table_of, table_result, opening_result}

@@ -12,9 +12,8 @@ use Rattle.isolation.specs.Isolation.{RunsExist}
 
 abbrev pub holding : GroupState → Record
 holding s =
-    let d = s.session.history in
     record {
-      session = record { acc = d.acc; mask = d.mask; index = d.index; toggle = s.session.toggle; opened = s.session.opened };
+      session = record { history = s.session.history; toggle = s.session.toggle; opened = s.session.opened };
       count = s.count;
     }
 

@@ -4,7 +4,7 @@
 -- day and no nearly-full question is among them. Assumes nothing.
 use Rattle.std.specs.Prelude.{cond, List, [], ◌∷◌, ◌≡◌, ℕ, eqb}
 use Rattle.modes.specs.Call.{CallInput}
-use Rattle.session.specs.declared.Answer.{Answer}
+use Rattle.steps.specs.declared.Answer.{Answer}
 use Rattle.groups.specs.declared.Record.{Record}
 use Rattle.office.specs.Table.{table_of, day_result, table_result, opening_result, start_day_at, open_group_at, wrap_group_at, unwrap_group_at}
 

@@ -1,17 +1,17 @@
 -- The bytes of two runs joined, and the full block in front of a string, over plain values. Assumes nothing.
-use mathlib.Core.Path.{◌≡◌, sym, ap, ap₂, ◌∙◌}
-use mathlib.Core.List.{List, [], ◌∷◌, ◌++◌}
-use Prim.Native.Nat.{ℕ, ◌+◌, ◌-◌, ◌≤◌, ◌<◌}
-use native.Mathlib.Numerals.{add-one}
+use mathlib.Core.Path.{◌≡◌, refl, sym, ap, ap₂, ◌∙◌}
+use mathlib.Core.List.{List, ◌++◌, append_assoc, append-nil}
+use Prim.Native.Nat.{ℕ, ◌+◌, ◌-◌, ◌≤◌, min}
+use native.Mathlib.Decide.{dec_le}
 use native.Mathlib.Omega.{arith}
-use lib.ListN.{length, get_or, set, take, drop, length-append, length-drop, take-append-drop}
-use lib.Seq.{take-suc, take-suc-set, take_all, get_or-append-add, drop-append-add}
+use lib.ListN.{length, take, drop, replicate, length-append, length-drop, take-append-drop}
+use lib.Seq.{take_all, length-take-le, take-append_seam, take-append-le, take-append-add, drop-append-add}
 use Rattle.word.specs.Lists.{sum}
 use Rattle.state.specs.Bytes.{from_bytes}
 use Rattle.xoodoo.specs.Xoodoo.{perm}
 use Rattle.rolling.specs.Rolling.{roll_in}
 use Rattle.deck.specs.declared.DeckState.{DeckState}
-use Rattle.deck.specs.Strings.{Str, b}
+use Rattle.deck.specs.Strings.{Str}
 use Rattle.deck.specs.Closing.{closed_by, frame_bits}
 use Rattle.deck.specs.Deck.{index_growth}
 use Rattle.deck.specs.Incremental.{append}
@@ -22,21 +22,52 @@ use Rattle.xoofff.specs.Leaves.{compressed}
 
 -- ---- the joined bytes
 
--- a byte of the second run
-pub second_at : (h s : List ℕ) (i : ℕ) → length h ≤ i → get_or s (i - length h) 0 ≡ get_or (h ++ s) i 0
-second_at h s i l =
-    let e : length h + (i - length h) ≡ i = omega arith in
-    sym (get_or-append-add h s (i - length h) 0) ∙ ap (λ (k : ℕ). get_or (h ++ s) k 0) e
+-- the first n of them are the first k bytes of the first run and then bytes of the second, where k is as many as the first run has of n
+taken-apart : (h s : List ℕ) (n k : ℕ) → k ≡ min (length h) n → take n (h ++ s) ≡ take k h ++ take (n - k) s
+taken-apart h s n k e = go (dec_le (length h) n)
+  where
+    go : Dec (length h ≤ n) → take n (h ++ s) ≡ take k h ++ take (n - k) s
+    go (yes p) =
+        let i : n ≡ length h + (n - length h) = omega arith in
+        let j : length h ≡ k = omega arith in
+        ap (λ (m : ℕ). take m (h ++ s)) i ∙ take-append-add h s (n - length h) ∙ ap₂ (λ (t : List ℕ) (m : ℕ). t ++ take (n - m) s) (sym (take_all k h (omega arith))) j
+    go (no p) =
+        let i : n ≡ k = omega (arith, p) in
+        let j : 0 ≡ n - k = omega arith in
+        take-append-le n h s (omega (arith, p)) ∙ sym (append-nil (take n h)) ∙ ap₂ (λ (m q : ℕ). take m h ++ take q s) i j
 
--- one more byte of a run, stored at its place
-pub front-more : (b l : List ℕ) (i v : ℕ) → i < length b → i < length l → v ≡ get_or l i 0 → take i b ≡ take i l
-    → take (i + 1) (set b i v) ≡ take (i + 1) l
-front-more b l i v p q e h =
-    ap (λ (n : ℕ). take n (set b i v)) (add-one i)
-    ∙ take-suc-set b i v p
-    ∙ ap₂ (λ (t : List ℕ) (w : ℕ). t ++ w ∷ []) h e
-    ∙ sym (take-suc l i 0 q)
-    ∙ ap (λ (n : ℕ). take n l) (sym (add-one i))
+-- so of a block of zeros into which both were copied
+pub copied-both : (h s x y : List ℕ) (n k : ℕ) → n ≤ 48 → n ≤ length h + length s → k ≡ min (length h) n → x ≡ take k h → y ≡ take (n - k) s
+    → (length (take k (x ++ drop k (replicate 48 0)) ++ (y ++ drop (n - k) (drop k (x ++ drop k (replicate 48 0))))) ≡ 48)
+    × (take n (take k (x ++ drop k (replicate 48 0)) ++ (y ++ drop (n - k) (drop k (x ++ drop k (replicate 48 0))))) ≡ take n (h ++ s))
+copied-both h s x y n k l m ek ex ey = (size, front)
+  where
+    b : List ℕ
+    b = x ++ drop k (replicate 48 0)
+
+    r : List ℕ
+    r = drop (n - k) (drop k b)
+
+    lx : length x ≡ k
+    lx = ap length ex ∙ length-take-le k h (omega arith)
+
+    ly : length y ≡ n - k
+    ly = ap length ey ∙ length-take-le (n - k) s (omega arith)
+
+    lb : length b ≡ 48
+    lb = let z : length (replicate {A = ℕ} 48 0) ≡ 48 = refl in omega (arith, length-append x (drop k (replicate 48 0)), length-drop k (replicate {A = ℕ} 48 0), lx, z)
+
+    size : length (take k b ++ (y ++ r)) ≡ 48
+    size = omega (arith, length-append (take k b) (y ++ r), length-append y r, length-drop (n - k) (drop k b), length-drop k b, length-take-le k b (omega (arith, lb)), lb, ly)
+
+    begins : take k b ≡ x
+    begins = ap (λ (q : ℕ). take q b) (sym lx) ∙ take-append_seam x (drop k (replicate 48 0))
+
+    front : take n (take k b ++ (y ++ r)) ≡ take n (h ++ s)
+    front =
+        let i : n ≡ length (x ++ y) = omega (arith, length-append x y, lx, ly) in
+        ap (λ (t : List ℕ). take n (t ++ (y ++ r))) begins ∙ ap (take n) (sym (append_assoc x y r)) ∙ ap (λ (q : ℕ). take q ((x ++ y) ++ r)) i
+        ∙ take-append_seam (x ++ y) r ∙ ap₂ (λ (t u : List ℕ). t ++ u) ex ey ∙ sym (taken-apart h s n k ek)
 
 -- the joined bytes are their first n and what is left of the second run, where the first run is no longer than that
 pub parted : (h s : List ℕ) (n : ℕ) → length h ≤ n → take n (h ++ s) ++ drop (n - length h) s ≡ h ++ s

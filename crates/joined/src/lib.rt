@@ -8,29 +8,15 @@ ghost use Rattle.xoofff.specs.Leaves.{compressed};
 use deck::DeckState;
 use xoofff::Compressed;
 
-// Byte i of `head` followed by `s`.
-fn byte_at(head: &[u8], s: &[u8], i: usize) -> u8
-    requires { i < length head.now + length s.now }
-    ensures { result ≡ get_or (head.now ++ s.now) i 0 }
-{
-    let h = head.len();
-    if i < h {
-        return head[i];
-    }
-    s[i - h]
-}
-
 // A block that begins with the first n bytes of `head` followed by `s`.
 fn assemble(head: &[u8], s: &[u8], n: usize) -> [u8; 48]
     requires { (n ≤ 48) × (n ≤ length head.now + length s.now) }
     ensures { (length result ≡ 48) × (take n result ≡ take n (head.now ++ s.now)) }
 {
+    let h = head.len().min(n);
     let mut b = [0u8; 48];
-    let mut i: usize = 0;
-    while i < n {
-        b[i] = byte_at(head, s, i);
-        i += 1;
-    }
+    b[..h].copy_from_slice(&head[..h]);
+    b[h..n].copy_from_slice(&s[..n - h]);
     b
 }
 
@@ -48,10 +34,8 @@ pub fn compress_joined(d: DeckState, head: &[u8], s: &[u8], closing: u8, four: b
     }
     let b = assemble(head, s, 48);
     let x = state::from_bytes(&b);
-    let acc = d.acc;
-    let mask = d.mask;
-    let added = xoofff::add_block(acc, mask, x);
-    let rolled = rolling::roll_in(mask);
+    let added = xoofff::add_block(d.acc, d.mask, x);
+    let rolled = rolling::roll_in(d.mask);
     let first = DeckState {
         acc: added,
         mask: rolled,

@@ -4,7 +4,7 @@ use Prim.Native.Nat.{ℕ}
 use mathlib.Core.Path.{refl, ap, ap₂, ◌∙◌}
 use mathlib.Core.List.{List, [], ◌∷◌}
 use Rattle.pool.specs.declared.Pool.{Pool}
-use Rattle.pool.specs.declared.Added.{Added}
+use Rattle.pool.specs.Pool.{Added}
 use Rattle.pool_lines.specs.Lines.{add_line}
 use Rattle.pool_lines.specs.History.{after}
 use Rattle.lent_pool.specs.Lent.{Calls, no_call, a_call, numbers_from, CallsGive}

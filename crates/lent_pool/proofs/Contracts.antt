@@ -10,6 +10,7 @@ use contract.Monad.{Fun}
 use contract.Notation.{connectives}
 use denote.Triple.Clauses.{AtExit}
 use denote.Triple.Entry.{Args, Res}
+use Rattle.refusals.specs.Numbers.{number_given}
 use Rattle.runs.specs.Runs.{a_run, any_meets, rings_of}
 use Rattle.pool.specs.Pool.{runs_of}
 use Rattle.pool_lines.specs.Lines.{add_line}
@@ -24,12 +25,12 @@ module _ {M : Type 1} {𝓤 : Ura M} (𝓛 : Logic 𝓤) (mem : Memory → SProp
   add-asks κs a = refl
 
   pub add-ensures : (κs : Lfts 2) (a : Args add.signature κs) (r : Res add.signature κs) (z : AtExit add.ended κs)
-      → (add.clauses 𝓛 mem run κs a).ensures tt r z ≡ (connectives 𝓤).⌜◌⌝ (added_result r z.0.now ≡ add_line a.0.now a.1.0.now)
+      → (add.clauses 𝓛 mem run κs a).ensures tt r z ≡ (connectives 𝓤).⌜◌⌝ (added_result (number_given r) z.0.now ≡ add_line a.0.now a.1.0.now)
   add-ensures κs a r z = refl
 
   -- and that is the promise of which lists of calls are made
   pub add-promises : (κs : Lfts 2) (a : Args add.signature κs) (r : Res add.signature κs) (z : AtExit add.ended κs)
-      → (add.clauses 𝓛 mem run κs a).ensures tt r z ≡ (connectives 𝓤).⌜◌⌝ (Adds a.0.now a.1.0.now r z.0.now)
+      → (add.clauses 𝓛 mem run κs a).ensures tt r z ≡ (connectives 𝓤).⌜◌⌝ (Adds a.0.now a.1.0.now (number_given r) z.0.now)
   add-promises κs a r z = refl
 
   pub holds-asks : (κs : Lfts 1) (a : Args holds.signature κs) → (holds.clauses 𝓛 mem run κs a).requires tt ≡ (connectives 𝓤).⊤ₛ

@@ -2,7 +2,7 @@
 -- request 6. proofs/Calls.antt has the proofs. Assumes nothing.
 use Rattle.std.specs.Prelude.{ℕ, ◌≡◌, List, [], ◌∷◌}
 use Rattle.pool.specs.declared.Pool.{Pool}
-use Rattle.pool.specs.declared.Added.{Added}
+use Rattle.pool.specs.Pool.{Added}
 use Rattle.pool_lines.specs.Lines.{add_line}
 use Rattle.pool_lines.specs.History.{after}
 

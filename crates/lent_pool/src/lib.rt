@@ -3,20 +3,21 @@
 #![tactic(auto)]
 
 ghost use Rattle.std.specs.Prelude.{◌≡◌};
+ghost use Rattle.refusals.specs.Numbers.{number_given};
 ghost use Rattle.runs.specs.Runs.{a_run, any_meets, rings_of};
 ghost use Rattle.pool.specs.Pool.{runs_of};
 ghost use Rattle.pool_lines.specs.Lines.{add_line};
 ghost use Rattle.lent_pool.specs.Lent.{added_result};
 
 use pool::Pool;
+use refusals::Refusal;
 
-// Adds an issue line to a pool and gives the number: 0, or 13, 14 or 15, and then every byte of the pool is as it was.
-pub fn add_line(p: &mut Pool, line: &[u8]) -> u32
-    ensures { added_result result p.new ≡ add_line p.old line.now }
+// Adds an issue line to a pool. Refusals: `BadLine`, `Pooled` or `PoolFull`, and then every byte of the pool is as it was.
+pub fn add_line(p: &mut Pool, line: &[u8]) -> Result<(), Refusal>
+    ensures { added_result (number_given result) p.new ≡ add_line p.old line.now }
 {
-    let a = pool_lines::add_line(*p, line);
-    *p = a.pool;
-    a.number
+    *p = pool_lines::add_line(*p, line)?;
+    Ok(())
 }
 
 // Whether a number of a size is in a pool.

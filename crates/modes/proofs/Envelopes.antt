@@ -1,4 +1,5 @@
 -- What is claimed of calls for envelopes holds in SANSE and in SANE. Assumes nothing.
+use Rattle.std.specs.Prelude.{Some}
 use mathlib.Core.Bool.{Bool}
 use mathlib.Core.List.{List, [], ◌∷◌, ◌++◌, append_assoc}
 use mathlib.Core.Logic.{◌↔◌, ◌≢◌, ◌⊎◌, inl, inr, ⊎_elim}
@@ -55,14 +56,13 @@ module _ {letter group : ℕ} {i : CallInput} (h : HeaderOf letter group i) wher
 
   -- so reading gives the header back
   string-read : read_header (string_a i)
-      ≡ a_header letter group (length i.metadata) (length i.text) (length (header letter group (length i.metadata) (length i.text)))
+      ≡ Some (a_header letter group (length i.metadata) (length i.text) (length (header letter group (length i.metadata) (length i.text))))
   string-read = header-complete (string_a i) letter group _ _ i.metadata (record { in_range = h.in_range; bytes = string-is })
 
   -- and the metadata are what stands after its place
-  after-place : drop (read_header (string_a i)).place (string_a i) ≡ i.metadata
+  after-place : drop (length (header letter group (length i.metadata) (length i.text))) (string_a i) ≡ i.metadata
   after-place =
-      ap (λ (x : Header). drop x.place (string_a i)) string-read
-      ∙ ap (drop (length (header letter group (length i.metadata) (length i.text)))) string-is
+      ap (drop (length (header letter group (length i.metadata) (length i.text)))) string-is
       ∙ drop_at (header letter group (length i.metadata) (length i.text)) i.metadata _ refl
 
   string-bounds : (8 ≤ length (string_a i)) × (length (string_a i) ≤ 16401)
@@ -74,10 +74,13 @@ module _ {letter group : ℕ} {i : CallInput} (h : HeaderOf letter group i) wher
 
 string-decides : {letter g h : ℕ} {i j : CallInput} → HeaderOf letter g i → HeaderOf letter h j → string_a i ≡ string_a j
     → (g ≡ h) × (i.metadata ≡ j.metadata) × (length i.text ≡ length j.text)
-string-decides a b e =
-    let r = sym (string-read a) ∙ ap read_header e ∙ string-read b in (
+string-decides {letter} {g} {h} {i} {j} a b e =
+    let one = header letter g (length i.metadata) (length i.text) in
+    let other = header letter h (length j.metadata) (length j.text) in
+    let both = sym (string-read a) ∙ ap read_header e ∙ string-read b in
+    let r : a_header letter g (length i.metadata) (length i.text) (length one) ≡ a_header letter h (length j.metadata) (length j.text) (length other) = cc in (
       ap (λ (x : Header). x.group) r,
-      sym (after-place a) ∙ ap (λ (x : List ℕ). drop (read_header x).place x) e ∙ after-place b,
+      sym (after-place a) ∙ ap (λ (k : ℕ). drop k (string_a i)) (ap (λ (x : Header). x.place) r) ∙ ap (drop (length other)) e ∙ after-place b,
       ap (λ (x : Header). x.mlen) r,
     )
 

@@ -66,8 +66,8 @@ module _ {M : Type 1} {𝓤 : Ura M} (𝓛 : Logic 𝓤) (mem : Memory → SProp
       → (nearly-full.clauses 𝓛 mem run κs a).ensures tt r z ≡ (connectives 𝓤).⌜◌⌝ (nearly_full_result r ≡ nearly_full_at (table_of a.0.now) a.1.0)
   nearly-full-ensures κs a r z = refl
 
-  -- ---- whether full blocks are taken four side by side alters no clause (document 02, request 10): of any call the clauses where they are, are those
-  -- where they are not, all of them
+  -- ---- whether full blocks are taken four side by side alters no clause (document 02, request 10): of any call the clauses where they
+  -- are, are those where they are not, all of them
   -- a call with the last argument four
   abbrev pub wrap-by : (κs : Lfts 5) (a : Args wrap-group.signature κs) (four : Bool) → Args wrap-group.signature κs
   wrap-by κs a t =

@@ -16,9 +16,9 @@ use Rattle.modes.specs.Rules.{SessionState, Outcome}
 use Rattle.refusals.specs.declared.Refusal.{Refusal}
 use Rattle.refusals.specs.Numbers.{number_of}
 use Rattle.refusals.proofs.Numbers.{number-positive}
-use Rattle.session.specs.declared.Answer.{Answer}
+use Rattle.steps.specs.declared.Answer.{Answer}
+use Rattle.steps.specs.declared.CallResult.{CallResult}
 use Rattle.groups.specs.declared.Record.{Record}
-use Rattle.groups.specs.declared.GroupResult.{GroupResult}
 use Rattle.groups.specs.Groups.{GroupState, GroupOutcome, on_day, open_on_day, record_of, group_result, group_opening_result}
 use Rattle.office.specs.Table.{Table, no_group_outcome, check_group, group_at, session_at, TableOutcome, refused_by, header_passes, table_check, if_group, written_back, call_group_at, opened_back, open_group_at, zero_record, refused_answer, table_of, table_result, opening_result}
 
@@ -95,26 +95,30 @@ module _ (lone : SessionState DeckState → CallInput → Outcome DeckState) (al
       ∙ call_by (number_of e) (sym h)
 
   -- what a group's call gave, with its record written back, is what the rules say of the whole table
-  pub call-stored : 0 ≡ stop → g < length l → (r : GroupResult) (d : Record) {out tag : List ℕ} → group_result r out tag ≡ own (record_of (get_or l g d))
-      → table_result (record { number = r.number; count = r.count }) (set l g r.left) out tag ≡ whole
-  call-stored e less r d {out} {tag} met =
-      ap (λ (t : Table). record { number = r.number; count = r.count; table = t; out = out; tag = tag }) (set-table l g r.left)
+  pub call-stored : 0 ≡ stop → g < length l → (r : CallResult Record) (d : Record) {out tag : List ℕ}
+      → group_result r out tag ≡ own (record_of (get_or l g d))
+      → (a : Answer) → a ≡ record { number = r.number; count = r.count } → table_result a (set l g r.left) out tag ≡ whole
+  call-stored e less r d {out} {tag} met a is =
+      ap (λ (a : Answer). table_result a (set l g r.left) out tag) is
+      ∙ ap (λ (t : Table). record { number = r.number; count = r.count; table = t; out = out; tag = tag }) (set-table l g r.left)
       ∙ ap (written_back (table_of l) g) (met ∙ ap own (group_read l g d less))
       ∙ call_by 0 (sym e)
 
 -- a call that is handed no header, by check 3 alone
 module _ (lone : SessionState DeckState → CallInput → Outcome DeckState) (allowance : ℕ) (i : CallInput) (without : i.header ≡ bare) (l : List Record) (g : ℕ) where
   bare-stop : check_group (length l) g ≡ stop lone allowance i l g
-  bare-stop = sym (ap (λ (h : CallHeader). table_check (group_fits letter_s g h (length i.metadata) (length i.text)) (no_group_outcome (length l) g)) without)
+  bare-stop =
+      sym (ap (λ (h : CallHeader). table_check (group_fits letter_s g h (length i.metadata) (length i.text)) (no_group_outcome (length l) g)) without)
 
   pub bare-refused : (e : Refusal) → number_of e ≡ check_group (length l) g → (r : Answer) → r ≡ refused_answer e
       → table_result r l i.out i.tag ≡ whole lone allowance i l g
   bare-refused e h r is = call-refused lone allowance i l g e (h ∙ bare-stop) r is
 
-  pub bare-stored : 0 ≡ check_group (length l) g → (r : GroupResult) (d : Record) {out tag : List ℕ}
+  pub bare-stored : 0 ≡ check_group (length l) g → (r : CallResult Record) (d : Record) {out tag : List ℕ}
       → group_result r out tag ≡ own lone allowance i l g (record_of (get_or l g d))
-      → table_result (record { number = r.number; count = r.count }) (set l g r.left) out tag ≡ whole lone allowance i l g
-  bare-stored e r d given = call-stored lone allowance i l g (e ∙ bare-stop) (inside (length l) g (passed (no_group_outcome (length l) g) e)) r d given
+      → (a : Answer) → a ≡ record { number = r.number; count = r.count } → table_result a (set l g r.left) out tag ≡ whole lone allowance i l g
+  bare-stored e r d given a is =
+      call-stored lone allowance i l g (e ∙ bare-stop) (inside (length l) g (passed (no_group_outcome (length l) g) e)) r d given a is
 
 -- ---- opening a group
 
@@ -135,10 +139,13 @@ module _ (allowance : ℕ) (key : List ℕ) (l : List Record) (g : ℕ) where
       ∙ ap (λ (n : ℕ). record { number = n; count = 0; table = table_of l }) w.1
       ∙ open_by true w.0
 
-  pub open-stored : 0 ≡ check_group (length l) g → (r : GroupResult) (d : Record) → group_opening_result r ≡ open_on_day allowance (record_of (get_or l g d)) key
-      → opening_result (record { number = r.number; count = r.count }) (set l g r.left) ≡ open_group_at allowance (table_of l) g key
-  open-stored e r d given =
+  pub open-stored : 0 ≡ check_group (length l) g → (r : CallResult Record) (d : Record)
+      → group_opening_result r ≡ open_on_day allowance (record_of (get_or l g d)) key
+      → (a : Answer) → a ≡ record { number = r.number; count = r.count }
+      → opening_result a (set l g r.left) ≡ open_group_at allowance (table_of l) g key
+  open-stored e r d given a is =
       let has = passed (no_group_outcome (length l) g) e in
-      ap (λ (t : Table). record { number = r.number; count = r.count; table = t }) (set-table l g r.left)
+      ap (λ (a : Answer). opening_result a (set l g r.left)) is
+      ∙ ap (λ (t : Table). record { number = r.number; count = r.count; table = t }) (set-table l g r.left)
       ∙ ap (opened_back (table_of l) g) (given ∙ ap (λ (r : GroupState). open_on_day allowance r key) (group_read l g d (inside (length l) g has)))
       ∙ open_by false has

@@ -60,7 +60,8 @@ pub same-search : (l : List Record) (mark from : ℕ) (found : Option ℕ) → f
     → nearly_full_result (Ok found) ≡ search_from from (table_of l) mark
 same-search l mark from found e = ap (λ (o : Option ℕ). nearly_full_result (Ok o)) e ∙ go from l
   where
-    pick : (b : Bool) (from : ℕ) (o : Option ℕ) → nearly_full_result (Ok (cond b (Some from) o)) ≡ cond b (group_named from) (nearly_full_result (Ok o))
+    pick : (b : Bool) (from : ℕ) (o : Option ℕ)
+        → nearly_full_result (Ok (cond b (Some from) o)) ≡ cond b (group_named from) (nearly_full_result (Ok o))
     pick true from o = refl
     pick false from o = refl
 

@@ -10,7 +10,7 @@ use Rattle.modes.specs.Mode.{sanse, incremental}
 use Rattle.modes.specs.Rules.{SessionState, Outcome, closed, wrap_from5, unwrap_from5}
 use Rattle.refusals.specs.declared.Refusal.{Refusal}
 use Rattle.refusals.specs.Numbers.{number_of}
-use Rattle.session.specs.declared.Answer.{Answer}
+use Rattle.steps.specs.declared.Answer.{Answer}
 use Rattle.groups.specs.declared.Record.{Record}
 use Rattle.groups.specs.Groups.{GroupState, new_day, GroupOutcome, GroupOpening, on_day, open_on_day, record_of}
 
@@ -148,7 +148,11 @@ nearly_full_at t mark = cond (not (eqb (length t) 32)) refused_finding (search_f
 
 -- the record that zeroed memory holds
 abbrev pub zero_record : Record
-zero_record = record { session = record { acc = replicate 12 0; mask = replicate 12 0; index = 0; toggle = false; opened = false }; count = 0 }
+zero_record =
+    record {
+      session = record { history = record { acc = replicate 12 0; mask = replicate 12 0; index = 0 }; toggle = false; opened = false };
+      count = 0;
+    }
 
 -- what a call answers that one of the checks 1 and 3 refuses
 abbrev pub refused_answer : Refusal → Answer

@@ -12,7 +12,7 @@ ghost use Rattle.office.specs.Table.{check_group, refused_answer, above_mark, ta
 
 use groups::Record;
 use refusals::Refusal;
-use session::Answer;
+use steps::Answer;
 
 // The records of a table, and its highest group.
 const GROUPS: usize = 32;
@@ -64,10 +64,7 @@ pub fn open_group(table: &mut [Record], group: usize, allowance: u32, key: &[u8]
     }
     let r = groups::open(table[group], allowance, key);
     table[group] = r.left;
-    Answer {
-        number: r.number,
-        count: r.count,
-    }
+    r.into()
 }
 
 // Wraps a message for a group: the cryptogram goes to the start of `out`, and the tag fills `tag`. Checks 3 and 5 to 10.
@@ -90,10 +87,7 @@ pub fn wrap_group(
     }
     let r = groups::wrap(table[group], allowance, metadata, message, out, tag, four);
     table[group] = r.left;
-    Answer {
-        number: r.number,
-        count: r.count,
-    }
+    r.into()
 }
 
 // Unwraps a cryptogram for a group: the message goes to the start of `out`. Checks 3, 5 to 10 and 11.
@@ -124,10 +118,7 @@ pub fn unwrap_group(
         four,
     );
     table[group] = r.left;
-    Answer {
-        number: r.number,
-        count: r.count,
-    }
+    r.into()
 }
 
 // ---- the nearly-full question
@@ -138,7 +129,7 @@ fn first_above(table: &[Record], mark: u32) -> Option<usize>
 {
     table
         .iter()
-        .position(|r| r.session.opened && mark < r.session.index)
+        .position(|r| r.session.opened && mark < r.session.history.index)
 }
 
 // The nearly-full question: the lowest group that is open with an index above the mark, or none. Check 3.

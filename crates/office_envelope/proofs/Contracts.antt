@@ -41,8 +41,8 @@ module _ {M : Type 1} {𝓤 : Ura M} (𝓛 : Logic 𝓤) (mem : Memory → SProp
       (handed_for a.1.1.1.0.now a.1.1.1.1.0.now a.1.1.1.1.1.0.now a.1.1.1.1.1.1.1.0.now a.1.1.1.1.1.1.0.now))
   unwrap-envelope-ensures κs a r z = refl
 
-  -- ---- whether full blocks are taken four side by side alters no clause (document 02, request 10): of any call the clauses where they are, are those
-  -- where they are not, all of them
+  -- ---- whether full blocks are taken four side by side alters no clause (document 02, request 10): of any call the clauses where they
+  -- are, are those where they are not, all of them
   -- a call with the last argument four
   abbrev pub wrap-envelope-by : (κs : Lfts 6) (a : Args wrap-envelope.signature κs) (four : Bool) → Args wrap-envelope.signature κs
   wrap-envelope-by κs a t =

@@ -1,6 +1,7 @@
 // The office's table, calls for an envelope (document 02, request 7): wrap and unwrap for a group are handed the envelope's header too, whose bytes go
 // before the metadata under the tag. A header that is not the layout's with letter S, the call's group and its own lengths is refused by 1, before
-// every other check. `four` is whether full blocks are taken four side by side (request 10): it alters nothing but the time, and no clause speaks of it.
+// every other check. `four` is whether full blocks are taken four side by side (request 10): it alters nothing but the time, and no clause speaks of
+// it.
 #![tactic(auto)]
 
 ghost use Rattle.std.specs.Prelude.{◌≡◌};
@@ -13,7 +14,7 @@ ghost use Rattle.office.specs.Table.{no_group_outcome, table_check, table_of, ta
 use envelope::LETTER_S;
 use groups::Record;
 use refusals::Refusal;
-use session::Answer;
+use steps::Answer;
 
 // ---- checks 1 and 3
 
@@ -66,10 +67,7 @@ pub fn wrap_envelope_group(
         four,
     );
     table[group] = r.left;
-    Answer {
-        number: r.number,
-        count: r.count,
-    }
+    r.into()
 }
 
 // Unwraps the cryptogram of the envelope with this header for a group: the message goes to the start of `out`. Checks 1, 3, 5 to 10 and 11.
@@ -102,8 +100,5 @@ pub fn unwrap_envelope_group(
         four,
     );
     table[group] = r.left;
-    Answer {
-        number: r.number,
-        count: r.count,
-    }
+    r.into()
 }

@@ -2,55 +2,79 @@
 // how often it is done (four bytes, the lowest first) and a state (48 bytes).
 #![tactic(auto)]
 
-// One operation: P for the permutation, C for input rolling, anything else for output rolling.
-fn once(op: u8, s: [u32; 12]) -> [u32; 12] {
-    if op == b'P' {
-        return xoodoo::permute(s);
-    }
-    if op == b'C' {
-        return rolling::roll_in(s);
-    }
-    rolling::roll_out(s)
+use std::io::Read;
+
+// What is done to a state.
+#[derive(Clone, Copy)]
+enum Operation {
+    Permute,
+    RollIn,
+    RollOut,
 }
 
-// The operation, so many times.
-fn repeated(op: u8, times: u32, s: [u32; 12]) -> [u32; 12] {
-    let mut t = s;
-    let mut i: u32 = 0;
-    while i < times {
-        let u = once(op, t);
-        t = u;
-        i += 1;
+// P for the permutation, C for input rolling, anything else for output rolling.
+impl From<u8> for Operation {
+    fn from(letter: u8) -> Self {
+        match letter {
+            b'P' => Operation::Permute,
+            b'C' => Operation::RollIn,
+            _ => Operation::RollOut,
+        }
     }
-    t
 }
 
-// How often, from its four bytes.
-fn number(a: u8, b: u8, c: u8, d: u8) -> u32 {
-    (a as u32) + 256 * (b as u32) + 65536 * (c as u32) + 16777216 * (d as u32)
+impl Operation {
+    // The state after one operation.
+    fn once(self, s: [u32; 12]) -> [u32; 12] {
+        match self {
+            Operation::Permute => xoodoo::permute(s),
+            Operation::RollIn => rolling::roll_in(s),
+            Operation::RollOut => rolling::roll_out(s),
+        }
+    }
+
+    // The state after so many.
+    fn repeated(self, times: u32, s: [u32; 12]) -> [u32; 12] {
+        (0..times).fold(s, |t, _| self.once(t))
+    }
 }
 
-// A record's answer on a line.
-fn answer(rt: &impl Print, record: &[u8; 5], state: &[u8; 48]) {
-    let times = number(record[1], record[2], record[3], record[4]);
-    let s = repeated(record[0], times, state::from_bytes(state));
-    let out = state::to_bytes(&s);
-    hexline::print_line(rt, &out);
+// A record.
+#[derive(Clone, Copy)]
+struct Record {
+    operation: Operation,
+    times: u32,
+    state: [u32; 12],
+}
+
+impl Record {
+    // The next record, if there is a whole one.
+    fn read(input: &mut impl Read) -> Option<Self> {
+        let mut head = [0; 5];
+        let mut bytes = [0; 48];
+        if hexline::read_full(input, &mut head) < 5 || hexline::read_full(input, &mut bytes) < 48 {
+            return None;
+        }
+        let [letter, a, b, c, d] = head;
+        Some(Record {
+            operation: Operation::from(letter),
+            times: u32::from_le_bytes([a, b, c, d]),
+            state: state::from_bytes(&bytes),
+        })
+    }
+
+    // The state after all of it.
+    fn answer(self) -> [u8; 48] {
+        state::to_bytes(&self.operation.repeated(self.times, self.state))
+    }
 }
 
 fn main(rt: HostRuntime) {
     let mut input = rt.stdin();
-    let mut left: u32 = 4096;
-    while 0 < left {
-        let mut record = [0u8; 5];
-        let mut state = [0u8; 48];
-        if hexline::read_full(&mut input, &mut record) < 5 {
+    for _ in 0..4096 {
+        let Some(record) = Record::read(&mut input) else {
             return;
-        }
-        if hexline::read_full(&mut input, &mut state) < 48 {
-            return;
-        }
-        answer(&rt, &record, &state);
-        left -= 1;
+        };
+        hexline::print_line(&rt, &record.answer());
     }
 }

@@ -10,14 +10,16 @@ use lib.ListN.{length, replicate}
 use lib.Seq.{take-append_seam}
 use lib.Dec.{ltb}
 use borrow.Author.Tests.{ltb-true, ltb-false}
+use Rattle.std.specs.Prelude.{Result, Ok, Err}
+use Rattle.refusals.specs.declared.Refusal.{Refusal}
+use Rattle.refusals.proofs.Numbers.{number-tells, number-positive}
 use Rattle.runs.specs.declared.Run.{Run}
 use Rattle.runs.specs.Runs.{a_run, any_meets, with_run, rings_of}
 use Rattle.runs.specs.Meaning.{Valid, In, GoodRuns, good_none}
 use Rattle.runs.proofs.Joining.{clear_of, clear-disjoint, good-with, rings-with, holds-with, holds-only, meets-some}
 use Rattle.runs.proofs.Fewest.{fewest}
 use Rattle.pool.specs.declared.Pool.{Pool}
-use Rattle.pool.specs.declared.Added.{Added}
-use Rattle.pool.specs.Pool.{max_runs, runs_of, pool_of, empty_pool, join_pool, add_run}
+use Rattle.pool.specs.Pool.{Added, added_of, max_runs, runs_of, pool_of, empty_pool, join_pool, add_run}
 use Rattle.pool.specs.Good.{Good, InPool, Free, HoldsWith, AddStop, pooled, too_many, added, AddExactly}
 
 -- the runs of the pool of a list are the list
@@ -149,3 +151,18 @@ module _ (p : Pool) (r : Run) (good : Good p) (valid : Valid r) where
         holds = λ ok. subst (HoldsWith (InPool p) r) (sym (add-runs ok)) with-run;
         rings = λ ok. ap rings_of (add-runs ok) ∙ rings-with r (runs_of p) valid good.apart;
       }
+
+-- What a function that adds to p gives is told by what it gives in these words: no bit of it is left open.
+pub added-tells : (p : Pool) (a b : Result Pool Refusal) → added_of p a ≡ added_of p b → a ≡ b
+added-tells p (Ok q) (Ok s) h = ap (λ (x : Added). Ok x.pool) h
+added-tells p (Ok q) (Err f) h =
+    let e = ap (λ (x : Added). x.number) h in
+    let n = number-positive f in
+    let bad : ⊥ = omega (arith, e, n) in
+    absurd bad
+added-tells p (Err e) (Ok q) h =
+    let f = ap (λ (x : Added). x.number) h in
+    let n = number-positive e in
+    let bad : ⊥ = omega (arith, f, n) in
+    absurd bad
+added-tells p (Err e) (Err f) h = ap Err (number-tells e f (ap (λ (x : Added). x.number) h))

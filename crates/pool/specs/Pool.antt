@@ -1,9 +1,10 @@
 -- Pools of unused rings: document 02, request 6. A pool is a list of runs. Assumes nothing.
-use Rattle.std.specs.Prelude.{ℕ, ◌-◌, cond, List, [], ◌++◌, length, take, replicate, ltb}
+use Rattle.std.specs.Prelude.{ℕ, ◌-◌, cond, List, [], ◌++◌, length, take, replicate, ltb, Result, Ok, Err}
 use Rattle.runs.specs.declared.Run.{Run}
 use Rattle.runs.specs.Runs.{a_run, any_meets, with_run}
 use Rattle.pool.specs.declared.Pool.{Pool}
-use Rattle.pool.specs.declared.Added.{Added}
+use Rattle.refusals.specs.declared.Refusal.{Refusal}
+use Rattle.refusals.specs.Numbers.{number_of}
 
 -- the most runs that a pool has
 abbrev pub max_runs : ℕ
@@ -20,6 +21,16 @@ pool_of l = record { used = length l; runs = l ++ replicate (max_runs - length l
 -- the empty pool, which is all zeros
 unfoldable pub empty_pool : Pool
 empty_pool = pool_of []
+
+-- what adding answers: the number, and the pool afterwards
+pub record Added : Type 0 where
+  pub number : ℕ
+  pub pool : Pool
+
+-- what a function that adds to p gives, in these words: number 0 and the new pool, or the number of the check that refuses and p as it was
+abbrev pub added_of : Pool → Result Pool Refusal → Added
+added_of p (Ok q) = record { number = 0; pool = q }
+added_of p (Err e) = record { number = number_of e; pool = p }
 
 -- a pool with one run more that meets none of it, or number 15 and the pool as it was where that makes too many runs
 unfoldable pub join_pool : Pool → Run → Added

@@ -5,108 +5,86 @@
 
 ghost use Rattle.std.specs.Prelude.{◌≡◌, ◌≤◌, length};
 ghost use Rattle.runs.specs.Runs.{a_run, any_meets, rings_of};
-ghost use Rattle.pool.specs.Pool.{max_runs, runs_of, empty_pool, join_pool, add_run};
+ghost use Rattle.pool.specs.Pool.{max_runs, runs_of, empty_pool, join_pool, add_run, added_of};
 
-use runs::{Run, joined, meet, touch};
+use refusals::Refusal;
+use runs::Run;
 
 // The most runs that a pool has.
 const MAX_RUNS: usize = 256;
 
-// A pool: the runs that stand first, as many as are used. What stands behind them has no meaning.
+// A pool: the runs that stand first, as many as are used. What stands behind them has no meaning. C lends its memory: any count may stand here.
 #[repr(C)]
 #[derive(Clone, Copy)]
 pub struct Pool {
     pub used: usize,
-    pub runs: [Run; 256],
+    pub runs: [Run; MAX_RUNS],
 }
 
-// What adding answers: the number, and the pool afterwards.
-#[derive(Clone, Copy)]
-pub struct Added {
-    pub number: u32,
-    pub pool: Pool,
-}
-
-// A pool without runs.
-pub fn empty() -> Pool
-    ensures { result ≡ empty_pool }
-{
-    Pool {
-        used: 0,
-        runs: [Run {
-            size: 0,
-            first: 0,
-            last: 0,
-        }; 256],
+impl Pool {
+    // The runs of a pool.
+    fn in_use(&self) -> &[Run]
+        ensures runs { result.now ≡ runs_of self.now }
+        ensures few { length result.now ≤ max_runs }
+    {
+        &self.runs[..self.used.min(MAX_RUNS)]
     }
 }
 
-// How many runs a pool has.
-fn run_count(p: Pool) -> usize
-    ensures { (result ≡ length (runs_of p)) × (result ≤ max_runs) }
+// A pool without runs.
+#[tactic(auto, unfolding(crate::specs::Pool::empty_pool, crate::specs::Pool::pool_of))]
+pub fn empty() -> Pool
+    ensures { result ≡ empty_pool }
 {
-    if p.used < MAX_RUNS { p.used } else { MAX_RUNS }
+    let none = Run {
+        size: 0,
+        first: 0,
+        last: 0,
+    };
+    Pool {
+        used: 0,
+        runs: [none; MAX_RUNS],
+    }
 }
 
 // Whether a number of the run is in the pool.
 fn overlaps(p: Pool, r: Run) -> bool
     ensures { result ≡ any_meets r (runs_of p) }
 {
-    let n = run_count(p);
-    let mut i = 0;
-    while i < n {
-        if meet(p.runs[i], r) {
-            return true;
-        }
-        i += 1;
-    }
-    false
+    p.in_use().iter().any(|q| q.meets(r))
 }
 
-// The pool with a run that meets none of it: the runs that do not touch it, and then the run that the others and it make. Refusal: 15.
-fn join_pool(p: Pool, run: Run) -> Added
-    ensures { result ≡ join_pool p run }
+// The pool with a run that meets none of it: the runs that do not touch it, and then the run that the others and it make. Refusal: `PoolFull`.
+fn join_pool(p: Pool, run: Run) -> Result<Pool, Refusal>
+    ensures { added_of p result ≡ join_pool p run }
 {
-    let n = run_count(p);
     let mut r = run;
     let mut next = empty();
-    let mut k = 0;
-    let mut i = 0;
-    while i < n {
-        let q = p.runs[i];
-        i += 1;
-        if touch(q, r) {
-            r = joined(q, r);
-            continue;
+    for q in p.in_use() {
+        if q.touches(r) {
+            r = q.joined(r);
+        } else {
+            next.runs[next.used] = *q;
+            next.used += 1;
         }
-        next.runs[k] = q;
-        k += 1;
     }
-    if k == MAX_RUNS {
-        return Added {
-            number: 15,
-            pool: p,
-        };
+    let kept = next.used;
+    if kept == MAX_RUNS {
+        return Err(Refusal::PoolFull);
     }
-    next.runs[k] = r;
-    next.used = k + 1;
-    Added {
-        number: 0,
-        pool: next,
-    }
+    next.runs[kept] = r;
+    next.used = kept + 1;
+    Ok(next)
 }
 
-// Adds a run that has a number to a pool, any pool. Refusals: 14 (a number of it is pooled in its size), then 15 (more runs than a pool has would be
-// needed, after joining); then the pool is as it was.
-pub fn add(p: Pool, r: Run) -> Added
+// Adds a run that has a number to a pool, any pool. Refusals: `Pooled` (a number of it is pooled in its size), then `PoolFull` (more runs than a pool
+// has would be needed, after joining).
+pub fn add(p: Pool, r: Run) -> Result<Pool, Refusal>
     requires { r.first ≤ r.last }
-    ensures { result ≡ add_run p r }
+    ensures { added_of p result ≡ add_run p r }
 {
     if overlaps(p, r) {
-        return Added {
-            number: 14,
-            pool: p,
-        };
+        return Err(Refusal::Pooled);
     }
     join_pool(p, r)
 }
@@ -129,16 +107,5 @@ pub fn holds(p: Pool, size: u32, number: u32) -> bool
 pub fn rings(p: Pool) -> u64
     ensures { result ≡ rings_of (runs_of p) }
 {
-    let n = run_count(p);
-    let mut sum: u64 = 0;
-    let mut i = 0;
-    while i < n {
-        let q = p.runs[i];
-        i += 1;
-        if q.last < q.first {
-            continue;
-        }
-        sum += (q.last - q.first) as u64 + 1;
-    }
-    sum
+    p.in_use().iter().map(|q| q.rings()).sum()
 }

@@ -8,7 +8,7 @@ use Rattle.issue_line.specs.Read.{read_line, a_line}
 use Rattle.issue_line.proofs.Reading.{line-sound, line-complete, line_refused}
 use Rattle.runs.specs.Runs.{a_run}
 use Rattle.pool.specs.declared.Pool.{Pool}
-use Rattle.pool.specs.declared.Added.{Added}
+use Rattle.pool.specs.Pool.{Added}
 use Rattle.pool.specs.Good.{Good, InPool}
 use Rattle.pool.proofs.Adding.{refused-same, add-exactly, stop-as}
 use Rattle.pool_lines.specs.Lines.{run_of, add_line, LineStop, no_line, is_a_line, LineExactly}

@@ -16,7 +16,7 @@ use Rattle.runs.specs.Meaning.{In}
 use Rattle.runs.proofs.Joining.{held-asked}
 use Rattle.runs.proofs.Fewest.{holds-some, fewest, same_runs}
 use Rattle.pool.specs.declared.Pool.{Pool}
-use Rattle.pool.specs.declared.Added.{Added}
+use Rattle.pool.specs.Pool.{Added}
 use Rattle.pool.specs.Pool.{runs_of, empty_pool, add_run}
 use Rattle.pool.specs.Good.{Good, InPool, HoldsWith}
 use Rattle.pool.proofs.Adding.{empty_runs, empty-good, holds_as, add-exactly}

@@ -2,13 +2,13 @@
 -- to add, so that one which meets more checks can be held to them too; `add_line` is the one of this request. proofs/Lists.antt and
 -- proofs/History.antt have the proofs. Assumes nothing.
 use Rattle.std.specs.Prelude.{ℕ, ◌+◌, ◌-◌, ◌≤◌, ◌≡◌, cond, true, ◌↔◌, List, [], ◌∷◌, length, eqb}
-use Rattle.issue_line.specs.declared.Line.{Line}
+use Rattle.issue_line.specs.Read.{Line}
 use Rattle.issue_line.specs.Layout.{IsLine}
 use Rattle.issue_line.specs.Read.{read_line}
 use Rattle.runs.specs.Runs.{a_run, any_meets, rings_of}
 use Rattle.runs.specs.Meaning.{SameRunSet}
 use Rattle.pool.specs.declared.Pool.{Pool}
-use Rattle.pool.specs.declared.Added.{Added}
+use Rattle.pool.specs.Pool.{Added}
 use Rattle.pool.specs.Pool.{runs_of, empty_pool}
 use Rattle.pool.specs.Good.{Good, InPool}
 use Rattle.pool_lines.specs.Lines.{add_line}

@@ -1,12 +1,12 @@
 -- An issue line added to a pool, and which number it gets: document 02, request 6, 13 to 15. Assumes nothing.
 use Rattle.std.specs.Prelude.{ℕ, ◌+◌, ◌≡◌, cond, ◌↔◌, List}
-use Rattle.issue_line.specs.declared.Line.{Line}
+use Rattle.issue_line.specs.Read.{Line}
 use Rattle.issue_line.specs.Layout.{IsLine}
 use Rattle.issue_line.specs.Read.{read_line}
 use Rattle.runs.specs.declared.Run.{Run}
 use Rattle.runs.specs.Runs.{a_run, rings_in, rings_of}
 use Rattle.pool.specs.declared.Pool.{Pool}
-use Rattle.pool.specs.declared.Added.{Added}
+use Rattle.pool.specs.Pool.{Added}
 use Rattle.pool.specs.Pool.{runs_of, add_run}
 use Rattle.pool.specs.Good.{Good, InPool, HoldsWith, AddStop}
 

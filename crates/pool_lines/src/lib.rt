@@ -3,30 +3,33 @@
 #![tactic(auto)]
 
 ghost use Rattle.std.specs.Prelude.{◌≡◌};
+ghost use Rattle.runs.specs.Runs.{a_run};
+ghost use Rattle.pool.specs.Pool.{added_of};
+ghost use Rattle.sizes.specs.Sizes.{letter_of};
 ghost use Rattle.pool_lines.specs.Lines.{add_line};
 
-use issue_line::read_line;
-use pool::{Added, Pool, add};
+use issue_line::{Line, read_line};
+use pool::{Pool, add};
+use refusals::Refusal;
 use runs::Run;
 
-// Adds the run of an issue line to a pool. Refusals: 13 (the bytes are not exactly one line), 14 (a number of it is pooled in its size), 15 (more
-// runs than a pool has would be needed, after joining); then the pool is as it was.
-pub fn add_line(p: Pool, bytes: &[u8]) -> Added
-    ensures { result ≡ add_line p bytes.now }
+// The rings of a line.
+pub fn run_of(line: Line) -> Run
+    ensures { result ≡ a_run (letter_of line.size) line.first line.last }
 {
-    let l = read_line(bytes);
-    if !l.found {
-        return Added {
-            number: 13,
-            pool: p,
-        };
+    Run {
+        size: u32::from(line.size.letter()),
+        first: line.first,
+        last: line.last,
     }
-    add(
-        p,
-        Run {
-            size: l.size as u32,
-            first: l.first,
-            last: l.last,
-        },
-    )
+}
+
+// Adds the run of an issue line to a pool. Refusals: `BadLine` (the bytes are not exactly one line), `Pooled` (a number of it is pooled in its size),
+// `PoolFull` (more runs than a pool has would be needed, after joining).
+#[tactic(auto, unfolding(crate::specs::Lines::add_line, crate::specs::Lines::add_read))]
+pub fn add_line(p: Pool, bytes: &[u8]) -> Result<Pool, Refusal>
+    ensures { added_of p result ≡ add_line p bytes.now }
+{
+    let line = read_line(bytes).ok_or(Refusal::BadLine)?;
+    add(p, run_of(line))
 }

@@ -2,13 +2,14 @@
 use mathlib.Core.Path.{◌≡◌, refl, sym, ap, ◌∙◌, subst}
 use mathlib.Core.Bool.{Bool, true, false, cond}
 use mathlib.Core.List.{List}
-use Prim.Native.Nat.{ℕ, zero, suc, ◌+◌, ◌*◌, ◌/◌, ◌%◌, ◌^◌, ◌<◌, ◌≤◌}
+use Prim.Native.Nat.{ℕ, zero, suc, ◌+◌, ◌-◌, ◌*◌, ◌/◌, ◌%◌, ◌^◌, ◌<◌, ◌≤◌}
 use native.Mathlib.Decide.{dec_le}
 use native.Mathlib.Numerals.{add-one}
 use native.Mathlib.Omega.{arith}
 use lib.Dec.{ltb, lit<}
 use lib.ListN.{length, get_or, set, replicate, length-set}
 use lib.Seq.{get_or-set_same, get_or-set_other}
+use Rattle.std.specs.List.{CopiedTo, SameFrom}
 use borrow.Author.Tests.{lt-ltb, le-ltb}
 use Rattle.word.specs.Word.{bit}
 use Rattle.word.proofs.Bit.{word-ext}
@@ -78,6 +79,10 @@ pub record RowFrom (f : List ℕ → List ℕ) (k : List ℕ) (n m : ℕ) (r : L
   pub size : length r ≡ 80
   pub words : (q : ℕ) → q < m → get_or r (n + q) 0 ≡ get_or (iterate q f k) 0 0
 
+-- fewer of its words
+pub row-less : (f : List ℕ → List ℕ) (k : List ℕ) (n m p : ℕ) (r : List ℕ) → m ≤ p → RowFrom f k n p r → RowFrom f k n m r
+row-less f k n m p r h d = record { lanes = d.lanes; fits = d.fits; size = d.size; words = λ q l. d.words q (omega arith) }
+
 module _ (f : List ℕ → List ℕ) (R : Rolling f) (k : List ℕ) where
   -- its windows are the rolled states
   pub row_laid : (n m j : ℕ) (r : List ℕ) → j + 12 ≤ m → RowFrom f k n m r → laid n 3 1 r j ≡ iterate j f k
@@ -124,8 +129,8 @@ module _ (f : List ℕ → List ℕ) (R : Rolling f) (k : List ℕ) where
       (row_word n 12 _ _ (omega arith) (last_word n 1 12 r d.fits refl s) d)))
 
   -- the words of the state that was rolled four times
-  row_on : (n : ℕ) (r : List ℕ) → RowFrom f k n 16 r → RowFrom f (iterate 4 f k) (n + 4) 12 r
-  row_on n r d =
+  row_on : (n m : ℕ) (r : List ℕ) → RowFrom f k n (m + 4) r → RowFrom f (iterate 4 f k) (n + 4) m r
+  row_on n m r d =
       record {
         lanes = rolled-size f R 4 k d.lanes;
         fits = rolled-words f R 4 k d.fits;
@@ -134,6 +139,28 @@ module _ (f : List ℕ → List ℕ) (R : Rolling f) (k : List ℕ) where
             let e : n + 4 + q ≡ n + (4 + q) = omega arith in
             ap (λ (x : ℕ). get_or r x 0) e ∙ d.words (4 + q) (omega arith) ∙ ap (λ (s : List ℕ). get_or s 0 0) (iterate-add f 4 q k);
       }
+
+-- ---- the words that are there stand where four more are appended
+kept-before : (f : List ℕ → List ℕ) (n p : ℕ) (r : List ℕ) → p < n + 12 → get_or (appended f n r) p 0 ≡ get_or r p 0
+unfolding appended
+kept-before f n p r h =
+    get_or-set_other _ (n + 15) p _ 0 (λ g. omega (arith, g)) ∙ get_or-set_other _ (n + 14) p _ 0 (λ g. omega (arith, g))
+    ∙ get_or-set_other _ (n + 13) p _ 0 (λ g. omega (arith, g)) ∙ get_or-set_other r (n + 12) p _ 0 (λ g. omega (arith, g))
+
+-- so a row of four states gets the words of the next four
+row_ahead : (f : List ℕ → List ℕ) → Rolling f → (k : List ℕ) (n : ℕ) (r : List ℕ) → n + 20 ≤ 80 → RowFrom f k n 16 r → RowFrom f k n 20 (appended f (n + 4) r)
+row_ahead f R k n r h d = record { lanes = d.lanes; fits = d.fits; size = a.size; words = λ q l. go q l (dec_le 4 q) }
+  where
+    a : RowFrom f (iterate 4 f k) (n + 4) 16 (appended f (n + 4) r)
+    a = row_appended f R (iterate 4 f k) (n + 4) r (omega arith) (row_on f R k n 12 r d)
+
+    go : (q : ℕ) → q < 20 → Dec (4 ≤ q) → get_or (appended f (n + 4) r) (n + q) 0 ≡ get_or (iterate q f k) 0 0
+    go q l (yes p) =
+        let e : n + q ≡ n + 4 + (q - 4) = omega arith in
+        let i : q ≡ 4 + (q - 4) = omega arith in
+        ap (λ (x : ℕ). get_or (appended f (n + 4) r) x 0) e ∙ a.words (q - 4) (omega arith)
+        ∙ ap (λ (s : List ℕ). get_or s 0 0) (sym (iterate-add f 4 (q - 4) k) ∙ ap (λ (x : ℕ). iterate x f k) (sym i))
+    go q l (no p) = kept-before f (n + 4) (n + q) r (omega (arith, p)) ∙ d.words q (omega (arith, p))
 
 -- the code's four rollings
 pub rolled-appended : (f : List ℕ → List ℕ) (n : ℕ) (r : List ℕ) {k k₁ k₂ k₃ k₄ : List ℕ} → k ≡ state_at n r → k₁ ≡ f k → k₂ ≡ f k₁ → k₃ ≡ f k₂ → k₄ ≡ f k₃
@@ -188,25 +215,23 @@ row-begun f R k r n w h =
           ∙ sym (further f R k w q 0 (omega arith));
     }
 
--- and has four more words
+-- and has the words of eight states
 pub row-start : (f : List ℕ → List ℕ) → Rolling f → (k : List ℕ) {r r' : List ℕ} → length k ≡ 12 → Words 32 k → r ≡ begun 12 k (replicate 80 0) → r' ≡ appended f 0 r
     → RowFrom f k 0 16 r'
 row-start f R k h w e g =
     subst (λ (l : List ℕ). RowFrom f k 0 16 l) (sym (g ∙ ap (appended f 0) e)) (row_appended f R k 0 (begun 12 k (replicate 80 0)) (omega arith) (row-begun f R k (replicate 80 0) h w refl))
 
+-- and with the words of the four states after these
+pub row-begins : (f : List ℕ → List ℕ) → Rolling f → (k : List ℕ) {r : List ℕ} → length k ≡ 12 → Words 32 k
+    → r ≡ appended f 4 (appended f 0 (begun 12 k (replicate 80 0))) → RowFrom f k 0 20 r
+row-begins f R k h w e =
+    subst (λ (l : List ℕ). RowFrom f k 0 20 l) (sym e) (row_ahead f R k 0 _ (omega arith) (row-start f R k h w refl refl))
+
 -- the state that it begins with is the one that it was made of
-pub row-own : (f : List ℕ → List ℕ) → Rolling f → (k r : List ℕ) → RowFrom f k 0 16 r → RowFrom f (state_at 0 r) 0 16 r
-row-own f R k r d = subst (λ (x : List ℕ). RowFrom f x 0 16 r) (sym (row-state f R k 0 16 r (omega arith) d)) d
+pub row-own : (f : List ℕ → List ℕ) → Rolling f → (k r : List ℕ) → RowFrom f k 0 20 r → RowFrom f (state_at 0 r) 0 20 r
+row-own f R k r d = subst (λ (x : List ℕ). RowFrom f x 0 20 r) (sym (row-state f R k 0 20 r (omega arith) d)) d
 
 -- ---- a row starts again
-
-pub moved_none : (r : List ℕ) → moved 0 r ≡ r
-unfolding moved
-moved_none r = refl
-
-pub moved_more : (i : ℕ) (r : List ℕ) → moved (i + 1) r ≡ set (moved i r) i (get_or r (64 + i) 0)
-unfolding moved
-moved_more i r = ap (λ (n : ℕ). moved n r) (add-one i)
 
 moved_length : (i : ℕ) (r : List ℕ) → length (moved i r) ≡ length r
 unfolding moved
@@ -214,7 +239,7 @@ moved_length zero r = refl
 moved_length (suc i) r = length-set (moved i r) i (get_or r (64 + i) 0) ∙ moved_length i r
 
 -- the others stand
-pub moved-rest : (i q : ℕ) (r : List ℕ) → i ≤ q → get_or (moved i r) q 0 ≡ get_or r q 0
+moved-rest : (i q : ℕ) (r : List ℕ) → i ≤ q → get_or (moved i r) q 0 ≡ get_or r q 0
 unfolding moved
 moved-rest zero q r h = refl
 moved-rest (suc i) q r h = get_or-set_other (moved i r) i q _ 0 (λ e. omega (arith, e)) ∙ moved-rest i q r (omega arith)
@@ -224,6 +249,18 @@ unfolding moved
 moved-words zero r h q l = absurd (omega arith)
 moved-words (suc i) r h q l =
     filled_more (λ q. get_or r (64 + q) 0) (moved i r) i _ (omega (arith, moved_length i r)) refl (moved-words i r (omega arith)) q (omega arith)
+
+-- the code's copying
+pub moved-copied : (r r' : List ℕ) → length r ≡ 80 → length r' ≡ length r → CopiedTo r r' 64 0 16 → SameFrom r r' 16 → r' ≡ moved 16 r
+moved-copied r r' h l c s =
+    tabulate-is 80 (λ q. get_or r' q 0) r' (l ∙ h) (λ q g. refl)
+    ∙ sym (tabulate-is 80 (λ q. get_or r' q 0) (moved 16 r) (moved_length 16 r ∙ h) (λ q g. go q (dec_le 16 q)))
+  where
+    go : (q : ℕ) → Dec (16 ≤ q) → get_or (moved 16 r) q 0 ≡ get_or r' q 0
+    go q (yes p) = moved-rest 16 q r p ∙ sym (s q 0 p)
+    go q (no p) =
+        let e : 64 + q ≡ 64 + (q - 0) = omega arith in
+        moved-words 16 r (omega arith) q (omega (arith, p)) ∙ ap (λ (x : ℕ). get_or r x 0) e ∙ sym (c q 0 (omega arith) (omega (arith, p)))
 
 row_moved : (f : List ℕ → List ℕ) (k r : List ℕ) → RowFrom f k 64 16 r → RowFrom f k 0 16 (moved 16 r)
 row_moved f k r d =
@@ -236,6 +273,15 @@ row_moved f k r d =
           let e : 0 + q ≡ q = omega arith in
           ap (λ (x : ℕ). get_or (moved 16 r) x 0) e ∙ moved-words 16 r (omega arith) q l ∙ d.words q l;
     }
+
+-- the code's two cases
+pub renewed-used_up : (n : ℕ) (r r' : List ℕ) → 64 ≤ n → r' ≡ moved 16 r → (0 ≡ renewed_at n) × (r' ≡ renewed n r)
+renewed-used_up n r r' h e =
+    let b : ltb n 64 ≡ false = le-ltb n 64 h in (ap (λ (t : Bool). cond t n 0) (sym b), e ∙ ap (λ (t : Bool). cond t r (moved 16 r)) (sym b))
+
+pub renewed-same : (n : ℕ) (r : List ℕ) → n < 64 → (n ≡ renewed_at n) × (r ≡ renewed n r)
+renewed-same n r h =
+    let b : ltb n 64 ≡ true = lt-ltb n 64 h in (ap (λ (t : Bool). cond t n 0) (sym b), ap (λ (t : Bool). cond t r (moved 16 r)) (sym b))
 
 -- where it is used up
 pub record Renewed (f : List ℕ → List ℕ) (k : List ℕ) (n : ℕ) (r : List ℕ) : Type 0 where
@@ -279,21 +325,14 @@ pub row_next : (f : List ℕ → List ℕ) → Rolling f → (k : List ℕ) (m :
 row_next f R k m r {k'} d g e =
     let s : m + 20 ≤ 80 = d.room in
     subst (λ (l : List ℕ). RowFrom f k' (m + 4) 16 l) (sym e)
-    (subst (λ (l : List ℕ). RowFrom f l (m + 4) 16 (appended f (m + 4) r)) g (row_appended f R (iterate 4 f k) (m + 4) r (omega arith) (row_on f R k m r d.row)))
+    (subst (λ (l : List ℕ). RowFrom f l (m + 4) 16 (appended f (m + 4) r)) g (row_appended f R (iterate 4 f k) (m + 4) r (omega arith) (row_on f R k m 12 r d.row)))
 
--- and the row still has the four before them
-kept-before : (r : List ℕ) (n p a b c d : ℕ) → p < n + 12 → get_or (set (set (set (set r (n + 12) a) (n + 13) b) (n + 14) c) (n + 15) d) p 0 ≡ get_or r p 0
-kept-before r n p a b c d h =
-    get_or-set_other (set (set (set r (n + 12) a) (n + 13) b) (n + 14) c) (n + 15) p d 0 (λ g. omega (arith, g))
-    ∙ get_or-set_other (set (set r (n + 12) a) (n + 13) b) (n + 14) p c 0 (λ g. omega (arith, g))
-    ∙ get_or-set_other (set r (n + 12) a) (n + 13) p b 0 (λ g. omega (arith, g)) ∙ get_or-set_other r (n + 12) p a 0 (λ g. omega (arith, g))
-
-pub row_kept : (f : List ℕ → List ℕ) (k : List ℕ) (m : ℕ) (r : List ℕ) {r' : List ℕ} → Renewed f k m r → r' ≡ appended f (m + 4) r → RowFrom f k m 16 r'
-unfolding appended
-row_kept f k m r {r'} d e =
-    record {
-      lanes = d.row.lanes;
-      fits = d.row.fits;
-      size = ap length e ∙ simp length-set d.row.size;
-      words = λ q l. ap (λ (x : List ℕ). get_or x (m + q) 0) e ∙ kept-before r (m + 4) (m + q) _ _ _ _ (omega arith) ∙ d.row.words q l;
-    }
+-- and one that has the words of the four states after them too
+pub row-advanced : (f : List ℕ → List ℕ) → Rolling f → (k : List ℕ) (n : ℕ) (r : List ℕ) {k' r' : List ℕ} {n' : ℕ} → n + 20 ≤ 80 → n % 4 ≡ 0 → iterate 4 f k ≡ k'
+    → n' ≡ renewed_at (n + 4) → r' ≡ appended f (renewed_at (n + 4) + 4) (renewed (n + 4) r) → RowFrom f k n 20 r → RowFrom f k' n' 20 r'
+row-advanced f R k n r {k'} {r'} {n'} h w g en er d =
+    let v = row-renewed f (iterate 4 f k) (n + 4) r (omega arith) (omega arith) refl refl (row_on f R k n 16 r d) in
+    subst (λ (l : List ℕ). RowFrom f l n' 20 r') g
+    (subst (λ (x : ℕ). RowFrom f (iterate 4 f k) x 20 r') (sym en)
+    (subst (λ (l : List ℕ). RowFrom f (iterate 4 f k) (renewed_at (n + 4)) 20 l) (sym er)
+    (row_ahead f R (iterate 4 f k) (renewed_at (n + 4)) (renewed (n + 4) r) v.room v.row)))

@@ -6,10 +6,11 @@ use mathlib.Core.Logic.{◌↔◌, ◌⊎◌, inl, inr}
 use mathlib.Core.List.{List, [], ◌∷◌}
 use native.Mathlib.Nat.{eq-zero-or-pos}
 use native.Mathlib.Omega.{arith}
+use Rattle.std.proofs.lemmas.Bool.{or_cases, or_parts}
 use Rattle.runs.specs.declared.Run.{Run}
 use Rattle.runs.specs.Runs.{a_run, meets, touches, join, any_meets, with_run, rings_in, rings_of}
 use Rattle.runs.specs.Meaning.{Valid, In, Holds, here, there, Apart, Away, away-none, away-more, GoodRuns, good_none, good_more}
-use Rattle.runs.proofs.Pair.{or_cases, or-neither, Distinct, meets-true, meets-false, join-valid, join-rings, join-left, join-right, join-only, join_apart, join-distinct, not-touching}
+use Rattle.runs.proofs.Pair.{Distinct, meets-true, meets-false, join-valid, join-rings, join-left, join-right, join-only, join_apart, join-distinct, not-touching}
 
 -- no run of a list meets r
 pub data Clear (r : Run) : List Run → Type 0 where
@@ -19,7 +20,7 @@ pub data Clear (r : Run) : List Run → Type 0 where
 pub clear_of : (r : Run) (l : List Run) → any_meets r l ≡ false → Clear r l
 unfolding any_meets
 clear_of r [] e = clear_none
-clear_of r (q ∷ l) e = let s = or-neither (meets q r) (any_meets r l) e in clear-more (meets-false q r s.0) (clear_of r l s.1)
+clear_of r (q ∷ l) e = let s = or_parts (meets q r) (any_meets r l) e in clear-more (meets-false q r s.0) (clear_of r l s.1)
 
 clear-join : (q r : Run) (l : List Run) → Valid q → Valid r → touches q r ≡ true → GoodRuns l → Away q l → Clear r l → Clear (join q r) l
 clear-join q r [] vq vr e g a c = clear_none

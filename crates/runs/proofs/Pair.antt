@@ -6,7 +6,8 @@ use mathlib.Core.Logic.{◌⊎◌, inl, inr}
 use native.Mathlib.Nat.{eq-zero-or-pos}
 use native.Mathlib.Omega.{arith}
 use lib.Dec.{leb, eqb}
-use borrow.Author.Tests.{lt-ltb, le-ltb, eq-eqb, ne_eqb, leb-true, leb-false, eqb-true, eqb-false}
+use Rattle.std.proofs.lemmas.Bool.{or_cases, or_parts}
+use borrow.Author.Tests.{lt-ltb, le-ltb, eq-eqb, leb-true, leb-false, eqb-true, eqb-false}
 use Rattle.runs.specs.declared.Run.{Run}
 use Rattle.runs.specs.Runs.{meets, touches, join, rings_in}
 use Rattle.runs.specs.Meaning.{Valid, In, Apart}
@@ -14,15 +15,6 @@ use Rattle.runs.specs.Meaning.{Valid, In, Apart}
 -- two runs do not meet: they differ in size, or one ends before the other begins
 abbrev pub Distinct : Run → Run → Type 0
 Distinct q r = q.size ≡ r.size → (q.last < r.first) ⊎ (r.last < q.first)
-
--- which part of a disjunction holds, and that neither does
-pub or_cases : (a b : Bool) → a || b ≡ true → (a ≡ true) ⊎ (b ≡ true)
-or_cases true b e = inl refl
-or_cases false b e = inr e
-
-pub or-neither : (a b : Bool) → a || b ≡ false → (a ≡ false) × (b ≡ false)
-or-neither true b e = absurd (true≢false e)
-or-neither false b e = (refl, e)
 
 -- what it is to touch, and for runs of one size not to
 touches-ends : (q r : Run) → touches q r ≡ true → (q.size ≡ r.size) × ((q.last + 1 ≡ r.first) ⊎ (r.last + 1 ≡ q.first))
@@ -38,13 +30,8 @@ touches-ends q r e =
 touches-false : (q r : Run) → touches q r ≡ false → q.size ≡ r.size → (q.last + 1 ≡ r.first → ⊥) × (r.last + 1 ≡ q.first → ⊥)
 unfolding touches
 touches-false q r e same =
-    let s = or-neither (eqb (q.last + 1) r.first) (eqb (r.last + 1) q.first) (sym (simp (eq-eqb q.size r.size same)) ∙ e) in
+    let s = or_parts (eqb (q.last + 1) r.first) (eqb (r.last + 1) q.first) (sym (simp (eq-eqb q.size r.size same)) ∙ e) in
     (eqb-false (q.last + 1) r.first s.0, eqb-false (r.last + 1) q.first s.1)
-
--- two runs of one size of which the first does not end just before the second
-pub touches-above : (q r : Run) → q.size ≡ r.size → (q.last + 1 ≡ r.first → ⊥) → eqb (r.last + 1) q.first ≡ touches q r
-unfolding touches
-touches-above q r e h = simp (eq-eqb q.size r.size e, ne_eqb (q.last + 1) r.first h)
 
 module _ (q r : Run) where
   -- what it is to meet, and not to

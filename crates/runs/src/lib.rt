@@ -2,10 +2,10 @@
 // joined into one. specs/Runs.antt says so of lists of runs too, specs/Meaning.antt which numbers a list holds, and proofs/ what follows.
 #![tactic(auto)]
 
-ghost use Rattle.std.specs.Prelude.{◌≡◌};
-ghost use Rattle.runs.specs.Runs.{meets, touches, join};
+ghost use Rattle.std.specs.Prelude.{◌≡◌, ◌≤◌};
+ghost use Rattle.runs.specs.Runs.{meets, touches, join, rings_in};
 
-// The ring numbers first to last of a size, which is the byte of its letter.
+// The ring numbers first to last of a size, which is the byte of its letter. C has these records, in a pool.
 #[repr(C)]
 #[derive(Clone, Copy)]
 pub struct Run {
@@ -14,47 +14,48 @@ pub struct Run {
     pub last: u32,
 }
 
-// Whether two runs have a number of one size in common.
-pub fn meet(q: Run, r: Run) -> bool
-    ensures { result ≡ meets q r }
-{
-    if q.size != r.size {
-        return false;
+impl Run {
+    // Whether two runs have a number of one size in common.
+    #[tactic(auto, unfolding(crate::specs::Runs::meets))]
+    pub fn meets(self, other: Run) -> bool
+        ensures { result ≡ meets self other }
+    {
+        self.size == other.size && self.first <= other.last && other.first <= self.last
     }
-    if r.last < q.first {
-        return false;
-    }
-    r.first <= q.last
-}
 
-// Whether two runs of one size touch: one ends just before the other begins.
-pub fn touch(q: Run, r: Run) -> bool
-    ensures { result ≡ touches q r }
-{
-    if r.size != q.size {
-        return false;
+    // Whether two runs of one size touch: one ends just before the other begins.
+    #[tactic(auto, unfolding(crate::specs::Runs::touches))]
+    pub fn touches(self, other: Run) -> bool
+        ensures { result ≡ touches self other }
+    {
+        (u64::from(self.last) + 1 == u64::from(other.first)
+            || u64::from(other.last) + 1 == u64::from(self.first))
+            && self.size == other.size
     }
-    if q.last as u64 + 1 == r.first as u64 {
-        return true;
-    }
-    r.last as u64 + 1 == q.first as u64
-}
 
-// Two runs that touch, as one.
-pub fn joined(q: Run, r: Run) -> Run
-    ensures { result ≡ join q r }
-{
-    if q.last < r.first {
-        Run {
-            size: r.size,
-            first: q.first,
-            last: r.last,
+    // Two runs that touch, as one.
+    #[tactic(auto, unfolding(crate::specs::Runs::join))]
+    pub fn joined(self, other: Run) -> Run
+        ensures { result ≡ join self other }
+    {
+        if self.last < other.first {
+            Run {
+                first: self.first,
+                ..other
+            }
+        } else {
+            Run {
+                last: self.last,
+                ..other
+            }
         }
-    } else {
-        Run {
-            size: r.size,
-            first: r.first,
-            last: q.last,
-        }
+    }
+
+    // How many rings a run has: none where its first number is above its last.
+    pub fn rings(self) -> u64
+        ensures value { result ≡ rings_in self }
+        ensures few { result ≤ 4294967296 }
+    {
+        (u64::from(self.last) + 1).saturating_sub(u64::from(self.first))
     }
 }

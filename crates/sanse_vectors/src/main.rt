@@ -4,100 +4,133 @@
 // e; then a line of hexadecimal digits for the output, the tag, the accumulator and the mask.
 #![tactic(auto)]
 
-ghost use Rattle.std.specs.Prelude.{◌≤◌, ◌<◌, length};
-
 use sanse::Session;
 use std::io::Read;
 use steps::CallResult;
 
-// A number and what follows it.
-fn number(rt: &impl Print, n: u32, after: &str) {
-    let _ = print!(rt; "{n}{after}");
+// What a record does.
+#[derive(Clone, Copy)]
+enum Operation {
+    Start,
+    Wrap,
+    Unwrap,
+}
+
+// S for start, W for wrap, anything else for unwrap.
+impl From<u8> for Operation {
+    fn from(letter: u8) -> Self {
+        match letter {
+            b'S' => Operation::Start,
+            b'W' => Operation::Wrap,
+            _ => Operation::Unwrap,
+        }
+    }
+}
+
+// Which session a record is for.
+#[derive(Clone, Copy)]
+enum End {
+    A,
+    B,
+}
+
+// The letter a for the one end, anything else for the other.
+impl From<u8> for End {
+    fn from(letter: u8) -> Self {
+        match letter {
+            b'a' => End::A,
+            _ => End::B,
+        }
+    }
+}
+
+// The start of a record: all but the parts and the tag.
+#[derive(Clone, Copy)]
+struct Header {
+    operation: Operation,
+    end: End,
+    four: bool,
+    first_len: u16,
+    second_len: u16,
+}
+
+impl From<[u8; 7]> for Header {
+    fn from(
+        [
+            operation,
+            end,
+            blocks,
+            first_low,
+            first_high,
+            second_low,
+            second_high,
+        ]: [u8; 7],
+    ) -> Self {
+        Header {
+            operation: Operation::from(operation),
+            end: End::from(end),
+            four: blocks == b'4',
+            first_len: u16::from_le_bytes([first_low, first_high]),
+            second_len: u16::from_le_bytes([second_low, second_high]),
+        }
+    }
 }
 
 // What a call gave, with its output and its tag.
 fn show(rt: &impl Print, r: CallResult<Session>, out: &[u8], tag: &[u8]) {
     let s = r.left;
     let d = s.history;
-    number(rt, r.number, " ");
-    number(rt, r.count, " ");
-    number(rt, d.index, " ");
-    number(rt, if s.toggle { 1 } else { 0 }, "\n");
+    let _ = println!(rt;
+        "{} {} {} {}",
+        r.number,
+        r.count,
+        d.index,
+        u32::from(s.toggle)
+    );
     hexline::print_line(rt, out);
     hexline::print_line(rt, tag);
     hexline::print_line(rt, &state::to_bytes(&d.acc));
     hexline::print_line(rt, &state::to_bytes(&d.mask));
 }
 
-// Carries a record out, and gives the session after it.
-fn answer(
-    rt: &impl Print,
-    op: u8,
-    s: Session,
-    first: &[u8],
-    second: &[u8],
-    given: [u8; 32],
-    four: bool,
-) -> Session
-    requires { length second.now < 65536 }
-{
-    let mut tag = given;
-    let mut out = [0u8; 65536];
-    let n = second.len();
-    if op == b'S' {
-        let r = sanse::start(first);
-        show(rt, r, b"", b"");
-        return r.left;
+// Reads the parts and the tag of a record and carries it out on a session, which it gives as it is afterwards.
+fn after(rt: &impl Print, input: &mut impl Read, header: Header, s: Session) -> Session {
+    let mut first = [0; 65536];
+    let mut second = [0; 65536];
+    let mut out = [0; 65536];
+    let mut tag = [0; 32];
+    let first = &mut first[..usize::from(header.first_len)];
+    let second = &mut second[..usize::from(header.second_len)];
+    let out = &mut out[..usize::from(header.second_len)];
+    hexline::read_full(input, first);
+    hexline::read_full(input, second);
+    hexline::read_full(input, &mut tag);
+    let r = match header.operation {
+        Operation::Start => sanse::start(first),
+        Operation::Wrap => sanse::wrap(s, first, second, out, &mut tag, header.four),
+        Operation::Unwrap => sanse::unwrap(s, first, second, &tag, out, header.four),
+    };
+    match header.operation {
+        Operation::Start => show(rt, r, b"", b""),
+        Operation::Wrap | Operation::Unwrap => show(rt, r, out, &tag),
     }
-    if op == b'W' {
-        let r = sanse::wrap(s, first, second, &mut out, &mut tag, four);
-        show(rt, r, &out[..n], &tag);
-        return r.left;
-    }
-    let r = sanse::unwrap(s, first, second, &tag, &mut out, four);
-    show(rt, r, &out[..n], &tag);
     r.left
-}
-
-// Reads n bytes to the start of a buffer.
-fn read(input: &mut impl Read, n: usize, buffer: &mut [u8])
-    requires { n ≤ length buffer.old }
-{
-    hexline::read_full(input, &mut buffer[..n]);
-}
-
-// Reads the rest of a record, and carries it out.
-fn next(rt: &impl Print, input: &mut impl Read, header: &[u8; 7], s: Session) -> Session {
-    let four = header[2] == b'4';
-    let n = hexline::pair(header[3], header[4]);
-    let m = hexline::pair(header[5], header[6]);
-    let mut first = [0u8; 65536];
-    let mut second = [0u8; 65536];
-    let mut tag = [0u8; 32];
-    read(input, n, &mut first);
-    read(input, m, &mut second);
-    read(input, 32, &mut tag);
-    answer(rt, header[0], s, &first[..n], &second[..m], tag, four)
 }
 
 fn main(rt: HostRuntime) {
     let mut input = rt.stdin();
-    let closed = sanse::start(b"");
-    let mut a = closed.left;
-    let mut b = closed.left;
-    let mut left: u32 = 4096;
-    while 0 < left {
-        let mut header = [0u8; 7];
-        if hexline::read_full(&mut input, &mut header) < 7 {
+    let mut a = sanse::start(b"").left;
+    let mut b = a;
+    for _ in 0..4096 {
+        let mut head = [0; 7];
+        if hexline::read_full(&mut input, &mut head) < 7 {
             return;
         }
-        if header[1] == b'a' {
-            let t = next(&rt, &mut input, &header, a);
-            a = t;
-        } else {
-            let t = next(&rt, &mut input, &header, b);
-            b = t;
-        }
-        left -= 1;
+        let header = Header::from(head);
+        let session = match header.end {
+            End::A => &mut a,
+            End::B => &mut b,
+        };
+        *session = after(&rt, &mut input, header, *session);
     }
 }

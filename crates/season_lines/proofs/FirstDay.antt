@@ -4,25 +4,32 @@ use mathlib.Core.Path.{◌≡◌, refl, sym, ap, ◌∙◌, subst}
 use mathlib.Core.Bool.{true, false}
 use mathlib.Core.List.{List}
 use native.Mathlib.Omega.{arith}
-use Rattle.issue_line.specs.declared.Line.{Line}
+use Rattle.std.specs.Prelude.{Option, None, Result, Err}
+use Rattle.refusals.specs.declared.Refusal.{Refusal}
+use Rattle.refusals.specs.declared.Refusal.TheVariants.{BadLine}
+use Rattle.issue_line.specs.declared.Line.{Line as LineFields}
+use Rattle.issue_line.specs.Read.{Line, found_line}
 use Rattle.issue_line.specs.Layout.{IsLine}
 use Rattle.issue_line.specs.Read.{read_line, a_line}
 use Rattle.issue_line.proofs.Reading.{line-sound, line-complete, line_refused}
 use Rattle.seasons.specs.declared.Windows.{Windows}
 use Rattle.seasons.specs.declared.First.{First}
 use Rattle.seasons.specs.Seasons.{window_of}
-use Rattle.seasons.specs.FirstDay.{refused_by, FirstDay, refused, found, none}
+use Rattle.seasons.specs.FirstDay.{first_of, refused_by, FirstDay, refused, found, none}
 use Rattle.seasons.proofs.Right.{first-exactly}
 use Rattle.season_lines.specs.Lines.{NoLine}
 use Rattle.season_lines.specs.FirstDay.{LineFirst, no_line, of-line, LineFirstExactly}
 
--- the answers of the code, where l is the line that was read
-module _ (ws : Windows) (bytes : List ℕ) (l : Line) (is : l ≡ read_line bytes) where
-  pub answer-13 : l.found ≡ false → LineFirst ws bytes (refused_by 13)
-  answer-13 e = no_line ((line_refused bytes).0 (ap (λ (x : Line). x.found) (sym is) ∙ e))
+-- the answers of the code: no line was read, or the line l
+module _ (ws : Windows) (bytes : List ℕ) where
+  pub answer-13 : (r : Result (Option ℕ) Refusal) (o : Option LineFields) → o ≡ None → found_line o ≡ read_line bytes → r ≡ Err BadLine
+      → LineFirst ws bytes (first_of r)
+  answer-13 r o nothing is e =
+      let f : (read_line bytes).found ≡ false = ap (λ (x : Line). x.found) (sym is) ∙ ap (λ (x : Option LineFields). (found_line x).found) nothing in
+      subst (λ (x : Result (Option ℕ) Refusal). LineFirst ws bytes (first_of x)) (sym e) (no_line ((line_refused bytes).0 f))
 
-  pub answer-line : (r : First) → l.found ≡ true → FirstDay (window_of ws l.size) l.day r → LineFirst ws bytes r
-  answer-line r e f =
+  pub answer-line : (l : Line) → l ≡ read_line bytes → (r : First) → l.found ≡ true → FirstDay (window_of ws l.size) l.day r → LineFirst ws bytes r
+  answer-line l is r e f =
       of-line _ _ _ _ _ (line-sound bytes (ap (λ (x : Line). x.found) (sym is) ∙ e)) (subst (λ (x : Line). FirstDay (window_of ws x.size) x.day r) is f)
 
 -- the answer for a size and a day is not 13

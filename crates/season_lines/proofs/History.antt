@@ -6,12 +6,12 @@ use mathlib.Core.Logic.{◌↔◌}
 use mathlib.Core.List.{List, [], ◌∷◌}
 use lib.Dec.{eqb}
 use borrow.Author.Tests.{eqb-true}
-use Rattle.issue_line.specs.declared.Line.{Line}
+use Rattle.issue_line.specs.Read.{Line}
 use Rattle.issue_line.specs.Layout.{IsLine}
 use Rattle.issue_line.specs.Read.{read_line}
 use Rattle.issue_line.proofs.Reading.{line-sound, line-complete}
 use Rattle.pool.specs.declared.Pool.{Pool}
-use Rattle.pool.specs.declared.Added.{Added}
+use Rattle.pool.specs.Pool.{Added}
 use Rattle.pool.specs.Pool.{empty_pool}
 use Rattle.pool.proofs.Adding.{empty-good}
 use Rattle.pool_lines.specs.History.{after, accepted, pool_after, HeldBy, Alike, SamePool}

@@ -4,13 +4,13 @@ use mathlib.Core.Path.{◌≡◌, refl, sym, ap, ◌∙◌, subst}
 use mathlib.Core.Logic.{◌↔◌}
 use mathlib.Core.List.{List}
 use native.Mathlib.Omega.{arith}
-use Rattle.issue_line.specs.declared.Line.{Line}
+use Rattle.issue_line.specs.Read.{Line}
 use Rattle.issue_line.specs.Layout.{IsLine}
 use Rattle.issue_line.specs.Read.{read_line, a_line}
 use Rattle.issue_line.proofs.Reading.{line-sound, line-complete, line_refused}
 use Rattle.runs.specs.declared.Run.{Run}
 use Rattle.pool.specs.declared.Pool.{Pool}
-use Rattle.pool.specs.declared.Added.{Added}
+use Rattle.pool.specs.Pool.{Added}
 use Rattle.pool.specs.Pool.{add_run}
 use Rattle.pool.proofs.Adding.{Went, met, full, done, went}
 use Rattle.pool_lines.specs.Lines.{run_of}

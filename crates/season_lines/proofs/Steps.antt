@@ -5,8 +5,7 @@ use mathlib.Core.Bool.{Bool, true, false}
 use mathlib.Core.List.{List}
 use lib.Dec.{eqb}
 use borrow.Author.Tests.{eq-eqb, ne_eqb, eqb-true, eqb-false}
-use Rattle.issue_line.specs.declared.Line.{Line}
-use Rattle.issue_line.specs.Read.{read_line}
+use Rattle.issue_line.specs.Read.{Line, read_line}
 use Rattle.issue_line.proofs.Reading.{line-sound}
 use Rattle.pool.specs.declared.Pool.{Pool}
 use Rattle.pool.specs.Pool.{add_run}

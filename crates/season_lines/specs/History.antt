@@ -1,7 +1,7 @@
 -- What is claimed of lists of byte strings that are added with windows, beside the claims of crates/pool_lines/specs/History.antt over any way to add:
 -- document 02, request 8. proofs/History.antt has the proofs. Assumes nothing.
 use Rattle.std.specs.Prelude.{ℕ, ◌≡◌, ◌↔◌, List, [], ◌∷◌}
-use Rattle.issue_line.specs.declared.Line.{Line}
+use Rattle.issue_line.specs.Read.{Line}
 use Rattle.issue_line.specs.Layout.{IsLine}
 use Rattle.pool.specs.Pool.{empty_pool}
 use Rattle.pool_lines.specs.History.{ListPooled, taken}

@@ -1,11 +1,11 @@
 -- An issue line added to a pool in its season, and which number it gets: document 02, request 8, 13, 16, 17, 14 and 15. Assumes nothing.
 use Rattle.std.specs.Prelude.{ℕ, ◌+◌, ◌≡◌, cond, ◌↔◌, List, ◌++◌, eqb}
-use Rattle.issue_line.specs.declared.Line.{Line}
+use Rattle.issue_line.specs.Read.{Line}
 use Rattle.issue_line.specs.Layout.{last_digits, IsLine}
 use Rattle.issue_line.specs.Read.{read_line}
 use Rattle.runs.specs.Runs.{a_run, rings_in, rings_of}
 use Rattle.pool.specs.declared.Pool.{Pool}
-use Rattle.pool.specs.declared.Added.{Added}
+use Rattle.pool.specs.Pool.{Added}
 use Rattle.pool.specs.Pool.{runs_of, add_run}
 use Rattle.pool.specs.Good.{Good, InPool, HoldsWith, AddStop}
 use Rattle.pool_lines.specs.Lines.{run_of, add_line}

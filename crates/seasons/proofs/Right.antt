@@ -1,7 +1,7 @@
 -- The number that a day gets is the one whose condition holds, and the first permitted day has one answer. Assumes nothing.
 use Prim.Native.Nat.{ℕ}
 use mathlib.Core.Path.{◌≡◌, refl, sym, ap, ◌∙◌, subst}
-use mathlib.Core.Bool.{Bool, true, false, ◌&&◌, true≢false}
+use mathlib.Core.Bool.{Bool, true, false, ◌&&◌, and-false, true≢false}
 use mathlib.Core.Logic.{◌↔◌, inl, inr}
 use native.Mathlib.Omega.{arith}
 use lib.Dec.{leb}
@@ -14,7 +14,6 @@ use Rattle.windows.proofs.Right.{window-exactly}
 use Rattle.seasons.specs.declared.First.{First}
 use Rattle.seasons.specs.Seasons.{Meets16, SeasonStop, no_such, outside, inside, passes16, season_number, SeasonExactly}
 use Rattle.seasons.specs.FirstDay.{IsFirst, NoneFrom, refused_by, found_day, no_day, FirstDay, refused, found, none, FirstExactly}
-use Rattle.seasons.proofs.Steps.{no-such-day, no-such-date, number-16, number-17, number-0}
 
 module _ (w : Window) (day : ℕ) where
   -- 16 is met exactly where the test says so.
@@ -28,8 +27,8 @@ module _ (w : Window) (day : ℕ) where
       to true true p q e = absurd (true≢false e)
 
       from : Meets16 w day → passes16 w day ≡ false
-      from (inl h) = no-such-day w day (is_day day) refl ((day-exactly day).no.1 h)
-      from (inr h) = no-such-date w day (is_day day) refl (good_window w) refl ((window-exactly w).bad.1 h)
+      from (inl h) = simp ((day-exactly day).no.1 h)
+      from (inr h) = simp ((window-exactly w).bad.1 h, and-false)
 
   pub not-met-16 : (passes16 w day ≡ true) ↔ (Meets16 w day → ⊥)
   not-met-16 = ((λ e h. true≢false (sym e ∙ met-16.1 h)), (λ never. go (passes16 w day) refl never))
@@ -38,22 +37,34 @@ module _ (w : Window) (day : ℕ) where
       go true e never = e
       go false e never = absurd (never (met-16.0 e))
 
+  number-16 : passes16 w day ≡ false → season_number w day ≡ 16
+  unfolding season_number
+  number-16 e = simp e
+
+  number-17 : passes16 w day ≡ true → open_on w day ≡ false → season_number w day ≡ 17
+  unfolding season_number
+  number-17 e f = simp (e, f)
+
+  number-0 : passes16 w day ≡ true → open_on w day ≡ true → season_number w day ≡ 0
+  unfolding season_number
+  number-0 e f = simp (e, f)
+
   -- The number is the one whose condition holds, and it is given exactly there.
   season-stop : SeasonStop w day (season_number w day)
   season-stop = go (passes16 w day) (open_on w day) refl refl
     where
       go : (a b : Bool) → passes16 w day ≡ a → open_on w day ≡ b → SeasonStop w day (season_number w day)
-      go false b p q = subst (SeasonStop w day) (sym (number-16 w day p)) (no_such (met-16.0 p))
-      go true false p q = subst (SeasonStop w day) (sym (number-17 w day p q)) (outside (not-met-16.0 p) (((window-exactly w).is_shut day).0 q))
-      go true true p q = subst (SeasonStop w day) (sym (number-0 w day p q)) (inside (not-met-16.0 p) (((window-exactly w).is_open day).0 q))
+      go false b p q = subst (SeasonStop w day) (sym (number-16 p)) (no_such (met-16.0 p))
+      go true false p q = subst (SeasonStop w day) (sym (number-17 p q)) (outside (not-met-16.0 p) (((window-exactly w).is_shut day).0 q))
+      go true true p q = subst (SeasonStop w day) (sym (number-0 p q)) (inside (not-met-16.0 p) (((window-exactly w).is_open day).0 q))
 
   pub season-exactly : SeasonExactly w day
   season-exactly n = ((λ e. subst (SeasonStop w day) e season-stop), (λ s. given s))
     where
       given : {m : ℕ} → SeasonStop w day m → season_number w day ≡ m
-      given (no_such h) = number-16 w day (met-16.1 h)
-      given (outside h o) = number-17 w day (not-met-16.1 h) (((window-exactly w).is_shut day).1 o)
-      given (inside h o) = number-0 w day (not-met-16.1 h) (((window-exactly w).is_open day).1 o)
+      given (no_such h) = number-16 (met-16.1 h)
+      given (outside h o) = number-17 (not-met-16.1 h) (((window-exactly w).is_shut day).1 o)
+      given (inside h o) = number-0 (not-met-16.1 h) (((window-exactly w).is_open day).1 o)
 
   -- There is one first day, and one answer to the question for it.
   first-same : {d k : ℕ} → IsFirst w day d → IsFirst w day k → d ≡ k

@@ -1,5 +1,7 @@
 -- The first permitted day: document 02, request 8. Assumes nothing.
-use Rattle.std.specs.Prelude.{ℕ, ◌<◌, ◌≤◌, ◌≡◌, true, false, ◌↔◌}
+use Rattle.std.specs.Prelude.{ℕ, ◌<◌, ◌≤◌, ◌≡◌, true, false, ◌↔◌, Option, Some, None, Result, Ok, Err}
+use Rattle.refusals.specs.declared.Refusal.{Refusal}
+use Rattle.refusals.specs.Numbers.{number_of}
 use Rattle.days.specs.Days.{Exists}
 use Rattle.windows.specs.declared.Window.{Window}
 use Rattle.windows.specs.Windows.{Open}
@@ -26,6 +28,12 @@ found_day d = record { number = 0; found = true; day = d }
 
 abbrev pub no_day : First
 no_day = record { number = 0; found = false; day = 0 }
+
+-- which of them, by what the question gave
+abbrev pub first_of : Result (Option ℕ) Refusal → First
+first_of (Ok (Some d)) = found_day d
+first_of (Ok None) = no_day
+first_of (Err e) = refused_by (number_of e)
 
 -- The answer to the question for the first permitted day from `day` on.
 pub data FirstDay (w : Window) (day : ℕ) : First → Type 0 where

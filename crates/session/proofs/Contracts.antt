@@ -92,34 +92,38 @@ module _ {M : Type 1} {𝓤 : Ura M} (𝓛 : Logic 𝓤) (mem : Memory → SProp
       (result_of r z.0.now) z.1.1.1.1.1.0.now a.1.1.1.1.0.now)
   unwrap-envelope-promises κs a r z = refl
 
-  -- ---- whether full blocks are taken four side by side alters no clause (document 02, request 10): of any call the clauses where they are, are those
-  -- where they are not, all of them; and so is what the call promises
+  -- ---- whether full blocks are taken four side by side alters no clause (document 02, request 10): of any call the clauses where they
+  -- are, are those where they are not, all of them; and so is what the call promises
   -- a call with the last argument four
   abbrev pub wrap-by : (κs : Lfts 5) (a : Args wrap.signature κs) (four : Bool) → Args wrap.signature κs
   wrap-by κs a t = (a.0, (a.1.0, (a.1.1.0, (a.1.1.1.0, (a.1.1.1.1.0, (t, a.1.1.1.1.1.1))))))
 
-  pub wrap-same : (κs : Lfts 5) (a : Args wrap.signature κs) → wrap.clauses 𝓛 mem run κs (wrap-by κs a true) ≡ wrap.clauses 𝓛 mem run κs (wrap-by κs a false)
+  pub wrap-same : (κs : Lfts 5) (a : Args wrap.signature κs)
+      → wrap.clauses 𝓛 mem run κs (wrap-by κs a true) ≡ wrap.clauses 𝓛 mem run κs (wrap-by κs a false)
   wrap-same κs a = refl
 
   -- a call with the last argument four
   abbrev pub unwrap-by : (κs : Lfts 5) (a : Args unwrap.signature κs) (four : Bool) → Args unwrap.signature κs
   unwrap-by κs a t = (a.0, (a.1.0, (a.1.1.0, (a.1.1.1.0, (a.1.1.1.1.0, (t, a.1.1.1.1.1.1))))))
 
-  pub unwrap-same : (κs : Lfts 5) (a : Args unwrap.signature κs) → unwrap.clauses 𝓛 mem run κs (unwrap-by κs a true) ≡ unwrap.clauses 𝓛 mem run κs (unwrap-by κs a false)
+  pub unwrap-same : (κs : Lfts 5) (a : Args unwrap.signature κs)
+      → unwrap.clauses 𝓛 mem run κs (unwrap-by κs a true) ≡ unwrap.clauses 𝓛 mem run κs (unwrap-by κs a false)
   unwrap-same κs a = refl
 
   -- a call with the last argument four
   abbrev pub wrap-envelope-by : (κs : Lfts 6) (a : Args wrap-envelope.signature κs) (four : Bool) → Args wrap-envelope.signature κs
   wrap-envelope-by κs a t = (a.0, (a.1.0, (a.1.1.0, (a.1.1.1.0, (a.1.1.1.1.0, (a.1.1.1.1.1.0, (t, a.1.1.1.1.1.1.1)))))))
 
-  pub wrap-envelope-same : (κs : Lfts 6) (a : Args wrap-envelope.signature κs) → wrap-envelope.clauses 𝓛 mem run κs (wrap-envelope-by κs a true) ≡ wrap-envelope.clauses 𝓛 mem run κs (wrap-envelope-by κs a false)
+  pub wrap-envelope-same : (κs : Lfts 6) (a : Args wrap-envelope.signature κs)
+      → wrap-envelope.clauses 𝓛 mem run κs (wrap-envelope-by κs a true) ≡ wrap-envelope.clauses 𝓛 mem run κs (wrap-envelope-by κs a false)
   wrap-envelope-same κs a = refl
 
   -- a call with the last argument four
   abbrev pub unwrap-envelope-by : (κs : Lfts 6) (a : Args unwrap-envelope.signature κs) (four : Bool) → Args unwrap-envelope.signature κs
   unwrap-envelope-by κs a t = (a.0, (a.1.0, (a.1.1.0, (a.1.1.1.0, (a.1.1.1.1.0, (a.1.1.1.1.1.0, (t, a.1.1.1.1.1.1.1)))))))
 
-  pub unwrap-envelope-same : (κs : Lfts 6) (a : Args unwrap-envelope.signature κs) → unwrap-envelope.clauses 𝓛 mem run κs (unwrap-envelope-by κs a true) ≡ unwrap-envelope.clauses 𝓛 mem run κs (unwrap-envelope-by κs a false)
+  pub unwrap-envelope-same : (κs : Lfts 6) (a : Args unwrap-envelope.signature κs)
+      → unwrap-envelope.clauses 𝓛 mem run κs (unwrap-envelope-by κs a true) ≡ unwrap-envelope.clauses 𝓛 mem run κs (unwrap-envelope-by κs a false)
   unwrap-envelope-same κs a = refl
 
   pub wrap-four-promises : (κs : Lfts 5) (a : Args wrap.signature κs) (r : Res wrap.signature κs) (z : AtExit wrap.ended κs)
@@ -136,7 +140,8 @@ module _ {M : Type 1} {𝓤 : Ura M} (𝓛 : Logic 𝓤) (mem : Memory → SProp
       (result_of r z.0.now) z.1.1.1.1.0.now a.1.1.1.0.now)
   unwrap-four-promises κs a r z = refl
 
-  pub wrap-envelope-four-promises : (κs : Lfts 6) (a : Args wrap-envelope.signature κs) (r : Res wrap-envelope.signature κs) (z : AtExit wrap-envelope.ended κs)
+  pub wrap-envelope-four-promises : (κs : Lfts 6) (a : Args wrap-envelope.signature κs) (r : Res wrap-envelope.signature κs)
+      (z : AtExit wrap-envelope.ended κs)
       → (wrap-envelope.clauses 𝓛 mem run κs (wrap-envelope-by κs a true)).ensures tt r z
       ≡ (connectives 𝓤).⌜◌⌝
       (lent_promises.wraps a.0.now

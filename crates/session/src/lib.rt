@@ -1,6 +1,7 @@
 // Xoofff-SANSE over a lent record: start, wrap and unwrap, without an envelope and for one, call the functions by value and store the session that
 // they give. `four` is whether full blocks are taken four side by side (document 02, request 10): it alters nothing but the time, and no clause
-// speaks of it.
+// speaks of it. SANE's and SAE's records have functions of their own (`sane_session`, `sae_session`): their promises name other rules, and a generic
+// function would share two lines.
 #![tactic(auto)]
 
 ghost use Rattle.sanse.specs.Session.{handed, handed_for};

@@ -7,11 +7,12 @@ use native.Mathlib.Nat.{mod-lt}
 use native.Mathlib.Omega.{arith}
 use lib.Dec.{lit<}
 use lib.Seq.{drop-cons}
-use Prim.Native.Nat.{ℕ, zero, suc, ◌+◌, ◌^◌, ◌<◌}
+use Prim.Native.Nat.{ℕ, zero, suc, ◌+◌, ◌*◌, ◌^◌, ◌<◌}
 use lib.ListN.{get_or, length, drop, drop_of_length-le}
 use mir.Syntax.{w32}
 use mir.Val.{Fits}
 use Rattle.word.specs.Word.{bit}
+use Rattle.word.specs.Lists.{tabulate}
 use Rattle.word.proofs.Lists.{cons, Words}
 use Rattle.word.proofs.Bit.{Is, is_word, is-own, is-more, word-is, bit-of_bits, of_bits-lt}
 use Rattle.state.specs.State.{State, plane, shift, bits, lane, lanes, on}
@@ -27,6 +28,14 @@ lanes-are f A B C D E G H I J K L M =
     cons (is_word A) (cons (is_word B) (cons (is_word C) (cons (is_word D)
     (cons (is_word E) (cons (is_word G) (cons (is_word H) (cons (is_word I)
     (cons (is_word J) (cons (is_word K) (cons (is_word L) (cons (is_word M) refl)))))))))))
+
+-- twelve words made one after another, by their places
+pub lanes-made : (A : State) (h : ℕ → ℕ) → ((x y : ℕ) → x < 4 → y < 3 → Is 32 (h (x + 4 * y)) (A x y)) → tabulate 12 h ≡ lanes A
+unfolding tabulate
+lanes-made A h o =
+    lanes-are A (o 0 0 (lit< tt) (lit< tt)) (o 1 0 (lit< tt) (lit< tt)) (o 2 0 (lit< tt) (lit< tt)) (o 3 0 (lit< tt) (lit< tt))
+    (o 0 1 (lit< tt) (lit< tt)) (o 1 1 (lit< tt) (lit< tt)) (o 2 1 (lit< tt) (lit< tt)) (o 3 1 (lit< tt) (lit< tt))
+    (o 0 2 (lit< tt) (lit< tt)) (o 1 2 (lit< tt) (lit< tt)) (o 2 2 (lit< tt) (lit< tt)) (o 3 2 (lit< tt) (lit< tt))
 
 -- what fits a lane
 pub fits-of : {n : ℕ} → Fits w32 n → n < 2 ^ 32

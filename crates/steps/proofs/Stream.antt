@@ -3,7 +3,7 @@
 use mathlib.Core.Path.{◌≡◌, refl, ap, ap₂, ◌∙◌}
 use mathlib.Core.Bool.{Bool, true, false, not, ◌||◌, cond}
 use mathlib.Core.List.{List, [], ◌∷◌}
-use Prim.Native.Nat.{ℕ, ◌+◌}
+use Prim.Native.Nat.{ℕ, zero, suc, ◌+◌, ◌≤◌}
 use native.Mathlib.Omega.{arith}
 use lib.ListN.{length, take}
 use Rattle.word.specs.Lists.{sum}
@@ -22,7 +22,15 @@ use Rattle.modes.proofs.PapersStream.{stream_bits}
 use Rattle.modes.proofs.Leaves.{count_stream, sane-leaf-counts}
 use Rattle.steps.specs.Steps.{compressed_if, output_count}
 use Rattle.steps.proofs.Buffers.{added-length, added-taken}
-use Rattle.steps.proofs.Calls.{text-state, text-count, Begun, begun-state, begun-count, Worked}
+use Rattle.steps.proofs.Calls.{text-state, text-count, within, Begun, begun-state, begun-count, Worked}
+
+-- a call within the limits does 1,030 permutations at most
+count_most : (a x : ℕ) → a ≤ 16401 → x ≤ 16384 → sane_count a x ≤ 1030
+unfolding sane_count
+count_most zero zero h g = omega arith
+count_most (suc a) zero h g = omega arith
+count_most zero (suc x) h g = omega arith
+count_most (suc a) (suc x) h g = omega arith
 
 -- ---- wrap and unwrap
 
@@ -84,6 +92,11 @@ module _ (letter : ℕ) (bits_a bits_c : Bool → List Bool) (next : Bool → Bo
           text-count bits short h.state s.toggle y c' gained k.closes refl,
           ap (cond (is_empty y) 0) (blocks_is (framed y (true ∷ false ∷ [])) (omega arith)),
         )
+
+    pub done-most : q + h.count + g.count ≤ 1030
+    done-most =
+        let w = within mode s i k.begun.none in
+        omega (arith, counted, count_most (length (metadata_string i)) (length i.text) k.begun.long w.text)
 
     -- the history with the cryptogram z
     abbrev ends : List ℕ → DeckState

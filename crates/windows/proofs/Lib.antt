@@ -1,5 +1,4 @@
 -- Laws and theorems that belong to no one function.
-pub mod Steps
 pub mod Right
 pub mod February
 pub mod Dates

@@ -12,7 +12,21 @@ use Rattle.days.proofs.Rules.{both, leap-right, common-right, lasts-right}
 use Rattle.windows.specs.declared.Window.{Window}
 use Rattle.windows.specs.Windows.{opening, closing, in_year, leap_day, first_of_march, last_of_february, StandsFor, leap-year, other-date, common-year, Open, within, to-new-year, from-new-year, InLeapYear, NoSuchDate}
 use Rattle.windows.specs.Computed.{date_in, opens_at, closes_at, open_on, leap_year_has, good_window, WindowExactly}
-use Rattle.windows.proofs.Steps.{in-leap-year, in-no-leap-year, another-date}
+use Rattle.std.proofs.lemmas.Bool.Decides.{nat_tests}
+
+-- the date that a written one stands for
+module _ (leap : Bool) (written instead : ℕ) where
+  in-leap-year : leap ≡ true → date_in leap written instead ≡ written
+  unfolding date_in
+  in-leap-year e = simp e
+
+  in-no-leap-year : leap ≡ false → written ≡ leap_day → date_in leap written instead ≡ instead
+  unfolding date_in
+  in-no-leap-year e is = grind (arith, nat_tests)
+
+  another-date : (written ≡ leap_day → ⊥) → date_in leap written instead ≡ written
+  unfolding date_in
+  another-date other = grind (arith, nat_tests)
 
 -- A written date stands for the one that is computed, and for no other.
 module _ (year written instead : ℕ) where

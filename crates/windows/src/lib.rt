@@ -15,6 +15,7 @@ const FIRST_OF_MARCH: u32 = 301;
 const LAST_OF_FEBRUARY: u32 = 228;
 
 // A window: the month and day on which it opens and on which it closes, both included. One that opens later than it closes runs over New Year.
+// (a) Four bytes and not two dates: C lends this, to `pevghazo_first_day` and `pevghazo_pool_add_in_season`.
 #[repr(C)]
 #[derive(Clone, Copy)]
 pub struct Window {
@@ -24,64 +25,87 @@ pub struct Window {
     pub close_day: u8,
 }
 
-// A month and a day of it as one number, so that a later date of a year is a larger number.
-fn date_number(month: u8, day: u8) -> u32
-    ensures { result ≡ month * 100 + day }
-{
-    month as u32 * 100 + day as u32
+// A date as it is written: a month and a day of it.
+#[derive(Clone, Copy)]
+struct MonthDay {
+    month: u8,
+    day: u8,
+}
+
+impl MonthDay {
+    // As one number, so that a later date of a year is a larger number.
+    fn number(self) -> u32
+        ensures { result ≡ self.month * 100 + self.day }
+    {
+        self.month as u32 * 100 + self.day as u32
+    }
+
+    // Whether a leap year has it.
+    #[tactic(auto, unfolding(crate::specs::Computed::leap_year_has))]
+    fn in_leap_years(self) -> bool
+        ensures { result ≡ leap_year_has self.month self.day }
+    {
+        1 <= self.day && self.day as u32 <= month_length(true, self.month as u32)
+    }
+}
+
+impl Window {
+    // Its two dates.
+    fn opening(self) -> MonthDay
+        ensures month { result.month ≡ self.open_month }
+        ensures day { result.day ≡ self.open_day }
+    {
+        MonthDay {
+            month: self.open_month,
+            day: self.open_day,
+        }
+    }
+
+    fn closing(self) -> MonthDay
+        ensures month { result.month ≡ self.close_month }
+        ensures day { result.day ≡ self.close_day }
+    {
+        MonthDay {
+            month: self.close_month,
+            day: self.close_day,
+        }
+    }
 }
 
 // The date that a written one stands for, in a leap year or another, where `instead` is put for 29 February.
+#[tactic(auto, unfolding(crate::specs::Computed::date_in))]
 fn date_in(long: bool, written: u32, instead: u32) -> u32
     ensures { result ≡ date_in long written instead }
 {
-    if long {
-        return written;
+    if !long && written == LEAP_DAY {
+        instead
+    } else {
+        written
     }
-    if written == LEAP_DAY {
-        return instead;
-    }
-    written
 }
 
 // Whether a window is open on a day. Which way it runs is told from the dates as written.
+#[tactic(auto, unfolding(crate::specs::Computed::open_on))]
 pub fn open_on(w: Window, day: u32) -> bool
     ensures { result ≡ open_on w day }
 {
     let long = leap(day / 10000);
     let date = day % 10000;
-    let opening = date_number(w.open_month, w.open_day);
-    let closing = date_number(w.close_month, w.close_day);
+    let opening = w.opening().number();
+    let closing = w.closing().number();
     let from = date_in(long, opening, FIRST_OF_MARCH);
     let to = date_in(long, closing, LAST_OF_FEBRUARY);
     if opening <= closing {
-        if date < from {
-            return false;
-        }
-        return date <= to;
+        from <= date && date <= to
+    } else {
+        from <= date || date <= to
     }
-    if from <= date {
-        return true;
-    }
-    date <= to
-}
-
-// Whether a leap year has a date.
-fn leap_year_has(month: u8, day: u8) -> bool
-    ensures { result ≡ leap_year_has month day }
-{
-    if day < 1 {
-        return false;
-    }
-    day as u32 <= month_length(true, month as u32)
 }
 
 // Whether a leap year has both dates of a window.
+#[tactic(auto, unfolding(crate::specs::Computed::good_window))]
 pub fn good_window(w: Window) -> bool
     ensures { result ≡ good_window w }
 {
-    if !leap_year_has(w.open_month, w.open_day) {
-        return false;
-    }
-    leap_year_has(w.close_month, w.close_day)
+    w.opening().in_leap_years() && w.closing().in_leap_years()
 }

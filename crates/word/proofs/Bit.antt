@@ -9,6 +9,7 @@ use native.Mathlib.Decide.{dec_le}
 use native.Mathlib.Omega.{arith}
 use lib.Dec.{eqb, leb, lit<}
 use borrow.Author.Tests.{le-leb, lt-leb}
+use Rattle.std.specs.Int.{w32, rotate_left as std_rotate_left}
 use lib.Pow.{pow_pos, pow-add, pow_mono, mod-pow-add, mod-mod-pow, field, low, ones_sub-lt, shr-shr, shl-shr, ones_split, high, ones_lt}
 use lib.Bits.{bit_and, bit_or, bit_xor, and_shr, and_mod, or_shr, or_mod, xor_shr, xor_mod, and_mask, xor_add_and, and_lt, or_lt, xor_lt, shifted_even}
 use lib.Arith.{digits_lt}
@@ -253,6 +254,14 @@ is-rotl {w} {a} v h i =
       fits = or_lt w ((a * 2 ^ v) % 2 ^ w) (a / 2 ^ (w - v)) (mod-lt (a * 2 ^ v) (pow_pos w)) (lt_of_le_of_lt (div-le_self a (2 ^ (w - v))) i.fits);
       bits = λ z l. bit-rotl a w v z i.fits h l ∙ i.bits ((z + (w - v)) % w) (mod-lt (z + (w - v)) (omega arith));
     }
+
+-- the same as std has it, which takes the distances modulo the width
+pub rotated : (a v : ℕ) {r : ℕ} → 0 < v → v < 32 → a < 2 ^ 32 → r ≡ std_rotate_left w32 a v → r ≡ of_bits 32 (rotate_left 32 v (bit a))
+rotated a v g h l e =
+    let m : v % 32 ≡ v = mod-eq_of_lt h in
+    let n : (32 - v) % 32 ≡ 32 - v = omega arith in
+    e ∙ ap (λ (k : ℕ). bit_or ((a * 2 ^ k) % 2 ^ 32) (a / 2 ^ ((32 - k) % 32))) m
+    ∙ ap (λ (k : ℕ). bit_or ((a * 2 ^ v) % 2 ^ 32) (a / 2 ^ k)) n ∙ is_word (is-rotl v (omega arith) (is-own l))
 
 -- a rotation by 0
 pub is-still : {w n : ℕ} {f : ℕ → Bool} → Is w n f → Is w n (rotate_left w 0 f)

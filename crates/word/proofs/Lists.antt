@@ -1,10 +1,13 @@
 -- Laws of runs of words, and of their sum: associative, commutative, and each run its own inverse. Assumes nothing.
-use mathlib.Core.Path.{◌≡◌, refl, sym, ap, ap₂, ◌∙◌}
+use mathlib.Core.Path.{◌≡◌, refl, sym, ap, ap₂, ◌∙◌, subst}
 use mathlib.Core.List.{List, [], ◌∷◌}
 use Prim.Native.Nat.{ℕ, zero, suc, ◌+◌, ◌*◌, ◌/◌, ◌%◌, ◌^◌, ◌<◌, ◌≤◌}
 use native.Mathlib.Omega.{arith}
 use native.Mathlib.Decide.{dec_le}
-use lib.ListN.{length, get_or, set, replicate}
+use denote.Param.Members.{Mut}
+use Rattle.std.specs.Iterator.{ActsAs}
+use Rattle.std.specs.Array.{IsFromFnResultFrom, IsFromFnResult}
+use lib.ListN.{length, get_or, set, replicate, length-set}
 use lib.Seq.{get_or-set_same, get_or-set_other}
 use lib.Bits.{bit_xor, xor_comm, xor_self, xor_zero_r, xor_step, xor_shr, differ}
 use lib.Arith.{bin_ind}
@@ -126,6 +129,11 @@ sum-at (a ∷ s) [] i h g = absurd (omega (arith, g))
 sum-at (a ∷ s) (b ∷ t) zero h g = refl
 sum-at (a ∷ s) (b ∷ t) (suc i) h g = sum-at s t i (omega (arith, h)) (omega (arith, g))
 
+-- the sum of two runs of n, by its elements
+pub sum-is : (n : ℕ) (s t : List ℕ) → length s ≡ n → length t ≡ n → tabulate n (λ i. bit_xor (get_or s i 0) (get_or t i 0)) ≡ sum s t
+sum-is n s t hs ht =
+    sym (tabulate-is n _ (sum s t) (sum-length s t (omega (arith, hs, ht)) ∙ hs) (λ i l. sum-at s t i (omega (arith, hs)) (omega (arith, ht))))
+
 -- every element is a word of w bits
 abbrev pub Words : ℕ → List ℕ → Type 0
 Words w l = (i : ℕ) → get_or l i 0 < 2 ^ w
@@ -141,3 +149,39 @@ filled_more f l n v h e d k g = go (dec_le n k)
     go : Dec (n ≤ k) → get_or (set l n v) k 0 ≡ f k
     go (yes p) = let q : k ≡ n = omega arith in ap (λ (m : ℕ). get_or (set l n v) m 0) q ∙ get_or-set_same l n v 0 h ∙ e ∙ ap f (sym q)
     go (no p) = get_or-set_other l n k v 0 (λ q. omega (arith, q, p)) ∙ d k (omega (arith, p))
+
+-- ---- a loop that adds a run to another from their starts: the elements below k have their sums, and the others stand as they did
+pub record Summed (o s : List ℕ) (k : ℕ) (w : List ℕ) : Type 0 where
+  pub size : length w ≡ length o
+  pub sums : Filled (λ i. bit_xor (get_or o i 0) (get_or s i 0)) w k
+  pub rest : (i : ℕ) → k ≤ i → get_or w i 0 ≡ get_or o i 0
+
+pub summed-none : (o s : List ℕ) → Summed o s 0 o
+summed-none o s = record { size = refl; sums = λ i l. absurd (omega arith); rest = λ i l. refl }
+
+pub summed-more : (o s : List ℕ) (k m : ℕ) (w : List ℕ) {v : ℕ} → k < length o → m ≡ k + 1 → v ≡ bit_xor (get_or o k 0) (get_or s k 0) → Summed o s k w → Summed o s m (set w k v)
+summed-more o s k m w {v} h n e d =
+    let l : length w ≡ length o = d.size in
+    record {
+      size = length-set w k v ∙ l;
+      sums = subst (Filled (λ i. bit_xor (get_or o i 0) (get_or s i 0)) (set w k v)) (sym n) (filled_more (λ i. bit_xor (get_or o i 0) (get_or s i 0)) w k v (omega arith) e d.sums);
+      rest = λ i g. get_or-set_other w k i v 0 (λ q. omega (arith, q)) ∙ d.rest i (omega arith);
+    }
+
+pub summed-all : (o s : List ℕ) (k : ℕ) (w : List ℕ) → length o ≤ k → length s ≡ length o → Summed o s k w → w ≡ sum o s
+summed-all o s k w e h d = tabulate-is (length o) _ w d.size (λ i l. d.sums i (omega arith)) ∙ sum-is (length o) o s refl h
+
+-- ---- a run that a closure made, element by element: of the number of each place it gives h's, and it stays as it was
+made-from : {F : Type 0} (g : Mut F (ℕ × Unit {0}) ℕ) (f : F) (h : ℕ → ℕ) → ActsAs g f h
+    → (ys : List ℕ) (n i : ℕ) → IsFromFnResultFrom g f ys i n → (k : ℕ) → i ≤ k → k < i + n → get_or ys k 0 ≡ h k
+made-from g f h w ys zero i e k a b = absurd (omega arith)
+made-from {F} g f h w ys (suc n) i (q, y, s, c, t) k a b = go (dec_le (i + 1) k)
+    (λ p. made-from g f h w ys n (i + 1) (subst (λ (r : F). IsFromFnResultFrom g r ys (i + 1) n) (w i y q c).0 t) k p (omega arith))
+  where
+    go : Dec (i + 1 ≤ k) → (i + 1 ≤ k → get_or ys k 0 ≡ h k) → get_or ys k 0 ≡ h k
+    go (yes p) m = m p
+    go (no p) m = let r : k ≡ i = omega (arith, p) in ap (λ (j : ℕ). get_or ys j 0) r ∙ s.1 0 ∙ (w i y q c).1 ∙ ap h (sym r)
+
+pub made : {F : Type 0} {g : Mut F (ℕ × Unit {0}) ℕ} {f : F} {ys : List ℕ} {n : ℕ} → IsFromFnResult g f ys n → (h : ℕ → ℕ) → ActsAs g f h
+    → ys ≡ tabulate n h
+made {g} {f} {ys} {n} r h w = tabulate-is n h ys r.long (λ k l. made-from g f h w ys n 0 r.each k (omega arith) (omega arith))

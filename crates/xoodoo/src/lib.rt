@@ -6,6 +6,8 @@ ghost use Rattle.word.specs.Word.{bit, of_bits, rotate_left, ◌⊕◌};
 ghost use Rattle.state.specs.State.{lane, on};
 ghost use Rattle.xoodoo.specs.Xoodoo.{theta, rho_west, iota, chi, rho_east, round, perm};
 
+use std::array;
+
 // One lane of E, from the lane of P to its west: p rotated by 5 plus p rotated by 14.
 fn effect(p: u32) -> u32
     ensures { result ≡ lane (λ z. rotate_left 32 5 (bit p) z ⊕ rotate_left 32 14 (bit p) z) }
@@ -17,36 +19,9 @@ fn effect(p: u32) -> u32
 fn theta_step(a: [u32; 12]) -> [u32; 12]
     ensures { result ≡ on theta a }
 {
-    let a0 = a[0];
-    let a1 = a[1];
-    let a2 = a[2];
-    let a3 = a[3];
-    let b0 = a[4];
-    let b1 = a[5];
-    let b2 = a[6];
-    let b3 = a[7];
-    let c0 = a[8];
-    let c1 = a[9];
-    let c2 = a[10];
-    let c3 = a[11];
-    let e0 = effect(a3 ^ b3 ^ c3);
-    let e1 = effect(a0 ^ b0 ^ c0);
-    let e2 = effect(a1 ^ b1 ^ c1);
-    let e3 = effect(a2 ^ b2 ^ c2);
-    [
-        a0 ^ e0,
-        a1 ^ e1,
-        a2 ^ e2,
-        a3 ^ e3,
-        b0 ^ e0,
-        b1 ^ e1,
-        b2 ^ e2,
-        b3 ^ e3,
-        c0 ^ e0,
-        c1 ^ e1,
-        c2 ^ e2,
-        c3 ^ e3,
-    ]
+    let p: [u32; 4] = array::from_fn(|x| a[x] ^ a[x + 4] ^ a[x + 8]);
+    let e: [u32; 4] = array::from_fn(|x| effect(p[(x + 3) % 4]));
+    array::from_fn(|i| a[i] ^ e[i % 4])
 }
 
 // rho west: A_1 is shifted by (1, 0), and A_2 by (0, 11).
@@ -81,32 +56,7 @@ fn iota_step(mut a: [u32; 12], c: u32) -> [u32; 12]
 fn chi_step(a: [u32; 12]) -> [u32; 12]
     ensures { result ≡ on chi a }
 {
-    let a0 = a[0];
-    let a1 = a[1];
-    let a2 = a[2];
-    let a3 = a[3];
-    let b0 = a[4];
-    let b1 = a[5];
-    let b2 = a[6];
-    let b3 = a[7];
-    let c0 = a[8];
-    let c1 = a[9];
-    let c2 = a[10];
-    let c3 = a[11];
-    [
-        a0 ^ (!b0 & c0),
-        a1 ^ (!b1 & c1),
-        a2 ^ (!b2 & c2),
-        a3 ^ (!b3 & c3),
-        b0 ^ (!c0 & a0),
-        b1 ^ (!c1 & a1),
-        b2 ^ (!c2 & a2),
-        b3 ^ (!c3 & a3),
-        c0 ^ (!a0 & b0),
-        c1 ^ (!a1 & b1),
-        c2 ^ (!a2 & b2),
-        c3 ^ (!a3 & b3),
-    ]
+    array::from_fn(|i| a[i] ^ (!a[(i + 4) % 12] & a[(i + 8) % 12]))
 }
 
 // rho east: A_1 is shifted by (0, 1), and A_2 by (2, 8).
@@ -143,12 +93,5 @@ pub const CONSTANTS: [u32; 6] = [0x60, 0x2C, 0x380, 0xF0, 0x1A0, 0x12];
 pub fn permute(a: [u32; 12]) -> [u32; 12]
     ensures { result ≡ perm a }
 {
-    let mut s = a;
-    let mut i: usize = 0;
-    while i < 6 {
-        let t = round_step(s, CONSTANTS[i]);
-        s = t;
-        i += 1;
-    }
-    s
+    CONSTANTS.iter().copied().fold(a, round_step)
 }

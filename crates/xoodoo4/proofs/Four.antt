@@ -1,23 +1,21 @@
 -- Four states side by side: what is put in is what is taken out, and steps done to each of the four follow one another. Assumes nothing.
 use mathlib.Core.Logic.{◌↔◌}
-use mathlib.Core.Path.{◌≡◌, refl, sym, ap, ap₂, ◌∙◌, subst}
+use mathlib.Core.Path.{◌≡◌, refl, sym, ap, ap₂, ◌∙◌}
 use mathlib.Core.Bool.{Bool, true, false}
-use mathlib.Core.List.{List, []}
+use mathlib.Core.List.{List, [], ◌∷◌}
+use Rattle.std.specs.Prelude.{fold}
 use Prim.Native.Nat.{ℕ, zero, suc, ◌+◌, ◌*◌, ◌/◌, ◌%◌, ◌≤◌, ◌<◌}
 use native.Mathlib.Decide.{dec_le}
-use native.Mathlib.Nat.{mul_comm, mul-le-mul_left}
 use native.Mathlib.Numerals.{add-one}
 use native.Mathlib.Omega.{arith}
-use lib.ListN.{length, get_or, set, drop, length-set}
+use lib.ListN.{length, get_or, set, take, drop, length-set}
 use lib.Bits.{bit_xor}
-use lib.Seq.{get_or-set_same, get_or-set_other}
+use lib.Seq.{get_or-set_same, get_or-set_other, get_or-take, get_or-drop}
 use Rattle.word.specs.Lists.{sum}
-use Rattle.word.proofs.Lists.{tabulate-length, tabulate-at, tabulate-ext, tabulate-is, sum-at, sum-length, Filled, filled_more}
+use Rattle.word.proofs.Lists.{tabulate-length, tabulate-at, tabulate-ext, tabulate-is, sum-at, sum-length, Filled}
 use Rattle.xoodoo.specs.Xoodoo.{round, rounds, perm}
 use Rattle.xoodoo.proofs.Facts.{perm-length}
 use Rattle.state.proofs.Lanes.{lanes-length}
-use Rattle.state.proofs.Bytes.{sum-filled}
-use Rattle.xoodoo.proofs.Steps.{rounds-more}
 use Rattle.xoodoo4.specs.Four.{part, put, beside, each, laid, into}
 
 -- ---- one more lane of state j is stored
@@ -117,6 +115,10 @@ pub beside-filled : (f : ℕ → List ℕ) (w : List ℕ) → length w ≡ 48 �
 unfolding beside
 beside-filled f w h d = tabulate-is 48 (beside_lane f) w h d
 
+pub beside-length : (f : ℕ → List ℕ) → length (beside f) ≡ 48
+unfolding beside
+beside-length f = tabulate-length 48 _
+
 -- four other states, the same ones
 pub beside-ext : (f g : ℕ → List ℕ) → ((j : ℕ) → j < 4 → f j ≡ g j) → beside f ≡ beside g
 unfolding beside
@@ -127,6 +129,10 @@ beside-ext f g e = tabulate-ext 48 _ _ (λ n l. ap (λ (s : List ℕ). get_or s 
 each_part : (F : List ℕ → List ℕ) → ((l : List ℕ) → length (F l) ≡ 12) → (j : ℕ) (w : List ℕ) → j < 4 → part j (each F w) ≡ F (part j w)
 unfolding each
 each_part F h j w l = beside-part (λ j. F (part j w)) j l (h (part j w))
+
+each-length : (F : List ℕ → List ℕ) (w : List ℕ) → length (each F w) ≡ 48
+unfolding each
+each-length F w = beside-length _
 
 -- F of t's states is G of w's
 each-ext : (F G : List ℕ → List ℕ) (t w : List ℕ) → ((j : ℕ) → j < 4 → F (part j t) ≡ G (part j w)) → each F t ≡ each G w
@@ -176,21 +182,15 @@ pub rounds-none : (w : List ℕ) → length w ≡ 48 → w ≡ each (rounds []) 
 unfolding rounds
 rounds-none w h = is-each (rounds []) w w h (λ j l. refl)
 
--- one more, by the next constant
-pub rounds-each : (cs : List ℕ) (i : ℕ) (w t : List ℕ) → i < length cs → t ≡ each (round (get_or cs i 0)) w
-    → each (rounds (drop (i + 1) cs)) t ≡ each (rounds (drop i cs)) w
-rounds-each cs i w t h e =
-    each-ext (rounds (drop (i + 1) cs)) (rounds (drop i cs)) t w
-    (λ j l.
-    ap (λ (v : List ℕ). rounds (drop (i + 1) cs) (part j v)) e
-    ∙ ap (rounds (drop (i + 1) cs)) (each_part (round (get_or cs i 0)) (round-length (get_or cs i 0)) j w l)
-    ∙ rounds-more cs i (part j w) (round (get_or cs i 0) (part j w)) h refl)
+-- those of a run of constants, one after another
+pub fold-each : (cs w : List ℕ) → length w ≡ 48 → fold (λ (v : List ℕ) (c : ℕ). each (round c) v) w cs ≡ each (rounds cs) w
+unfolding rounds
+fold-each [] w h = rounds-none w h
+fold-each (c ∷ cs) w h =
+    fold-each cs (each (round c) w) (each-length (round c) w)
+    ∙ each-ext (rounds cs) (rounds (c ∷ cs)) (each (round c) w) w (λ j l. ap (rounds cs) (each_part (round c) (round-length c) j w l))
 
 -- ---- four states that are laid out
-
--- how far into a run a place may be
-pub step-most : (d i m : ℕ) → i ≤ m → d * i ≤ m * d
-step-most d i m h = subst (λ (n : ℕ). d * i ≤ n) (mul_comm d m) (mul-le-mul_left d h)
 
 pub laid-length : (n dx dy : ℕ) (a : List ℕ) (j : ℕ) → length (laid n dx dy a j) ≡ 12
 unfolding laid
@@ -203,6 +203,12 @@ laid-at n dx dy a j i h = tabulate-at 12 _ i h
 -- a lane that is read
 pub laid-lane : (n dx dy : ℕ) (a : List ℕ) (i j m : ℕ) → i < 12 → m ≡ n + dx * (i % 4) + dy * (i / 4) + j → get_or a m 0 ≡ get_or (laid n dx dy a j) i 0
 laid-lane n dx dy a i j m h e = ap (λ (k : ℕ). get_or a k 0) e ∙ sym (laid-at n dx dy a j i h)
+
+-- the same, from the k places that begin with lane i of state 0
+pub laid-read : (n dx dy : ℕ) (a : List ℕ) (i j k : ℕ) → i < 12 → j < 4 → j < k
+    → get_or (take k (drop (n + dx * (i % 4) + dy * (i / 4)) a)) j 0 ≡ beside_lane (laid n dx dy a) (4 * i + j)
+laid-read n dx dy a i j k h g l =
+    beside-lane (laid n dx dy a) i j g (get_or-take k (drop (n + dx * (i % 4) + dy * (i / 4)) a) j 0 l ∙ get_or-drop _ a j 0 ∙ laid-lane n dx dy a i j _ h refl)
 
 -- 48 lanes side by side are laid out with the steps 4 and 16
 pub laid-part : (w : List ℕ) (j : ℕ) → laid 0 4 16 w j ≡ part j w
@@ -228,10 +234,6 @@ into-sum w v e h = h ∙ ap (λ (b : Bool). into b w v) (sym e)
 pub into-place : {b : Bool} (w v : List ℕ) {s : List ℕ} → b ≡ false → s ≡ v → s ≡ into b w v
 into-place w v e h = h ∙ ap (λ (b : Bool). into b w v) (sym e)
 
-pub beside-length : (f : ℕ → List ℕ) → length (beside f) ≡ 48
-unfolding beside
-beside-length f = tabulate-length 48 _
-
 -- a sum's states are the sums of the states
 pub part-sum : (j : ℕ) (v w : List ℕ) → j < 4 → length v ≡ 48 → length w ≡ 48 → part j (sum v w) ≡ sum (part j v) (part j w)
 part-sum j v w hj hv hw =
@@ -242,28 +244,6 @@ part-sum j v w hj hv hw =
     sum-at (part j v) (part j w) i (omega arith) (omega arith)
     ∙ ap₂ bit_xor (part_at j v i h) (part_at j w i h)
     ∙ sym (sum-at v w (4 * i + j) (omega arith) (omega arith))))
-
--- ---- lanes added one after another: those below k have their sums, and the others stand as they did
-pub record Summed (o s : List ℕ) (k : ℕ) (w : List ℕ) : Type 0 where
-  pub size : length w ≡ 48
-  pub sums : Filled (λ q. bit_xor (get_or o q 0) (get_or s q 0)) w k
-  pub rest : (q : ℕ) → k ≤ q → get_or w q 0 ≡ get_or o q 0
-
-pub summed-none : (o s : List ℕ) → length o ≡ 48 → Summed o s 0 o
-summed-none o s h = record { size = h; sums = λ q l. absurd (omega arith); rest = λ q l. refl }
-
-pub summed-more : (o s : List ℕ) (k : ℕ) (w : List ℕ) → k < 48 → Summed o s k w → Summed o s (k + 1) (set w k (bit_xor (get_or w k 0) (get_or s k 0)))
-summed-more o s k w h d =
-    let n : length w ≡ 48 = d.size in
-    record {
-      size = length-set w k _ ∙ d.size;
-      sums = filled_more (λ q. bit_xor (get_or o q 0) (get_or s q 0)) w k _ (omega arith) (ap (λ (x : ℕ). bit_xor x (get_or s k 0)) (d.rest k (omega arith))) d.sums;
-      rest = λ q l. get_or-set_other w k q _ 0 (λ e. omega (arith, e)) ∙ d.rest q (omega arith);
-    }
-
-pub summed-all : (o s : List ℕ) (k : ℕ) (w : List ℕ) → k ≡ 48 → length o ≡ 48 → length s ≡ 48 → Summed o s k w → w ≡ sum o s
-summed-all o s k w e ho hs d =
-    sum-filled (λ q. get_or s q 0) 48 o w ho d.size (λ q l. d.sums q (omega arith)) ∙ ap (sum o) (sym (tabulate-is 48 (λ q. get_or s q 0) s hs (λ q l. refl)))
 
 -- ---- four permutations side by side
 

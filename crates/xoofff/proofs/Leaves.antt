@@ -1,6 +1,6 @@
 -- What the loops of the leaves hold, over plain values. Assumes nothing.
 use mathlib.Core.Path.{◌≡◌, refl, sym, ap, ap₂, ◌∙◌, subst}
-use mathlib.Core.List.{List, [], ◌∷◌, ◌++◌}
+use mathlib.Core.List.{List, [], ◌∷◌, ◌++◌, append-nil}
 use Prim.Native.Nat.{ℕ, zero, suc, ◌+◌, ◌*◌, ◌-◌, ◌/◌, ◌%◌, ◌≤◌, ◌<◌, min}
 use native.Mathlib.Decide.{dec_le}
 use native.Mathlib.Nat.{zero-add}
@@ -8,7 +8,7 @@ use native.Mathlib.Omega.{arith}
 use lib.Bits.{bit_xor}
 use lib.Dec.{lit<}
 use lib.ListN.{length, get_or, set, take, drop, replicate, get_or-replicate, length-set, length-append, length-drop, get_or-append, get_or-eq_default}
-use lib.Seq.{get_or-set_same, get_or-set_other, get_or-append_seam, get_or-append-add, get_or-take, get_or-drop, length-take-le}
+use lib.Seq.{get_or-set_other, get_or-append_seam, get_or-append-add, get_or-take, get_or-drop, length-take-le, take_all, drop-length}
 use Rattle.word.specs.Lists.{tabulate, sum}
 use Rattle.word.proofs.Lists.{Filled, filled_more, tabulate-is, tabulate-at, tabulate-length, sum-at, sum-length}
 use Rattle.state.specs.Bytes.{from_bytes, state_byte, to_bytes}
@@ -54,25 +54,30 @@ pub record Copied (s : List ℕ) (c at : ℕ) (b : List ℕ) (i : ℕ) : Type 0 
   pub filled : Filled (λ k. closed_at s c (at + k)) b i
   pub clear : Clear b i
 
-pub copied_none : (s : List ℕ) (c at : ℕ) → Copied s c at (replicate 48 0) 0
-copied_none s c at =
+-- n bytes from place `at` on, copied to a block of zeros
+pub copied_all : (s : List ℕ) (c at n : ℕ) (l : List ℕ) → n ≤ 48 → at + n ≡ length s → l ≡ take (length s - at) (drop at s)
+    → Copied s c at (l ++ drop n (replicate 48 0)) n
+copied_all s c at n l h e el =
     record {
-      size = refl;
-      filled = λ k h. absurd (omega arith);
-      clear = λ k h. go k (dec_le 48 k);
+      size = omega (arith, length-append l (drop n (replicate 48 0)), length-drop n (replicate {A = ℕ} 48 0), m, z);
+      filled = λ k g.
+          get_or-append l (drop n (replicate 48 0)) 0 k (omega (arith, m)) ∙ ap (λ (u : List ℕ). get_or u k 0) el
+          ∙ get_or-take (length s - at) (drop at s) k 0 (omega arith) ∙ get_or-drop at s k 0 ∙ closed_in s c (at + k) (omega arith);
+      clear = λ k g.
+          let i : k ≡ length l + (k - n) = omega (arith, m) in
+          ap (λ (u : ℕ). get_or (l ++ drop n (replicate 48 0)) u 0) i ∙ get_or-append-add l (drop n (replicate 48 0)) (k - n) 0
+          ∙ get_or-drop n (replicate 48 0) (k - n) 0 ∙ zeros-at (n + (k - n)) (dec_le 48 (n + (k - n)));
     }
   where
-    go : (k : ℕ) → Dec (48 ≤ k) → ◌≡◌ {A = ℕ} (get_or (replicate 48 0) k 0) 0
-    go k (yes p) = get_or-eq_default (replicate 48 0) 0 p
-    go k (no p) = get_or-replicate 48 k 0 0 (omega (arith, p))
+    z : length (replicate {A = ℕ} 48 0) ≡ 48
+    z = refl
 
-pub copied_byte : (s : List ℕ) (c at : ℕ) (b : List ℕ) (i : ℕ) → i < 48 → at + i < length s → Copied s c at b i → Copied s c at (set b i (get_or s (at + i) 0)) (i + 1)
-copied_byte s c at b i h l d =
-    record {
-      size = length-set b i (get_or s (at + i) 0) ∙ d.size;
-      filled = filled_more (λ k. closed_at s c (at + k)) b i (get_or s (at + i) 0) (omega (arith, d.size)) (closed_in s c (at + i) l) d.filled;
-      clear = clear-more b i (get_or s (at + i) 0) d.clear;
-    }
+    m : length l ≡ n
+    m = ap length el ∙ length-take-le (length s - at) (drop at s) (omega (arith, length-drop at s)) ∙ omega arith
+
+    zeros-at : (k : ℕ) → Dec (48 ≤ k) → ◌≡◌ {A = ℕ} (get_or (replicate 48 0) k 0) 0
+    zeros-at k (yes p) = get_or-eq_default (replicate 48 0) 0 p
+    zeros-at k (no p) = get_or-replicate 48 k 0 0 (omega (arith, p))
 
 -- with the closing byte
 pub closed_block : (s : List ℕ) (c at : ℕ) (b : List ℕ) (n : ℕ) → n < 48 → at + n ≡ length s → Copied s c at b n → set b n c ≡ run (closed_at s c) at 48
@@ -125,27 +130,6 @@ added_none f at o = record { size = refl; sums = λ k h. absurd (omega arith); f
 -- the same numbers, added
 pub added-same : (f g : ℕ → ℕ) (at n : ℕ) {o o' : List ℕ} → ((k : ℕ) → k < n → f k ≡ g k) → Added f at n o o' → Added g at n o o'
 added-same f g at n {o} e d = record { size = d.size; sums = λ k l. d.sums k l ∙ ap (bit_xor (get_or o (at + k) 0)) (e k l); front = d.front; rest = d.rest }
-
--- one more byte
-pub added-byte : (f : ℕ → ℕ) (at i : ℕ) (o o' : List ℕ) (v : ℕ) → at + i < length o → v ≡ bit_xor (get_or o' (at + i) 0) (f i) → Added f at i o o' → Added f at (i + 1) o (set o' (at + i) v)
-added-byte f at i o o' v h e d =
-    record {
-      size = length-set o' (at + i) v ∙ d.size;
-      sums = λ k l. go k l (dec_le i k);
-      front = λ k l. get_or-set_other o' (at + i) k v 0 (λ q. omega (arith, q)) ∙ d.front k l;
-      rest = λ k l. get_or-set_other o' (at + i) k v 0 (λ q. omega (arith, q)) ∙ d.rest k (omega arith);
-    }
-  where
-    go : (k : ℕ) → k < i + 1 → Dec (i ≤ k) → get_or (set o' (at + i) v) (at + k) 0 ≡ bit_xor (get_or o (at + k) 0) (f k)
-    go k l (yes p) =
-        let q : i ≡ k = omega arith in
-        let r : at + k ≡ at + i = omega arith in
-        ap (λ (n : ℕ). get_or (set o' (at + i) v) n 0) r
-        ∙ get_or-set_same o' (at + i) v 0 (omega (arith, d.size))
-        ∙ e
-        ∙ ap (λ (n : ℕ). bit_xor n (f i)) (d.rest (at + i) (omega arith))
-        ∙ ap (λ (n : ℕ). bit_xor (get_or o (at + n) 0) (f n)) q
-    go k l (no p) = get_or-set_other o' (at + i) (at + k) v 0 (λ q. omega (arith, q, p)) ∙ d.sums k (omega (arith, p))
 
 -- a second run directly after the first, from place p on
 pub added-on : (f g : ℕ → ℕ) (at m p n : ℕ) (o o' o'' : List ℕ) → p ≡ at + m → ((k : ℕ) → k < n → g k ≡ f (m + k))
@@ -203,12 +187,26 @@ added-part f at n o b h e =
     behind : (k : ℕ) → get_or (take at o ++ (b ++ drop n (drop at o))) (at + k) 0 ≡ get_or (b ++ drop n (drop at o)) k 0
     behind k = ap (λ (u : ℕ). get_or (take at o ++ (b ++ drop n (drop at o))) (u + k) 0) (sym p) ∙ get_or-append-add (take at o) (b ++ drop n (drop at o)) k 0
 
+-- the same where w bytes were lent
+pub added-lent : (f : ℕ → ℕ) (at n w : ℕ) (o b : List ℕ) → at + n ≤ length o → w ≡ n → b ≡ sum (take w (drop at o)) (tabulate n f)
+    → Added f at n o (take at o ++ (b ++ drop w (drop at o)))
+added-lent f at n w o b h ew eb =
+    subst (λ (v : ℕ). Added f at n o (take at o ++ (b ++ drop v (drop at o)))) (sym ew)
+    (added-part f at n o b h (eb ∙ ap (λ (v : ℕ). sum (take v (drop at o)) (tabulate n f)) ew))
+
+-- n bytes of a block, from byte `skip` on, as bytes
+pub block-part : (l : List ℕ) (skip n w : ℕ) {b : List ℕ} → b ≡ to_bytes l → skip + n ≤ 48 → w ≡ n → take w (drop skip b) ≡ tabulate n (λ k. state_byte l (skip + k))
+block-part l skip n w {b} e h ew =
+    let z : length b ≡ 48 = ap length e ∙ tabulate-length 48 (state_byte l) in
+    tabulate-is n (λ k. state_byte l (skip + k)) (take w (drop skip b)) (length-take-le w (drop skip b) (omega (arith, length-drop skip b)) ∙ ew)
+    (λ k g.
+    get_or-take w (drop skip b) k 0 (omega arith) ∙ get_or-drop skip b k 0 ∙ ap (λ (u : List ℕ). get_or u (skip + k) 0) e
+    ∙ tabulate-at 48 (state_byte l) (skip + k) (omega arith))
+
 -- the same of a block l that goes out whole, where w bytes were lent
 pub added-whole : (l : List ℕ) (at w : ℕ) (o b : List ℕ) → at + 48 ≤ length o → w ≡ 48 → b ≡ sum (take w (drop at o)) (to_bytes l)
     → Added (state_byte l) at 48 o (take at o ++ (b ++ drop w (drop at o)))
-added-whole l at w o b h ew eb =
-    subst (λ (v : ℕ). Added (state_byte l) at 48 o (take at o ++ (b ++ drop v (drop at o)))) (sym ew)
-    (added-part (state_byte l) at 48 o b h (eb ∙ ap (λ (v : ℕ). sum (take v (drop at o)) (to_bytes l)) ew))
+added-whole l at w o b h ew eb = added-lent (state_byte l) at 48 w o b h ew eb
 
 -- so from its first byte on: n is what is there from byte `skip` on and fits
 pub added-block : (l : List ℕ) (skip at n w : ℕ) (o b : List ℕ) → n ≡ min (48 - skip) (length o - at) → 48 ≤ n → w ≡ 48
@@ -219,6 +217,43 @@ added-block l skip at n w o b en h ew eb =
     subst (λ (v : ℕ). Added (λ k. state_byte l (skip + k)) at v o (take at o ++ (b ++ drop w (drop at o)))) e
     (added-same (state_byte l) (λ k. state_byte l (skip + k)) at 48 (λ k g. let i : k ≡ skip + k = omega arith in ap (state_byte l) i)
     (added-whole l at w o b (omega arith) ew eb))
+
+-- what was added to the buffer's rest from place `at` on, which was lent, was added to the buffer
+pub added-rest : (f : ℕ → ℕ) (at n : ℕ) (o b : List ℕ) → at ≤ length o → Added f 0 n (take (length o - at) (drop at o)) b
+    → Added f at n o (take at o ++ (b ++ drop (length o - at) (drop at o)))
+added-rest f at n o b h a = subst (λ (l : List ℕ). Added f at n o (take at o ++ l)) (sym whole) is
+  where
+    t : take (length o - at) (drop at o) ≡ drop at o
+    t = take_all (length o - at) (drop at o) (omega (arith, length-drop at o))
+
+    d : Added f 0 n (drop at o) b
+    d = subst (λ (l : List ℕ). Added f 0 n l b) t a
+
+    p : length (take at o) ≡ at
+    p = length-take-le at o h
+
+    whole : b ++ drop (length o - at) (drop at o) ≡ b
+    whole = ap (λ (u : List ℕ). b ++ u) (ap (λ (m : ℕ). drop m (drop at o)) (sym (length-drop at o)) ∙ drop-length (drop at o)) ∙ append-nil b
+
+    behind : (k : ℕ) → get_or (take at o ++ b) (at + k) 0 ≡ get_or b (0 + k) 0
+    behind k =
+        let z : k ≡ 0 + k = sym (zero-add k) in
+        ap (λ (u : ℕ). get_or (take at o ++ b) (u + k) 0) (sym p) ∙ get_or-append-add (take at o) b k 0 ∙ ap (λ (u : ℕ). get_or b u 0) z
+
+    before : (k : ℕ) → get_or (drop at o) (0 + k) 0 ≡ get_or o (at + k) 0
+    before k = let z : at + (0 + k) ≡ at + k = omega arith in get_or-drop at o (0 + k) 0 ∙ ap (λ (u : ℕ). get_or o u 0) z
+
+    is : Added f at n o (take at o ++ b)
+    is =
+        record {
+          size = omega (arith, length-append (take at o) b, p, d.size, length-drop at o);
+          sums = λ k l. behind k ∙ d.sums k l ∙ ap (λ (u : ℕ). bit_xor u (f k)) (before k);
+          front = λ k l. get_or-append (take at o) b 0 k (omega (arith, p)) ∙ get_or-take at o k 0 l;
+          rest = λ k l.
+              let i : k ≡ at + (k - at) = omega arith in
+              ap (λ (u : ℕ). get_or (take at o ++ b) u 0) i ∙ behind (k - at) ∙ d.rest (0 + (k - at)) (omega arith) ∙ before (k - at)
+              ∙ ap (λ (u : ℕ). get_or o u 0) (sym i);
+        }
 
 -- the whole buffer
 pub added-all : (f : ℕ → ℕ) (n : ℕ) (o o' : List ℕ) → n ≡ length o → Added f 0 n o o' → o' ≡ sum o (tabulate (length o) f)

@@ -20,16 +20,6 @@ pub struct Compressed {
     pub count: u32,
 }
 
-// The smaller of two numbers.
-pub fn smaller(a: usize, b: usize) -> usize
-    ensures { result ≡ min a b }
-{
-    if a < b {
-        return a;
-    }
-    b
-}
-
 // The last block of the string of these bytes and this closing byte: the bytes behind the full blocks, the closing byte, and zeros.
 fn last_block(s: &[u8], closing: u8) -> [u32; 12]
     requires { 0 < closing }
@@ -38,11 +28,7 @@ fn last_block(s: &[u8], closing: u8) -> [u32; 12]
     let n = s.len() % 48;
     let at = 48 * (s.len() / 48);
     let mut b = [0u8; 48];
-    let mut i: usize = 0;
-    while i < n {
-        b[i] = s[at + i];
-        i += 1;
-    }
+    b[..n].copy_from_slice(&s[at..]);
     b[n] = closing;
     state::from_bytes(&b)
 }
@@ -60,9 +46,7 @@ pub fn key_mask(key: &[u8]) -> [u32; 12]
 pub fn add_block(acc: [u32; 12], mask: [u32; 12], b: [u32; 12]) -> [u32; 12]
     ensures { result ≡ sum acc (perm (sum b mask)) }
 {
-    let x = state::add(b, mask);
-    let p = xoodoo::permute(x);
-    state::add(acc, p)
+    state::add(acc, xoodoo::permute(state::add(b, mask)))
 }
 
 // One more string, of these bytes and this closing byte: the full blocks from where they stand, the last one, and the mask rolled once more for
@@ -71,22 +55,17 @@ pub fn compress(d: DeckState, s: &[u8], closing: u8) -> Compressed
     requires { (0 < closing) × (length s.now ≤ 16401) × (d.index ≤ 1048576) }
     ensures { result ≡ compressed d (closed_by s.now closing) }
 {
+    let blocks = s.len() / 48;
     let mut acc = d.acc;
     let mut mask = d.mask;
-    let mut j: usize = 0;
-    while 48 * j + 48 <= s.len() {
+    for j in 0..blocks {
         let b = state::from_bytes_at(s, 48 * j);
-        let x = add_block(acc, mask, b);
-        acc = x;
-        let m = rolling::roll_in(mask);
-        mask = m;
-        j += 1;
+        (acc, mask) = (add_block(acc, mask, b), rolling::roll_in(mask));
     }
     let b = last_block(s, closing);
     let x = add_block(acc, mask, b);
-    let m = rolling::roll_in(mask);
-    let blank = rolling::roll_in(m);
-    let count = j as u32 + 1;
+    let blank = rolling::roll_in(rolling::roll_in(mask));
+    let count = blocks as u32 + 1;
     let index = d.index + count + 1;
     let state = DeckState {
         acc: x,
@@ -101,11 +80,10 @@ pub fn roll_by(y: [u32; 12], n: usize) -> [u32; 12]
     ensures { result ≡ iterate n roll_out y }
 {
     let mut z = y;
-    let mut i: usize = 0;
-    while i < n {
+    for _ in 0..n {
+        // by t: the borrow checker covers no call's result that is laid in an array again
         let t = rolling::roll_out(z);
         z = t;
-        i += 1;
     }
     z
 }
@@ -114,37 +92,33 @@ pub fn roll_by(y: [u32; 12], n: usize) -> [u32; 12]
 fn output_block(y: [u32; 12], mask: &[u32; 12]) -> [u32; 12]
     ensures { result ≡ sum (perm y) mask.now }
 {
-    let p = xoodoo::permute(y);
-    let k = *mask;
-    state::add(p, k)
+    state::add(xoodoo::permute(y), *mask)
 }
 
-// Adds n bytes of a block, from byte `skip` on, to the buffer from byte `at` on.
-fn xor_bytes(block: &[u8; 48], skip: usize, n: usize, at: usize, out: &mut [u8])
-    requires { (skip + n ≤ 48) × (at + n ≤ length out.old) }
-    ensures { Added (λ k. get_or block.now (skip + k) 0) at n out.old out.new }
+// Adds bytes to as many bytes of the buffer.
+fn xor_bytes(bytes: &[u8], out: &mut [u8])
+    requires { length bytes.now ≡ length out.old }
+    ensures { out.new ≡ sum out.old bytes.now }
 {
-    let mut i: usize = 0;
-    while i < n {
-        out[at + i] ^= block[skip + i];
-        i += 1;
+    // by index: after `iter_mut().zip(..)` a proof knows no element
+    for (i, o) in out.iter_mut().enumerate() {
+        *o ^= bytes[i];
     }
 }
 
-// Adds the bytes of a block from byte `skip` on to the buffer from byte `at` on, as many as there are and fit; gives their number. A whole block
-// is added by lanes.
-fn xor_block(block: &[u32; 12], skip: usize, at: usize, out: &mut [u8]) -> usize
-    requires { (skip < 48) × (at ≤ length out.old) }
-    ensures { (result ≡ min (48 - skip) (length out.old - at))
-        × Added (λ k. state_byte block.now (skip + k)) at result out.old out.new }
+// Adds the bytes of a block from byte `skip` on to the buffer, as many as there are and fit; gives their number. A whole block is added by lanes.
+fn xor_block(block: &[u32; 12], skip: usize, out: &mut [u8]) -> usize
+    requires { skip < 48 }
+    ensures { (result ≡ min (48 - skip) (length out.old))
+        × Added (λ k. state_byte block.now (skip + k)) 0 result out.old out.new }
 {
-    let n = smaller(48 - skip, out.len() - at);
+    let n = (48 - skip).min(out.len());
     if n < 48 {
         let b = state::to_bytes(block);
-        xor_bytes(&b, skip, n, at, out);
-        return n;
+        xor_bytes(&b[skip..skip + n], &mut out[0..n]);
+    } else {
+        state::add_bytes(block, &mut out[0..48]);
     }
-    state::add_bytes(block, &mut out[at..at + 48]);
     n
 }
 
@@ -157,12 +131,11 @@ pub fn expand(y: [u32; 12], mask: &[u32; 12], from: usize, out: &mut [u8]) -> u3
     let mut z = roll_by(y, from / 48);
     let mut at: usize = 0;
     let mut count: u32 = 0;
+    // no `for`: `at` goes by as many bytes as a block fills
     while at < out.len() {
         let b = output_block(z, mask);
-        at += xor_block(&b, (from + at) % 48, at, out);
-        let t = rolling::roll_out(z);
-        z = t;
-        count += 1;
+        at += xor_block(&b, (from + at) % 48, &mut out[at..]);
+        (z, count) = (rolling::roll_out(z), count + 1);
     }
     count
 }

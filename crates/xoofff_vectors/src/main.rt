@@ -3,138 +3,123 @@
 // of the output, each on a line. The header: the letter, the closing byte, the length and the offset, the lowest byte first.
 #![tactic(auto)]
 
+ghost use Rattle.std.specs.Prelude.{◌≤◌, length};
+
 use deck::DeckState;
 use std::io::Read;
 
-// A header's fields.
+// The most bytes of a record's data.
+const ROOM: usize = 16401;
+
+// What a record does.
+#[derive(Clone, Copy)]
+enum Operation {
+    SetKey,
+    Output { from: usize },
+    Append { closing: u8 },
+}
+
+// A header: what is done, and how many bytes of data or of output there are.
 #[derive(Clone, Copy)]
 struct Header {
-    letter: u8,
-    closing: u8,
+    operation: Operation,
     len: usize,
-    from: usize,
 }
 
-fn parse(h: &[u8; 6]) -> Header {
-    Header {
-        letter: h[0],
-        closing: h[1],
-        len: hexline::pair(h[2], h[3]),
-        from: hexline::pair(h[4], h[5]),
+// K for the key, O for output, anything else for one more string.
+impl From<[u8; 6]> for Header {
+    fn from([letter, closing, len_low, len_high, from_low, from_high]: [u8; 6]) -> Self {
+        Header {
+            operation: match letter {
+                b'K' => Operation::SetKey,
+                b'O' => Operation::Output {
+                    from: hexline::pair(from_low, from_high),
+                },
+                _ => Operation::Append { closing },
+            },
+            len: hexline::pair(len_low, len_high),
+        }
     }
 }
 
-// A state on a line.
-fn print_state(rt: &impl Print, s: [u32; 12]) {
-    let b = state::to_bytes(&s);
-    hexline::print_line(rt, &b);
-}
-
-// The run of the output from byte `from` on, added to the buffer.
-fn fill(y: [u32; 12], mask: &[u32; 12], from: usize, out: &mut [u8]) {
-    if 40000 < from {
-        return;
-    }
-    if 16401 < out.len() {
-        return;
-    }
-    xoofff::expand(y, mask, from, out);
-}
-
-// The lines of an O.
-fn print_output(rt: &impl Print, d: DeckState, from: usize, out: &mut [u8]) {
-    let index = d.index;
-    let _ = println!(rt; "{index}");
-    let acc = d.acc;
-    let mask = d.mask;
-    print_state(rt, acc);
-    print_state(rt, mask);
-    let y = xoodoo::permute(acc);
-    fill(y, &mask, from, out);
-    hexline::print_line(rt, out);
-}
-
-// The state under a key, before the first string.
-fn opening(key: &[u8], d: DeckState) -> DeckState {
-    if 47 < key.len() {
-        return d;
-    }
-    let k = xoofff::key_mask(key);
-    let z = [0u32; 12];
+// The state of an empty history under a mask.
+fn empty(mask: [u32; 12]) -> DeckState {
     DeckState {
-        acc: z,
-        mask: k,
+        acc: [0; 12],
+        mask,
         index: 0,
     }
 }
 
-// The state after one more string.
-fn appended(d: DeckState, s: &[u8], closing: u8) -> DeckState {
-    if closing == 0 {
-        return d;
+// The lines of an O: the buffer is as long as the run of the output that is added to it.
+fn print_output(rt: &impl Print, d: DeckState, from: usize, out: &mut [u8])
+    requires { length out.old ≤ ROOM }
+{
+    let _ = println!(rt; "{}", d.index);
+    hexline::print_line(rt, &state::to_bytes(&d.acc));
+    hexline::print_line(rt, &state::to_bytes(&d.mask));
+    if from <= 40000 {
+        xoofff::expand(xoodoo::permute(d.acc), &d.mask, from, out);
     }
-    if 16401 < s.len() {
-        return d;
-    }
-    if 1048576 < d.index {
-        return d;
-    }
-    let r = xoofff::compress(d, s, closing);
-    r.state
+    hexline::print_line(rt, out);
 }
 
-// The state after a record.
-fn record(
+// The state under a key, before the first string; a key that is too long changes nothing.
+fn opening(d: DeckState, key: &[u8]) -> DeckState {
+    if key.len() <= 47 {
+        empty(xoofff::key_mask(key))
+    } else {
+        d
+    }
+}
+
+// The state after one more string; none is taken with a closing byte of 0, or once the index is above its limit.
+fn appended(d: DeckState, s: &[u8], closing: u8) -> DeckState
+    requires { length s.now ≤ ROOM }
+{
+    if 0 < closing && d.index <= 1048576 {
+        xoofff::compress(d, s, closing).state
+    } else {
+        d
+    }
+}
+
+// The state after a record, with a buffer for its data; a record with more data is passed over.
+fn after(
     rt: &impl Print,
     input: &mut impl Read,
     d: DeckState,
-    h: Header,
-    data: &mut [u8],
+    header: Header,
+    buffer: &mut [u8; ROOM],
 ) -> DeckState {
-    if h.letter == b'O' {
-        print_output(rt, d, h.from, data);
+    if ROOM < header.len {
         return d;
     }
-    hexline::read_full(input, data);
-    if h.letter == b'K' {
-        return opening(data, d);
+    let data = &mut buffer[..header.len];
+    match header.operation {
+        Operation::SetKey => {
+            hexline::read_full(input, data);
+            opening(d, data)
+        }
+        Operation::Output { from } => {
+            print_output(rt, d, from, data);
+            d
+        }
+        Operation::Append { closing } => {
+            hexline::read_full(input, data);
+            appended(d, data, closing)
+        }
     }
-    appended(d, data, h.closing)
-}
-
-// The same, with a buffer that is to hold the record's bytes; a longer record is passed over.
-fn within(
-    rt: &impl Print,
-    input: &mut impl Read,
-    d: DeckState,
-    h: Header,
-    buffer: &mut [u8],
-) -> DeckState {
-    let n = h.len;
-    if buffer.len() < n {
-        return d;
-    }
-    record(rt, input, d, h, &mut buffer[..n])
 }
 
 fn main(rt: HostRuntime) {
     let mut input = rt.stdin();
-    let z = [0u32; 12];
-    let k = [0u32; 12];
-    let mut d = DeckState {
-        acc: z,
-        mask: k,
-        index: 0,
-    };
-    let mut left: u32 = 4096;
-    while 0 < left {
-        let mut head = [0u8; 6];
+    let mut d = empty([0; 12]);
+    for _ in 0..4096 {
+        let mut head = [0; 6];
         if hexline::read_full(&mut input, &mut head) < 6 {
             return;
         }
-        let mut data = [0u8; 16401];
-        let t = within(&rt, &mut input, d, parse(&head), &mut data);
-        d = t;
-        left -= 1;
+        d = after(&rt, &mut input, d, Header::from(head), &mut [0; ROOM]);
     }
 }

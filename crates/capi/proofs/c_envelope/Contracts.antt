@@ -11,7 +11,7 @@ use contract.Monad.{Fun}
 use contract.Notation.{connectives}
 use denote.Triple.Clauses.{AtExit}
 use denote.Triple.Entry.{Args, Res}
-use Rattle.envelope.specs.Read.{read_parts}
+use Rattle.envelope.specs.Read.{read_parts, read_answer}
 use Rattle.envelope_write.specs.Write.{write_answer, write_buffer, header_answer, header_buffer}
 use Rattle.capi.specs.contracts.c_envelope.pevghazo_read_envelope as read-envelope
 use Rattle.capi.specs.contracts.c_envelope.pevghazo_write_envelope as write-envelope
@@ -23,7 +23,7 @@ module _ {M : Type 1} {𝓤 : Ura M} (𝓛 : Logic 𝓤) (mem : Memory → SProp
   read-envelope-asks κs a = refl
 
   pub read-envelope-ensures : (κs : Lfts 1) (a : Args read-envelope.signature κs) (r : Res read-envelope.signature κs) (z : AtExit read-envelope.ended κs)
-      → (read-envelope.clauses 𝓛 mem run κs a).ensures tt r z ≡ (connectives 𝓤).⌜◌⌝ (r ≡ read_parts a.0.now)
+      → (read-envelope.clauses 𝓛 mem run κs a).ensures tt r z ≡ (connectives 𝓤).⌜◌⌝ (r ≡ read_answer (read_parts a.0.now))
   read-envelope-ensures κs a r z = refl
 
   pub write-envelope-asks : (κs : Lfts 4) (a : Args write-envelope.signature κs) → (write-envelope.clauses 𝓛 mem run κs a).requires tt ≡ (connectives 𝓤).⊤ₛ

@@ -11,8 +11,9 @@ use Rattle.compress4.proofs.add_group.Goals as goal
 pub returns : goal.returns
 returns c =
     let a = c.args in
-    let r = a.r.now in
+    let n = a.row.now.at in
+    let r = a.row.now.words in
     c.permute_into.ensures
     ∙ ap (sum a.sums.now)
-    (group-permuted a.s.now a.at (laid a.n 3 1 r) (laid-length a.n 3 1 r)
-    (c.add_row-w.ensures ∙ ap (λ (v : List ℕ). sum v (beside (laid a.n 3 1 r))) c.blocks_beside.ensures))
+    (group-permuted a.s.now 0 (laid n 3 1 r) (laid-length n 3 1 r)
+    (c.add_row-w.ensures ∙ ap (λ (v : List ℕ). sum v (beside (laid n 3 1 r))) c.blocks_beside.ensures))

@@ -13,22 +13,22 @@ use Rattle.xoodoo4.proofs.Four.{beside_lane, beside-lane, laid-lane}
 use Rattle.compress4.proofs.add_row.Goals as goal
 
 pub loop-i-init : goal.loop-i-init
-loop-i-init c = (omega arith, search rules, λ q h. absurd (omega arith))
+loop-i-init c = (search rules, λ q h. absurd (omega arith))
 
 pub loop-i-preserved : goal.loop-i-preserved
 loop-i-preserved c =
     let l = c.loop-i in
     let a = c.args in
-    let r = a.r.now in
-    let f : ℕ → List ℕ = laid a.n 3 1 r in
+    let r = a.row.now.words in
+    let n = a.row.now.at in
+    let f : ℕ → List ℕ = laid n 3 1 r in
     let z : 4 * l.i ≡ 4 * l.i + 0 = omega arith in
-    let lane : (j m : ℕ) → j < 4 → m ≡ a.n + 3 * (l.i % 4) + l.i / 4 + j → get_or r m 0 ≡ beside_lane f (4 * l.i + j) =
-    λ j m h e. beside-lane f l.i j h (laid-lane a.n 3 1 r l.i j m (omega arith) (omega arith)) in (
-      omega arith,
-      simp length-set l.invariant.1,
-      filled-four (λ q. bit_xor (get_or a.w q 0) (beside_lane f q)) l.t l.i (omega (arith, l.invariant.1))
+    let lane : (j m : ℕ) → j < 4 → m ≡ n + 3 * (l.i % 4) + l.i / 4 + j → get_or r m 0 ≡ beside_lane f (4 * l.i + j) =
+    λ j m h e. beside-lane f l.i j h (laid-lane n 3 1 r l.i j m (omega arith) (omega arith)) in (
+      simp length-set l.invariant.0,
+      filled-four (λ q. bit_xor (get_or a.w q 0) (beside_lane f q)) l.t l.i (omega (arith, l.invariant.0))
           (ap₂ (λ (x y : ℕ). bit_xor (get_or a.w x 0) y) z (lane 0 _ (lit< tt) (omega arith))) (ap (bit_xor (get_or a.w (4 * l.i + 1) 0)) (lane 1 _ (lit< tt) (omega arith)))
-          (ap (bit_xor (get_or a.w (4 * l.i + 2) 0)) (lane 2 _ (lit< tt) (omega arith))) (ap (bit_xor (get_or a.w (4 * l.i + 3) 0)) (lane 3 _ (lit< tt) (omega arith))) l.invariant.2,
+          (ap (bit_xor (get_or a.w (4 * l.i + 2) 0)) (lane 2 _ (lit< tt) (omega arith))) (ap (bit_xor (get_or a.w (4 * l.i + 3) 0)) (lane 3 _ (lit< tt) (omega arith))) l.invariant.1,
     )
 
 pub returns : goal.returns
@@ -36,4 +36,4 @@ unfolding beside
 returns c =
     let l = c.loop-i in
     let a = c.args in
-    sum-filled (beside_lane (laid a.n 3 1 a.r.now)) 48 a.w l.t (search rules) l.invariant.1 (λ q h. l.invariant.2 q (omega arith))
+    sum-filled (beside_lane (laid a.row.now.at 3 1 a.row.now.words)) 48 a.w l.t (search rules) l.invariant.0 (λ q h. l.invariant.1 q (omega arith))

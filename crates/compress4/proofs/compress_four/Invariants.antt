@@ -1,17 +1,11 @@
--- `compress4::compress_four` meets its contract. The loop's invariant: what the string from byte `at` on makes of the state after the bytes before it is
--- what the whole makes of the argument, and the row has the masks of the next four blocks. Assumes nothing.
-use mathlib.Core.Path.{◌≡◌}
-use Prim.Native.Nat.{◌≤◌, ◌-◌, ◌/◌, ◌%◌}
-use lib.ListN.{length}
+-- `compress4::compress_four` meets its contract. The loop's invariant: what the string from the groups taken on makes of the state after them is what
+-- the whole makes of the argument, and the row has the masks of the blocks to come. Assumes nothing.
+use Prim.Native.Nat.{◌*◌, ◌/◌}
 use Rattle.rolling.specs.Rolling.{roll_in}
 use Rattle.deck.specs.Deck.{iterate}
 use Rattle.rows.proofs.Rows.{RowFrom}
 use Rattle.compress4.proofs.Compress.{Taken}
 use Rattle.compress4.proofs.compress_four.Given as goal
 
-abbrev pub invariant-loop-at : goal.invariant-loop-at
-invariant-loop-at l =
-    (l.n ≤ 64) × (l.n % 4 ≡ 0) × Taken l.d l.s l.closing l.sums l.at × RowFrom roll_in (iterate (l.at / 48) roll_in l.d.mask) l.n 16 l.row
-
-abbrev pub decreases-loop-at : goal.decreases-loop-at
-decreases-loop-at l = length l.s - l.at
+abbrev pub invariant-loop-j : goal.invariant-loop-j
+invariant-loop-j l = Taken l.d l.s l.closing l.sums (192 * l.j) × RowFrom roll_in (iterate (192 * l.j / 48) roll_in l.d.mask) l.row.at 20 l.row.words

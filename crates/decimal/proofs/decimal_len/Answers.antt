@@ -1,13 +1,12 @@
--- `decimal::decimal_len` meets its contract. The loop's invariant: the digits counted and those of what is left are one more than the digits
--- of n, and the count stays small. The measure is what is left of the number. Assumes nothing.
-use mathlib.Core.Path.{ap}
+-- `decimal::decimal_len` meets its contract: the powers of ten around a number tell its digits. Assumes nothing.
+use mathlib.Core.Path.{sym, ap}
 use native.Mathlib.Omega.{arith}
-use lib.ListN.{length, length-append}
-use Rattle.decimal.proofs.Laws.{decimal-small, decimal-large}
+use lib.ListN.{length}
+use Rattle.decimal.proofs.Laws.{decimal-small, decimal-length}
 use Rattle.decimal.proofs.decimal_len.Goals as goal
 
-pub loop-v-preserved : goal.loop-v-preserved
-loop-v-preserved c = omega (arith, simp length-append at (ap length (decimal-large c.loop-v.v c.loop-v-test.true)))
+pub returns-in-Some : goal.returns-in-Some
+returns-in-Some c = sym (decimal-length c.in-Some.k c.args.n c.in-Some.ensures.power_le c.in-Some.ensures.next_power_gt)
 
-pub returns : goal.returns
-returns c = omega (arith, ap length (decimal-small c.loop-v.v c.loop-v-test.false))
+pub returns-in-None : goal.returns-in-None
+returns-in-None c = sym (ap length (decimal-small c.args.n (omega (arith, c.in-None.ensures.none))))

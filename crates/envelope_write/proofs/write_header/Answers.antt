@@ -1,31 +1,39 @@
--- `envelope_write::write_header` meets its contract: where no check is met there is room for the header. Assumes nothing.
-use mathlib.Core.Path.{◌∙◌}
+-- `envelope_write::write_header` meets its contract: the header of what is handed in is written where there is room for it. Assumes nothing.
+use Rattle.std.specs.Prelude.{Err}
+use mathlib.Core.Path.{◌≡◌, refl, sym}
 use native.Mathlib.Omega.{arith}
 use lib.ListN.{length}
+use Rattle.refusals.specs.declared.Refusal.TheVariants.{NoRoom}
+use Rattle.decimal.specs.Buffer.{written_at}
 use Rattle.envelope.specs.Layout.{header}
+use Rattle.envelope_write.specs.Checks.{ToWrite}
 use Rattle.envelope_write.specs.Write.{header_number, header_answer, header_buffer}
-use Rattle.envelope_write.proofs.Writing.{header-accepted, stopped, done}
+use Rattle.envelope_write.proofs.WriteSteps.{header-8, header-0}
+use Rattle.envelope_write.proofs.Writing.{range-kept, refused, done}
 use Rattle.envelope_write.proofs.write_header.Goals as goal
 
-pub returns-then-number-ne0 : goal.returns-then-number-ne0
+pub returns-in_err-h : goal.returns-in_err-h
+unfolding header_answer header_buffer header_number
+returns-in_err-h c =
+    let e : c.from_residual.result ≡ Err c.in_err-h.field-0.0 = grind arith in
+    refused _ _ _ c.in_err-h.field-0.0 (range-kept _ _ _ _ c.in_err-h.field-0.0 _ c.in_err-h.ensures) e
+
+pub returns-then-out-len : goal.returns-then-out-len
 unfolding header_answer header_buffer
-returns-then-number-ne0 c =
-    let s = stopped _ _ _ _ c.header_number-number.ensures c.if-number-ne0.true in
-    (c.refused.ensures ∙ s.0, s.1)
-
-pub overflow_cast-alen : goal.overflow_cast-alen
-overflow_cast-alen c = omega (arith, (header-accepted _ _ _ _ _ c.header_number-number.ensures c.if-number-ne0.false).0)
-
-pub overflow_cast-mlen : goal.overflow_cast-mlen
-overflow_cast-mlen c = omega (arith, (header-accepted _ _ _ _ _ c.header_number-number.ensures c.if-number-ne0.false).0)
-
-pub put_header-n-requires : goal.put_header-n-requires
-put_header-n-requires c = (header-accepted _ _ _ _ _ c.header_number-number.ensures c.if-number-ne0.false).1
+returns-then-out-len c =
+    let a = c.args in
+    let q = c.in_ok-h.ensures in
+    let w : ToWrite a.letter a.group a.alen a.mlen = simp (q.0, q.1, q.2, q.3) at c.in_ok-h.h.to_write in
+    let n : c.len.result ≡ length (header a.letter a.group a.alen a.mlen) = simp (q.0, q.1, q.2, q.3) at c.len.ensures in
+    refused _ _ _ NoRoom {r = Err NoRoom} (sym (header-8 _ _ _ _ _ w _ n c.if-out-len.true)) refl
 
 pub returns : goal.returns
 unfolding header_answer header_buffer
 returns c =
     let a = c.args in
-    let put = c.put_header-n.ensures in
+    let q = c.in_ok-h.ensures in
+    let w : ToWrite a.letter a.group a.alen a.mlen = simp (q.0, q.1, q.2, q.3) at c.in_ok-h.h.to_write in
+    let n : c.len.result ≡ length (header a.letter a.group a.alen a.mlen) = simp (q.0, q.1, q.2, q.3) at c.len.ensures in
+    let p : (c.put.result ≡ length (header a.letter a.group a.alen a.mlen)) × (c.put.new.out ≡ written_at a.out.now 0 (header a.letter a.group a.alen a.mlen)) = simp (q.0, q.1, q.2, q.3) at c.put.ensures in
     done (header_number a.letter a.group a.alen a.mlen (length a.out.now)) (header a.letter a.group a.alen a.mlen) a.out.now _ _
-    c.header_number-number.ensures c.if-number-ne0.false put.0 put.1
+    (sym (header-0 _ _ _ _ _ w _ n c.if-out-len.false)) p.0 p.1

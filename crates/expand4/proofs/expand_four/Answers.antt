@@ -10,24 +10,15 @@ overflow_add-result c =
     let a = c.args in
     let x = c.expand-first in
     let g = c.expand_groups-count in
-    let n = c.smaller-head in
+    let n = c.min-head in
     let w = whole_is a.y a.mask.now a.out.now a.from n.result n.ensures c.roll_by-z.ensures c.roll_by-t.ensures x.ensures.0 x.ensures.1 g.ensures.0 g.ensures.1 in
     omega (arith, w.count, blocks-most a.from (length a.out.now))
-
-pub shape_of-out : goal.shape_of-out
-shape_of-out c =
-    let a = c.args in
-    let x = c.expand-first in
-    let g = c.expand_groups-count in
-    let n = c.smaller-head in
-    let w = whole_is a.y a.mask.now a.out.now a.from n.result n.ensures c.roll_by-z.ensures c.roll_by-t.ensures x.ensures.0 x.ensures.1 g.ensures.0 g.ensures.1 in
-    w.size
 
 pub returns : goal.returns
 returns c =
     let a = c.args in
     let x = c.expand-first in
     let g = c.expand_groups-count in
-    let n = c.smaller-head in
+    let n = c.min-head in
     let w = whole_is a.y a.mask.now a.out.now a.from n.result n.ensures c.roll_by-z.ensures c.roll_by-t.ensures x.ensures.0 x.ensures.1 g.ensures.0 g.ensures.1 in
     (w.bytes, w.count)

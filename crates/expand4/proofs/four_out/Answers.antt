@@ -7,4 +7,5 @@ pub returns : goal.returns
 returns c =
     let p = c.permute_into in
     let a = c.args in
-    (p.ensures, four-added (laid a.n 3 1 a.r.now) a.mask.now a.at p.ensures c.add_part.ensures c.add_part-2.ensures c.add_part-3.ensures c.add_part-4.ensures)
+    let r = a.row.now in
+    (p.ensures, four-added (laid r.at 3 1 r.words) a.mask.now a.out.now c.requires.1 p.ensures c.add_part.ensures c.add_part-2.ensures c.add_part-3.ensures c.add_part-4.ensures)

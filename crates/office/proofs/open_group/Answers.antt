@@ -8,4 +8,6 @@ returns-in-Err c =
 
 pub returns : goal.returns
 returns c =
-    let a = c.args in open-stored a.allowance a.key.now a.table.now a.group c.in_default.ensures c.open-r.result _ c.open-r.ensures
+    let a = c.args in
+    open-stored a.allowance a.key.now a.table.now a.group c.in_default.ensures
+    c.open-r.result _ c.open-r.ensures c.into.result c.into.ensures

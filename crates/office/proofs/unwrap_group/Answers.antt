@@ -10,10 +10,12 @@ pub returns-in-Err : goal.returns-in-Err
 returns-in-Err c =
     let a = c.args in
     let i = handed a.metadata.now a.cryptogram.now a.out.now a.tag.now in
-    bare-refused (unwrap_from5 sanse incremental) a.allowance i refl a.table.now a.group c.in-Err.e c.in-Err.ensures c.refused.result c.refused.ensures
+    bare-refused (unwrap_from5 sanse incremental) a.allowance i refl a.table.now a.group c.in-Err.e c.in-Err.ensures
+    c.refused.result c.refused.ensures
 
 pub returns : goal.returns
 returns c =
     let a = c.args in
     let i = handed a.metadata.now a.cryptogram.now a.out.now a.tag.now in
-    bare-stored (unwrap_from5 sanse incremental) a.allowance i refl a.table.now a.group c.in_default.ensures c.unwrap-r.result _ c.unwrap-r.ensures
+    bare-stored (unwrap_from5 sanse incremental) a.allowance i refl a.table.now a.group c.in_default.ensures
+    c.unwrap-r.result _ c.unwrap-r.ensures c.into.result c.into.ensures

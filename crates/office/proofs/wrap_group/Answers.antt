@@ -10,10 +10,12 @@ pub returns-in-Err : goal.returns-in-Err
 returns-in-Err c =
     let a = c.args in
     let i = handed a.metadata.now a.message.now a.out.now a.tag.now in
-    bare-refused (wrap_from5 sanse incremental) a.allowance i refl a.table.now a.group c.in-Err.e c.in-Err.ensures c.refused.result c.refused.ensures
+    bare-refused (wrap_from5 sanse incremental) a.allowance i refl a.table.now a.group c.in-Err.e c.in-Err.ensures
+    c.refused.result c.refused.ensures
 
 pub returns : goal.returns
 returns c =
     let a = c.args in
     let i = handed a.metadata.now a.message.now a.out.now a.tag.now in
-    bare-stored (wrap_from5 sanse incremental) a.allowance i refl a.table.now a.group c.in_default.ensures c.wrap-r.result _ c.wrap-r.ensures
+    bare-stored (wrap_from5 sanse incremental) a.allowance i refl a.table.now a.group c.in_default.ensures
+    c.wrap-r.result _ c.wrap-r.ensures c.into.result c.into.ensures

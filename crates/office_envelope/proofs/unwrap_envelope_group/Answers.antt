@@ -23,4 +23,4 @@ returns c =
     let i = handed_for a.header.now a.metadata.now a.cryptogram.now a.out.now a.tag.now in
     call-stored (unwrap_from5 sanse incremental) a.allowance i a.table.now a.group c.in_default.ensures
     (goes-inside a.header.now (length a.metadata.now) (length a.cryptogram.now) (length a.table.now) a.group c.in_default.ensures)
-    c.unwrap_string-r.result _ c.unwrap_string-r.ensures
+    c.unwrap_string-r.result _ c.unwrap_string-r.ensures c.into.result c.into.ensures

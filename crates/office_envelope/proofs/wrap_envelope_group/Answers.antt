@@ -23,4 +23,4 @@ returns c =
     let i = handed_for a.header.now a.metadata.now a.message.now a.out.now a.tag.now in
     call-stored (wrap_from5 sanse incremental) a.allowance i a.table.now a.group c.in_default.ensures
     (goes-inside a.header.now (length a.metadata.now) (length a.message.now) (length a.table.now) a.group c.in_default.ensures)
-    c.wrap_string-r.result _ c.wrap_string-r.ensures
+    c.wrap_string-r.result _ c.wrap_string-r.ensures c.into.result c.into.ensures

@@ -1,12 +1,9 @@
 -- `rows::state_at` meets its contract. The loop's invariant: the lanes below i stand. Assumes nothing.
 use mathlib.Core.Path.{◌≡◌}
-use Prim.Native.Nat.{◌≤◌, ◌-◌, ◌+◌, ◌*◌, ◌/◌, ◌%◌}
+use Prim.Native.Nat.{◌+◌, ◌*◌, ◌/◌, ◌%◌}
 use lib.ListN.{length, get_or}
 use Rattle.word.proofs.Lists.{Filled}
 use Rattle.rows.proofs.state_at.Given as goal
 
 abbrev pub invariant-loop-i : goal.invariant-loop-i
-invariant-loop-i l = (l.i ≤ 12) × (length l.k ≡ 12) × Filled (λ q. get_or l.r (l.n + 3 * (q % 4) + 1 * (q / 4) + 0) 0) l.k l.i
-
-abbrev pub decreases-loop-i : goal.decreases-loop-i
-decreases-loop-i l = 12 - l.i
+invariant-loop-i l = (length l.k ≡ 12) × Filled (λ q. get_or l.r (l.n + 3 * (q % 4) + 1 * (q / 4) + 0) 0) l.k l.i

@@ -1,14 +1,11 @@
--- `season_lines::first_day_of_line` meets its contract: the test says whether the bytes are a line. Assumes nothing.
-use borrow.Author.Tests.{not-true, not-false}
-use Rattle.season_lines.proofs.Steps.{size-within}
+-- `season_lines::first_day_of_line` meets its contract, whether the bytes are a line or not. Assumes nothing.
+use Rattle.std.proofs.Common.{rules, refl, sym, ap, ◌∙◌}
+use Rattle.issue_line.specs.Read.{found_line}
 use Rattle.season_lines.proofs.FirstDay.{answer-13, answer-line}
 use Rattle.season_lines.proofs.first_day_of_line.Goals as goal
 
-pub returns-then-not-l : goal.returns-then-not-l
-returns-then-not-l c = answer-13 _ _ _ c.read_line-l.ensures (not-true _ c.if-not-l.true)
-
-pub first_day-requires : goal.first_day-requires
-first_day-requires c = size-within _ _ c.read_line-l.ensures (not-false _ c.if-not-l.false)
+pub returns-in_err-l : goal.returns-in_err-l
+returns-in_err-l c = answer-13 _ _ _ _ (search rules) c.read_line.ensures (search rules)
 
 pub returns : goal.returns
-returns c = answer-line _ _ _ c.read_line-l.ensures _ (not-false _ c.if-not-l.false) c.first_day.ensures
+returns c = answer-line _ _ _ (ap found_line (sym c.in_ok-l.ensures.ok_part) ∙ c.read_line.ensures) _ refl c.first_day.ensures

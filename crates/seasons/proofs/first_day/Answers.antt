@@ -1,25 +1,20 @@
 -- `seasons::first_day` meets its contract. The loop's invariant is what the search knows of the day that it looks at; the measure is how far that
 -- day is from the end of the calendar. Assumes nothing.
 use mathlib.Core.Path.{sym, ◌∙◌, subst}
+use Rattle.std.proofs.Common.{rules}
 use native.Mathlib.Omega.{arith}
 use Rattle.days.proofs.Next.{next-later}
-use Rattle.seasons.proofs.Steps.{no-such-day, no-such-date, passes}
-use Rattle.seasons.proofs.Search.{At, start, step, answer-refused, answer-found, answer-none}
+use Rattle.seasons.proofs.Search.{At, passed, start, step, answer-refused, answer-found, answer-none}
 use Rattle.seasons.proofs.first_day.Goals as goal
 
-pub returns-then-not-exists : goal.returns-then-not-exists
-returns-then-not-exists c =
-    answer-refused _ _ _ c.window_of-w.ensures (no-such-day _ _ _ c.exists.ensures c.if-not-exists.true)
-
-pub returns-then-not-good_window : goal.returns-then-not-good_window
-returns-then-not-good_window c =
-    answer-refused _ _ _ c.window_of-w.ensures
-    (no-such-date _ _ _ c.exists.ensures _ c.good_window.ensures c.if-not-good_window.true)
+pub returns-in_err-check_dates : goal.returns-in_err-check_dates
+returns-in_err-check_dates c =
+    answer-refused _ _ _ c.window_of-w.ensures _ c.in_err-check_dates.field-0.0 (search rules) c.in_err-check_dates.ensures
 
 pub loop-d-init : goal.loop-d-init
 loop-d-init c =
-    let there = c.if-not-exists.false in
-    (passes _ _ _ c.exists.ensures _ c.good_window.ensures there c.if-not-good_window.false, start _ _ (sym c.exists.ensures ∙ there))
+    let there = passed _ _ c.in_ok-check_dates.ensures in
+    (there, start _ _ there)
 
 pub returns-then-open_on : goal.returns-then-open_on
 returns-then-open_on c =

@@ -1,10 +1,15 @@
 -- `state::add` meets its contract. Assumes nothing.
-use mathlib.Core.Path.{sym, ap₂}
-use Rattle.word.specs.Lists.{sum}
-use Rattle.state.proofs.Lanes.{twelve}
-use borrow.Author.Rules.{rules}
+use Rattle.std.proofs.Common.{ℕ, refl, ap, get_or, bit_xor, rules, arith}
+use Rattle.word.proofs.Lists.{summed-none, summed-more, summed-all}
 use Rattle.state.proofs.add.Goals as goal
 
+pub loop-i-init : goal.loop-i-init
+loop-i-init g c = summed-none _ _
+
+pub loop-i-preserved : goal.loop-i-preserved
+loop-i-preserved g c =
+    let m = c.loop-i.invariant in
+    summed-more _ _ _ _ _ (search rules) refl (ap (λ (x : ℕ). bit_xor x (get_or c.args.b c.loop-i.i 0)) (m.rest _ (omega arith))) m
+
 pub returns : goal.returns
-unfolding sum
-returns c = sym (ap₂ sum (twelve c.args.a (search rules)) (twelve c.args.b (search rules)))
+returns g c = summed-all _ _ _ _ (search rules) (search rules) c.loop-i.invariant

@@ -1,6 +1,5 @@
 -- `state::to_bytes` meets its contract. Assumes nothing.
 use mathlib.Core.Path.{◌∙◌}
-use borrow.Author.Rules.{rules}
 use Rattle.word.proofs.Lists.{zeros-sum}
 use Rattle.state.specs.Bytes.{state_byte}
 use Rattle.state.proofs.to_bytes.Goals as goal

@@ -1,25 +1,14 @@
--- `xoodoo::permute` meets its contract. The loop's invariant: the rounds that are left make of s what all make of the argument.
--- Assumes nothing.
-use mathlib.Core.Path.{◌≡◌, refl, ◌∙◌, ap}
-use Prim.Native.Nat.{ℕ}
-use native.Mathlib.Omega.{arith}
-use lib.ListN.{drop, length}
-use Rattle.xoodoo.specs.Xoodoo.{perm, rounds, constants}
-use Rattle.xoodoo.proofs.Steps.{rounds-more}
+-- `xoodoo::permute` meets its contract. Assumes nothing.
+use Rattle.std.proofs.Common.{◌≡◌, List, ℕ, ◌∙◌, ap, fold, arith, rules}
+use Rattle.std.proofs.lemmas.Grind.{common_steps}
+use Rattle.xoodoo.specs.Xoodoo.{perm, round, constants}
+use Rattle.xoodoo.proofs.Steps.{fold-rounds}
 use Rattle.xoodoo.proofs.permute.Goals as goal
 
-pub loop-i-init : goal.loop-i-init
-unfolding perm
-loop-i-init c = (omega arith, refl)
-
-pub loop-i-preserved : goal.loop-i-preserved
-loop-i-preserved c =
-    let l = c.loop-i in
-    (omega arith, rounds-more constants l.i l.s c.round_step-t.result (omega arith) c.round_step-t.ensures ∙ l.invariant.1)
-
 pub returns : goal.returns
-unfolding rounds
+unfolding perm
 returns c =
-    let l = c.loop-i in
-    let e : length constants ≡ l.i = omega arith in
-    ap (λ (k : ℕ). rounds (drop k constants) l.s) e ∙ l.invariant.1
+    let w = c.fold.ensures.runs in
+    let e = w.3 (λ (s : List ℕ) (k : ℕ). round k s) (search rules) in
+    let i : w.0.items ≡ constants = grind (arith, common_steps) in
+    e ∙ ap (fold (λ (s : List ℕ) (k : ℕ). round k s) c.args.a) i ∙ fold-rounds constants c.args.a

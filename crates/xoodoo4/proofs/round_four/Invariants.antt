@@ -1,11 +1,7 @@
 -- `xoodoo4::round_four` meets its contract. The loop's invariant: the states below j have done the round. Assumes nothing.
-use Prim.Native.Nat.{◌≤◌, ◌-◌}
 use Rattle.xoodoo.specs.Xoodoo.{round}
 use Rattle.xoodoo4.proofs.Four.{Done}
 use Rattle.xoodoo4.proofs.round_four.Given as goal
 
 abbrev pub invariant-loop-j : goal.invariant-loop-j
-invariant-loop-j l = (l.j ≤ 4) × Done (round l.c) l.w l.j l.r
-
-abbrev pub decreases-loop-j : goal.decreases-loop-j
-decreases-loop-j l = 4 - l.j
+invariant-loop-j l = Done (round l.c) l.w l.j l.r

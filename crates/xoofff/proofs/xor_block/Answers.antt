@@ -1,26 +1,26 @@
 -- `xoofff::xor_block` meets its contract. Assumes nothing.
-use mathlib.Core.Path.{ap, ◌∙◌}
-use mathlib.Core.List.{List}
-use Prim.Native.Nat.{ℕ, ◌+◌, ◌-◌}
+use mathlib.Core.Path.{ap, refl, ◌∙◌}
+use Prim.Native.Nat.{◌+◌, ◌-◌}
 use native.Mathlib.Omega.{arith}
-use lib.ListN.{get_or}
-use Rattle.word.proofs.Lists.{tabulate-at}
+use lib.ListN.{take, drop}
+use Rattle.word.specs.Lists.{sum}
 use Rattle.state.specs.Bytes.{state_byte}
-use Rattle.xoofff.proofs.Leaves.{added-same, added-block}
+use Rattle.xoofff.proofs.Leaves.{added-lent, added-block, block-part}
 use Rattle.xoofff.proofs.xor_block.Goals as goal
 
 pub returns-then-n-lt48 : goal.returns-then-n-lt48
 returns-then-n-lt48 c =
-    let n = c.smaller-n in
+    let n = c.min-n in
     let a = c.args in
-    let b = c.to_bytes-b in (
+    let l = a.block.now in
+    let o = a.out.now in (
       n.ensures,
-      added-same _ (λ k. state_byte a.block.now (a.skip + k)) a.at n.result
-          (λ k h. ap (λ (l : List ℕ). get_or l (a.skip + k) 0) b.ensures ∙ tabulate-at 48 (state_byte a.block.now) (a.skip + k) (omega arith)) c.xor_bytes.ensures,
+      added-lent (λ k. state_byte l (a.skip + k)) 0 n.result (n.result - 0) o c.xor_bytes.new.out (omega arith) (omega arith)
+          (c.xor_bytes.ensures ∙ ap (sum (take (n.result - 0) (drop 0 o))) (block-part l a.skip n.result (a.skip + n.result - a.skip) c.to_bytes-b.ensures (omega arith) (omega arith))),
     )
 
-pub returns : goal.returns
-returns c =
-    let n = c.smaller-n in
+pub returns-else-n-lt48 : goal.returns-else-n-lt48
+returns-else-n-lt48 c =
+    let n = c.min-n in
     let a = c.args in
-    (n.ensures, added-block a.block.now a.skip a.at n.result (a.at + 48 - a.at) a.out.now _ n.ensures (omega arith) (omega arith) c.add_bytes.ensures)
+    (n.ensures, added-block a.block.now a.skip 0 n.result 48 a.out.now c.add_bytes.new.out (omega (arith, n.ensures)) (omega arith) refl c.add_bytes.ensures)

@@ -1,0 +1,2 @@
+-- What the contracts of the crate `sizes` cite.
+pub mod Sizes
