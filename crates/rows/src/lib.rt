@@ -51,7 +51,7 @@ pub struct Row<R> {
 }
 
 // The state whose s_0 is word n. Over words and a place: a row is made, and advances, by it before it is whole.
-fn state_at(r: &[u32; 80], n: usize) -> [u32; 12]
+pub fn state_at(r: &[u32; 80], n: usize) -> [u32; 12]
     requires { n + 12 ≤ 80 }
     ensures { result ≡ state_at n r.now }
 {
@@ -62,8 +62,8 @@ fn state_at(r: &[u32; 80], n: usize) -> [u32; 12]
     k
 }
 
-// Four more words after the state at word n, over words and a place as above.
-fn append<R: Rolling>(r: &mut [u32; 80], n: usize)
+// Four more words after the state at word n, by either rolling; over words and a place as above.
+pub fn append<R: Rolling>(r: &mut [u32; 80], n: usize)
     requires { n + 16 ≤ 80 }
     ensures { r.new ≡ appended R.rolled n r.old }
 {
