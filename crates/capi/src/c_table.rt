@@ -8,7 +8,7 @@ use groups::Record;
 use refusals::Refusal;
 use steps::Answer;
 
-// The answer of the nearly-full question: its number (0: answered), whether a group was found, and the group, 0 where none was.
+// The answer of the nearly-full question: its number (0: answered), whether a group was found, and the group, 0 where none was. What C gets.
 #[repr(C)]
 #[derive(Clone, Copy)]
 pub struct Found {

@@ -50,7 +50,7 @@ pub fn leap(year: u32) -> bool
 }
 
 // How many days a month has, in a leap year or another; 0 where there is no such month.
-// (d) The flag is a fact of the year and switches no step: a window asks it of leap years, without a year.
+// The flag is a fact of the year and switches no step: a window asks it of leap years, without a year.
 #[tactic(auto, unfolding(crate::specs::Days::month_length))]
 pub fn month_length(long: bool, month: u32) -> u32
     ensures { result ≡ month_length long month }

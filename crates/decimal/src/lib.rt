@@ -43,7 +43,8 @@ fn with_digit(max: u32, value: u32, b: u8) -> Option<u32>
     up_to(max, value.checked_mul(10)?.checked_add(d)?)
 }
 
-// The number that stands at a place of some bytes, at most `max` and ended by the byte `end`, and the place after it.
+// The number that stands at a place of some bytes, at most `max` and ended by the byte `end`, and the place after it. It is
+// handed all bytes and a place: the place after the number counts from the start of all, and the readers above go on there.
 pub fn read_decimal(s: &[u8], at: usize, max: u32, end: u8) -> Option<Number>
     ensures { result ≡ read_decimal max end s.now at }
 {

@@ -34,7 +34,7 @@ struct FoundSize {
     next: usize,
 }
 
-// The size that stands at a place: its letter and a comma.
+// The size that stands at a place, as `read_decimal` has places: its letter and a comma.
 #[tactic(auto, using(sizes::proofs::Letters::read, crate::proofs::Steps::size_out), unfolding(crate::specs::Read::read_size))]
 fn read_size(s: &[u8], at: usize) -> Option<FoundSize>
     ensures { result ≡ read_size s.now at }

@@ -34,6 +34,7 @@ const CLOSING_C: u8 = 3;
 pub fn start(key: &[u8], nonce: &[u8], tag: &mut [u8]) -> CallResult<SaeSession>
     ensures { nonce_result result tag.new ≡ nonce_start_at sae_parameters key.now nonce.now tag.old }
 {
+    // from SANE's record to SAE's, which are types of their own for C
     let r = sane::start(key, nonce, tag);
     let left = SaeSession {
         history: r.left.history,

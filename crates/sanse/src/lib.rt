@@ -20,6 +20,7 @@ use refusals::Refusal;
 use steps::{CallResult, Lengths};
 
 // A session: its history, which is the accumulator, the mask at the index and the input index; e; and whether it is open.
+// SANE's and SAE's sessions have the same fields in types of their own, which C's compiler tells apart.
 #[repr(C)]
 #[derive(Clone, Copy)]
 pub struct Session {

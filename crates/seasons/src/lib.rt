@@ -24,7 +24,7 @@ pub struct Windows {
 }
 
 // The answer to the question for the first permitted day: a number; whether there is a day; and the day, or 0.
-// (a) A flag and a number beside the day: C gets this from `pevghazo_first_day`.
+// A flag and a number beside the day: C gets this from `pevghazo_first_day`.
 #[repr(C)]
 #[derive(Clone, Copy)]
 pub struct First {
@@ -98,7 +98,7 @@ pub fn first_day(windows: Windows, size: Size, day: u32) -> Result<Option<u32>, 
 {
     let w = window_of(windows, size);
     check_dates(w, day)?;
-    // (d) A `while`: days are no range, and an iterator of them is a type with a contract of its own in the place of these lines.
+    // A `while`: days are no range, and an iterator of them is a type with a contract of its own in the place of these lines.
     let mut d = day;
     while d <= LAST_DAY {
         if open_on(w, d) {

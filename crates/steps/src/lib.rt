@@ -1,6 +1,7 @@
 // Steps that session modes share: what a call gives, the checks, the strings that enter the history, tag and keystream, and the handling of buffers. A
 // mode's closing bytes, the length of its tag and the offset of its keystream are parameters; so is, as `four`, whether full blocks are taken four
-// side by side (document 02, request 10), of which no contract speaks: it alters nothing but the time.
+// side by side (document 02, request 10), of which no contract speaks: it alters nothing but the time. It stays a `bool`: a type parameter would stand in as
+// many signatures, and each law of clauses (proofs/Contracts of the crates above) would have to be said of two instances.
 #![tactic(auto)]
 
 ghost use Rattle.std.specs.Prelude.{◌≡◌, not, ◌||◌, ◌++◌, ◌+◌, ◌≤◌, ◌<◌, cond, length, replicate, fold, bit_or, bit_xor};
@@ -20,7 +21,8 @@ use xoofff::Compressed;
 
 // ---- what a call gives
 
-// What a call gives beside its buffers: its number (0: accepted), the permutations done, and the record after it.
+// What a call gives beside its buffers: its number (0: accepted), the permutations done, and the record after it. A number and no `Result`:
+// `result_of` (session/specs/Lent) makes one of what C gets, and of that the demands over lent records speak; a refusal by 11 has a count too.
 #[derive(Clone, Copy)]
 pub struct CallResult<S> {
     pub number: u32,
@@ -126,6 +128,7 @@ pub fn check(opened: bool, index: u32, wanted: usize, n: Lengths) -> Result<(), 
 
 // The history gains A, which is the header's bytes `head` and then the metadata `a`, with this closing byte, if A is not empty or the text is. The
 // metadata is read where it stands.
+// That an index is within the limit is asked of each call, and is no invariant of `DeckState`: C lends sessions with any index, and check 9 comes first.
 pub fn append_metadata(
     d: DeckState,
     head: &[u8],

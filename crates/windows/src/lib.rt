@@ -15,7 +15,7 @@ const FIRST_OF_MARCH: u32 = 301;
 const LAST_OF_FEBRUARY: u32 = 228;
 
 // A window: the month and day on which it opens and on which it closes, both included. One that opens later than it closes runs over New Year.
-// (a) Four bytes and not two dates: C lends this, to `pevghazo_first_day` and `pevghazo_pool_add_in_season`.
+// Four bytes and not two dates: C lends this, to `pevghazo_first_day` and `pevghazo_pool_add_in_season`.
 #[repr(C)]
 #[derive(Clone, Copy)]
 pub struct Window {
