@@ -60,7 +60,7 @@ fn add_group(sums: &mut [u32; 48], s: &[u8], row: &Row<Input>)
 fn add_four(x: [u32; 12], w: &[u32; 48]) -> [u32; 12]
     ensures { result ≡ add_four x w.now }
 {
-    // no loop: the borrow checker covers no call's result that is laid in an array again
+    // no loop: its step `x = state::add(x, ..)` got no proof, as a call's result laid in the array that it was handed
     let p = state::add(x, xoodoo4::part(w, 0));
     let q = state::add(p, xoodoo4::part(w, 1));
     let r = state::add(q, xoodoo4::part(w, 2));

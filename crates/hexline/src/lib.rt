@@ -1,5 +1,5 @@
 // What the programs over test vectors share: bytes of standard input, bytes on standard output as lines of hexadecimal digits, and numbers of
-// two bytes. A write that fails is passed over, and a read that fails ends the input.
+// two bytes. A write that fails ends the text of that call and is passed over, and a read that fails ends the input.
 #![tactic(auto)]
 
 ghost use Rattle.std.specs.Prelude.{◌≡◌, ◌+◌, ◌*◌, ◌<◌, ◌≤◌, length, Some};
