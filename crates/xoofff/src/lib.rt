@@ -81,7 +81,7 @@ pub fn roll_by(y: [u32; 12], n: usize) -> [u32; 12]
 {
     let mut z = y;
     for _ in 0..n {
-        // by t, since `z = roll_out(z)` got no proof; nor did `(0..n).fold(..)`, whose power of `roll_out` is not the one of the clause
+        // by t, since `z = roll_out(z)` got no proof; nor did `(0..n).fold(..)`
         let t = rolling::roll_out(z);
         z = t;
     }
