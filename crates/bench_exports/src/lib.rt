@@ -8,7 +8,7 @@ ghost use Rattle.deck.specs.Deck.{output_byte, run};
 ghost use Rattle.xoofff.specs.Leaves.{output_blocks};
 ghost use Rattle.bench_exports.specs.Bench.{acc_after, mask_after};
 
-use deck::DeckState;
+use deck::{Closing, DeckState};
 
 // The permutation, in place.
 #[unsafe(no_mangle)]
@@ -30,7 +30,7 @@ pub extern "C" fn pevghazo_compress(acc: &mut [u32; 12], mask: &mut [u32; 12], s
         mask: *mask,
         index: 0,
     };
-    let r = xoofff::compress(d, s, 1);
+    let r = xoofff::compress(d, s, Closing { byte: 1 });
     (*acc, *mask) = (r.state.acc, r.state.mask);
 }
 
@@ -57,7 +57,7 @@ pub extern "C" fn pevghazo_compress_four(acc: &mut [u32; 12], mask: &mut [u32; 1
         mask: *mask,
         index: 0,
     };
-    let r = compress4::compress_four(d, s, 1);
+    let r = compress4::compress_four(d, s, Closing { byte: 1 });
     (*acc, *mask) = (r.state.acc, r.state.mask);
 }
 

@@ -2,7 +2,7 @@
 -- 32 bits, whatever the string's length. Assumes nothing.
 use mathlib.Core.List.{List}
 use mathlib.Core.Path.{◌≡◌, refl}
-use Prim.Native.Nat.{ℕ, ◌+◌, ◌<◌, ◌≤◌}
+use Prim.Native.Nat.{ℕ, ◌+◌, ◌≤◌}
 use native.Mathlib.Omega.{arith}
 use lib.ListN.{length}
 use seplogic.Ra.Ura.{Ura}
@@ -31,7 +31,7 @@ module _ {M : Type 1} {𝓤 : Ura M} (𝓛 : Logic 𝓤) (mem : Memory → SProp
 
   pub four-asks : (κs : Lfts 1) (a : Args compress.signature κs)
       → (compress-four.clauses 𝓛 mem run κs a).requires tt
-      ≡ (connectives 𝓤).⌜◌⌝ ((0 < a.1.1.0) × (a.0.index + b (length a.1.0.now) + 1 ≤ 4294967295))
+      ≡ (connectives 𝓤).⌜◌⌝ (a.0.index + b (length a.1.0.now) + 1 ≤ 4294967295)
   four-asks κs a = refl
 
 -- so it is for every string and every index for which the index afterwards is within the limit of document 01

@@ -11,7 +11,7 @@ ghost use Rattle.deck.specs.Closing.{closed_by};
 ghost use Rattle.xoofff.specs.Leaves.{compressed};
 ghost use Rattle.compress4.specs.Four.{add_four, block_at};
 
-use deck::DeckState;
+use deck::{Closing, DeckState};
 use rows::{Input, Row};
 use xoofff::Compressed;
 
@@ -69,9 +69,9 @@ fn add_four(x: [u32; 12], w: &[u32; 48]) -> [u32; 12]
 
 // One more string, of these bytes and this closing byte: what `xoofff::compress` gives, with full blocks taken four at a time and the leftover by
 // that function. It is for every string and every index for which the index afterwards fits into its 32 bits, and so for all within the limit.
-pub fn compress_four(d: DeckState, s: &[u8], closing: u8) -> Compressed
-    requires { (0 < closing) × (d.index + b (length s.now) + 1 ≤ 4294967295) }
-    ensures { result ≡ compressed d (closed_by s.now closing) }
+pub fn compress_four(d: DeckState, s: &[u8], closing: Closing) -> Compressed
+    requires { d.index + b (length s.now) + 1 ≤ 4294967295 }
+    ensures { result ≡ compressed d (closed_by s.now closing.byte) }
 {
     let groups = s.len() / 192;
     let mut sums = [0u32; 48];
@@ -100,9 +100,9 @@ pub fn compress_four(d: DeckState, s: &[u8], closing: u8) -> Compressed
 }
 
 // One more string, of these bytes and this closing byte: four full blocks at a time where `four` says so.
-pub fn compress_by(d: DeckState, s: &[u8], closing: u8, four: bool) -> Compressed
-    requires { (0 < closing) × (length s.now ≤ 16401) × (d.index ≤ 1048576) }
-    ensures { result ≡ compressed d (closed_by s.now closing) }
+pub fn compress_by(d: DeckState, s: &[u8], closing: Closing, four: bool) -> Compressed
+    requires { (length s.now ≤ 16401) × (d.index ≤ 1048576) }
+    ensures { result ≡ compressed d (closed_by s.now closing.byte) }
 {
     if four {
         return compress_four(d, s, closing);

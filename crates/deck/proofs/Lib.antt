@@ -1,5 +1,5 @@
 -- Laws of strings and of the deck function.
-pub mod Closing
+pub mod ClosingBytes
 pub mod Strings
 pub mod Deck
 pub mod Incremental

@@ -18,7 +18,7 @@ use Rattle.state.specs.Bytes.{string_state, from_string, string_bit, byte_bit, f
 use Rattle.state.proofs.Lanes.{lanes-ext, bits-of-lanes}
 use Rattle.deck.specs.Strings.{Str, bits_of_byte, bits_of_bytes, bits_of, padded, blocks, block, b, framed}
 use Rattle.deck.specs.Closing.{closing_byte, frame_bits, closed_by}
-use Rattle.deck.proofs.Closing.{frame-length, closing-frame, closing-bits}
+use Rattle.deck.proofs.ClosingBytes.{frame-length, closing-frame, closing-bits}
 
 -- ---- the padding
 

@@ -5,7 +5,7 @@ ghost use Rattle.std.specs.Prelude.{◌≡◌, ◌++◌, ◌+◌, ◌≤◌, ◌
 ghost use Rattle.deck.specs.Closing.{closed_by};
 ghost use Rattle.xoofff.specs.Leaves.{compressed};
 
-use deck::DeckState;
+use deck::{Closing, DeckState};
 use xoofff::Compressed;
 
 // A block that begins with the first n bytes of `head` followed by `s`.
@@ -22,9 +22,15 @@ fn assemble(head: &[u8], s: &[u8], n: usize) -> [u8; 48]
 
 // One more string, of the bytes of `head` followed by those of `s`, and this closing byte: the first block is assembled, and every other full
 // block is read where it stands in `s`, four at a time where `four` says so.
-pub fn compress_joined(d: DeckState, head: &[u8], s: &[u8], closing: u8, four: bool) -> Compressed
-    requires { (0 < closing) × (length head.now ≤ 48) × (length head.now + length s.now ≤ 16401) × (d.index ≤ 1048576) }
-    ensures { result ≡ compressed d (closed_by (head.now ++ s.now) closing) }
+pub fn compress_joined(
+    d: DeckState,
+    head: &[u8],
+    s: &[u8],
+    closing: Closing,
+    four: bool,
+) -> Compressed
+    requires { (length head.now ≤ 48) × (length head.now + length s.now ≤ 16401) × (d.index ≤ 1048576) }
+    ensures { result ≡ compressed d (closed_by (head.now ++ s.now) closing.byte) }
 {
     let h = head.len();
     let n = h + s.len();

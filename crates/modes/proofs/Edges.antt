@@ -13,7 +13,7 @@ use Rattle.state.specs.State.{lanes}
 use Rattle.rolling.specs.Rolling.{roll_in, roll_out}
 use Rattle.deck.specs.Strings.{bits_of, padded, framed}
 use Rattle.deck.specs.Closing.{closing_byte}
-use Rattle.deck.proofs.Closing.{closing-lt}
+use Rattle.deck.proofs.ClosingBytes.{closing-lt}
 use Rattle.deck.proofs.Strings.{padded-byte_bit}
 use Rattle.modes.specs.Mode.{sanse_count, sane_count}
 use Rattle.modes.specs.Rules.{growth, start_at, nonce_start_at}

@@ -9,7 +9,7 @@ use lib.ListN.{length}
 use Rattle.deck.specs.Strings.{b, blocks, framed}
 use Rattle.deck.specs.Closing.{closing_byte, closed_by}
 use Rattle.xoofff.specs.Leaves.{output_blocks}
-use Rattle.deck.proofs.Closing.{closed_by-closing}
+use Rattle.deck.proofs.ClosingBytes.{closed_by-closing}
 use Rattle.deck.proofs.Strings.{blocks_is}
 use Rattle.modes.specs.Mode.{is_empty, sanse_parameters, sanse_count, ceiling48, sane_parameters, sane_count}
 

@@ -8,7 +8,7 @@ ghost use Rattle.modes.specs.Rules.{nonce_start_at};
 ghost use Rattle.sae_mode.specs.Sae.{sae_parameters, sae_wrap_at, sae_unwrap_at};
 ghost use Rattle.sae.specs.Session.{state_of, nonce_result, call_result, handed};
 
-use deck::DeckState;
+use deck::{Closing, DeckState};
 use refusals::Refusal;
 use steps::{CallResult, Lengths};
 
@@ -23,9 +23,9 @@ pub struct SaeSession {
 }
 
 // The bytes that follow the strings of A and of the cryptogram: their one frame bit, 0 or 1, and the padding bit.
-const CLOSING_A: u8 = 2;
+const CLOSING_A: Closing = Closing { byte: 2 };
 
-const CLOSING_C: u8 = 3;
+const CLOSING_C: Closing = Closing { byte: 3 };
 
 // ---- the calls
 

@@ -10,7 +10,7 @@ ghost use Rattle.modes.specs.Mode.{sane, sane_parameters, incremental};
 ghost use Rattle.modes.specs.Rules.{wrap_from5, unwrap_from5, wrap_at, unwrap_at, nonce_check, nonce_start_at};
 ghost use Rattle.sane.specs.Session.{state_of, nonce_result, call_result, handed, handed_for};
 
-use deck::DeckState;
+use deck::{Closing, DeckState};
 use envelope::LETTER_N;
 use refusals::Refusal;
 use steps::{CallResult, Lengths};
@@ -28,15 +28,16 @@ pub struct SaneSession {
 
 // The byte that follows a string: its kind (0: A, 1: the cryptogram), e, and the padding bit.
 #[tactic(auto, unfolding(deck::specs::Closing::closing_byte))]
-fn closing(cryptogram: bool, e: bool) -> u8
-    ensures { result ≡ closing_byte (cryptogram ∷ e ∷ []) }
+fn closing(cryptogram: bool, e: bool) -> Closing
+    ensures { result.byte ≡ closing_byte (cryptogram ∷ e ∷ []) }
 {
-    match (cryptogram, e) {
+    let byte = match (cryptogram, e) {
         (false, false) => 4,
         (true, false) => 5,
         (false, true) => 6,
         (true, true) => 7,
-    }
+    };
+    Closing { byte }
 }
 
 // The first of the checks 4, 6 and 7 that a start meets, by the lengths of key, nonce and tag buffer.
@@ -95,7 +96,7 @@ pub fn start(key: &[u8], nonce: &[u8], tag: &mut [u8]) -> CallResult<SaneSession
         mask: xoofff::key_mask(key),
         ..zero
     };
-    let h = xoofff::compress(empty, nonce, 1);
+    let h = xoofff::compress(empty, nonce, Closing { byte: 1 });
     let t = steps::tag_of(h.state, tag);
     let left = SaneSession {
         history: h.state,

@@ -14,7 +14,7 @@ ghost use Rattle.modes.specs.Rules.{written, wrap_from5, unwrap_from5, wrap_at, 
 ghost use Rattle.steps.specs.Steps.{output_count};
 ghost use Rattle.sanse.specs.Session.{state_of, start_result, call_result, handed, handed_for};
 
-use deck::DeckState;
+use deck::{Closing, DeckState};
 use envelope::LETTER_S;
 use refusals::Refusal;
 use steps::{CallResult, Lengths};
@@ -33,34 +33,47 @@ pub struct Session {
 
 // After A: 0, e.
 #[tactic(auto, unfolding(deck::specs::Closing::closing_byte))]
-fn closing_a(e: bool) -> u8
-    ensures { result ≡ closing_byte (false ∷ e ∷ []) }
+fn closing_a(e: bool) -> Closing
+    ensures { result.byte ≡ closing_byte (false ∷ e ∷ []) }
 {
-    if e { 6 } else { 4 }
+    Closing {
+        byte: if e { 6 } else { 4 },
+    }
 }
 
 // After M: 0, 1, e.
 #[tactic(auto, unfolding(deck::specs::Closing::closing_byte))]
-fn closing_m(e: bool) -> u8
-    ensures { result ≡ closing_byte (false ∷ true ∷ e ∷ []) }
+fn closing_m(e: bool) -> Closing
+    ensures { result.byte ≡ closing_byte (false ∷ true ∷ e ∷ []) }
 {
-    if e { 14 } else { 10 }
+    Closing {
+        byte: if e { 14 } else { 10 },
+    }
 }
 
 // After T: 1, 1, e.
 #[tactic(auto, unfolding(deck::specs::Closing::closing_byte))]
-fn closing_t(e: bool) -> u8
-    ensures { result ≡ closing_byte (true ∷ true ∷ e ∷ []) }
+fn closing_t(e: bool) -> Closing
+    ensures { result.byte ≡ closing_byte (true ∷ true ∷ e ∷ []) }
 {
-    if e { 15 } else { 11 }
+    Closing {
+        byte: if e { 15 } else { 11 },
+    }
 }
 
 // ---- parts of the calls
 
 // A text plus the keystream of the history with the tag goes to the start of a buffer; gives the permutations done, none for an empty text.
-fn add_body(d: DeckState, text: &[u8], tag: &[u8], closing: u8, out: &mut [u8], four: bool) -> u32
-    requires { (0 < closing) × (length tag.now ≤ 16401) × (d.index ≤ 1048576) × (length text.now ≤ 16384) × (length text.now ≤ length out.old) }
-    ensures adds { out.new ≡ written (sum text.now (run (output (append d (closed_by tag.now closing))) 0 (length text.now))) out.old }
+fn add_body(
+    d: DeckState,
+    text: &[u8],
+    tag: &[u8],
+    closing: Closing,
+    out: &mut [u8],
+    four: bool,
+) -> u32
+    requires { (length tag.now ≤ 16401) × (d.index ≤ 1048576) × (length text.now ≤ 16384) × (length text.now ≤ length out.old) }
+    ensures adds { out.new ≡ written (sum text.now (run (output (append d (closed_by tag.now closing.byte))) 0 (length text.now))) out.old }
     ensures counts { result ≡ cond (is_empty text.now) 0 (b (length tag.now) + output_count 0 (length text.now)) }
     ensures few { result ≤ 81939 }
 {

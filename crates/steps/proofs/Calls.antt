@@ -16,7 +16,7 @@ use Rattle.deck.specs.Strings.{b, framed}
 use Rattle.deck.specs.Incremental.{append}
 use Rattle.deck.specs.Closing.{closing_byte, closed_by}
 use Rattle.xoofff.specs.Leaves.{compressed}
-use Rattle.deck.proofs.Closing.{closed_by-closing, closing-pos}
+use Rattle.deck.proofs.ClosingBytes.{closed_by-closing}
 use Rattle.deck.proofs.Strings.{blocks_is}
 use Rattle.modes.specs.Call.{CallHeader, bare, under, CallInput}
 use Rattle.modes.specs.Header.{header_fits}
@@ -100,11 +100,10 @@ Within m s i =
 pub within : (m : Mode) (s : SessionState DeckState) (i : CallInput) → 0 ≡ first_of m s i → Within m s i
 within m s i z = passed s.opened _ _ _ _ _ _ (sym z)
 
--- so the history can gain A, with this closing byte, where the header has k bytes
-pub begins : (m : Mode) (s : SessionState DeckState) (i : CallInput) {c k : ℕ} → Within m s i → k ≤ 17
-    → c ≡ closing_byte (m.parameters.frame_a s.toggle) → (0 < c) × (k ≤ 17) × (length i.metadata ≤ 16384) × (s.history.index ≤ 1048576)
-begins m s i w h closes = (
-  omega (arith, closes, closing-pos (m.parameters.frame_a s.toggle)),
+-- so the history can gain A, where the header has k bytes
+pub begins : (m : Mode) (s : SessionState DeckState) (i : CallInput) {k : ℕ} → Within m s i → k ≤ 17
+    → (k ≤ 17) × (length i.metadata ≤ 16384) × (s.history.index ≤ 1048576)
+begins m s i w h = (
   h,
   w.metadata,
   omega (arith, w.index),

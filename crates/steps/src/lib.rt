@@ -15,7 +15,7 @@ ghost use Rattle.modes.specs.Mode.{is_empty};
 ghost use Rattle.modes.specs.Rules.{growth, first_check_of, written, same_bytes};
 ghost use Rattle.steps.specs.Steps.{compressed_if, output_count};
 
-use deck::DeckState;
+use deck::{Closing, DeckState};
 use refusals::Refusal;
 use xoofff::Compressed;
 
@@ -134,12 +134,12 @@ pub fn append_metadata(
     head: &[u8],
     a: &[u8],
     m: &[u8],
-    closing: u8,
+    closing: Closing,
     four: bool,
 ) -> Compressed
-    requires { (0 < closing) × (length head.now ≤ 17) × (length a.now ≤ 16384) × (d.index ≤ 1048576) }
+    requires { (length head.now ≤ 17) × (length a.now ≤ 16384) × (d.index ≤ 1048576) }
     ensures gives { result ≡ compressed_if (not (is_empty (head.now ++ a.now)) || is_empty m.now) d
-        (closed_by (head.now ++ a.now) closing) }
+        (closed_by (head.now ++ a.now) closing.byte) }
     ensures few { result.count ≤ 16402 }
 {
     if head.len() != 0 {
@@ -152,9 +152,9 @@ pub fn append_metadata(
 }
 
 // The history gains a text, with this closing byte, if it is not empty.
-pub fn append_text(d: DeckState, text: &[u8], closing: u8, four: bool) -> Compressed
-    requires { (0 < closing) × (length text.now ≤ 16401) × (d.index ≤ 1048576) }
-    ensures gives { result ≡ compressed_if (not (is_empty text.now)) d (closed_by text.now closing) }
+pub fn append_text(d: DeckState, text: &[u8], closing: Closing, four: bool) -> Compressed
+    requires { (length text.now ≤ 16401) × (d.index ≤ 1048576) }
+    ensures gives { result ≡ compressed_if (not (is_empty text.now)) d (closed_by text.now closing.byte) }
     ensures few { result.count ≤ 16402 }
 {
     if text.len() == 0 {
@@ -213,11 +213,11 @@ pub fn add_stream(d: DeckState, offset: usize, text: &[u8], out: &mut [u8], four
 }
 
 // The history gains a text, with this closing byte, if it is not empty, and its tag fills a buffer; gives the history and the permutations done.
-pub fn finish(d: DeckState, text: &[u8], closing: u8, tag: &mut [u8], four: bool) -> Compressed
-    requires { (0 < closing) × (length text.now ≤ 16401) × (length tag.old ≤ 65536) × (d.index ≤ 1048576) }
-    ensures gains { result.state ≡ (compressed_if (not (is_empty text.now)) d (closed_by text.now closing)).state }
+pub fn finish(d: DeckState, text: &[u8], closing: Closing, tag: &mut [u8], four: bool) -> Compressed
+    requires { (length text.now ≤ 16401) × (length tag.old ≤ 65536) × (d.index ≤ 1048576) }
+    ensures gains { result.state ≡ (compressed_if (not (is_empty text.now)) d (closed_by text.now closing.byte)).state }
     ensures fills { tag.new ≡ run (output result.state) 0 (length tag.old) }
-    ensures counts { result.count ≡ (compressed_if (not (is_empty text.now)) d (closed_by text.now closing)).count + output_count 0 (length tag.old) }
+    ensures counts { result.count ≡ (compressed_if (not (is_empty text.now)) d (closed_by text.now closing.byte)).count + output_count 0 (length tag.old) }
     ensures few { result.count ≤ 81939 }
 {
     let h = append_text(d, text, closing, four);

@@ -11,7 +11,7 @@ ghost use Rattle.deck.specs.Deck.{iterate, key_mask, output_byte, run};
 ghost use Rattle.deck.specs.Closing.{closed_by};
 ghost use Rattle.xoofff.specs.Leaves.{compressed, output_blocks, Added};
 
-use deck::DeckState;
+use deck::{Closing, DeckState};
 
 // The state after one more string, and the permutations done for it.
 #[derive(Clone, Copy)]
@@ -21,15 +21,14 @@ pub struct Compressed {
 }
 
 // The last block of the string of these bytes and this closing byte: the bytes behind the full blocks, the closing byte, and zeros.
-fn last_block(s: &[u8], closing: u8) -> [u32; 12]
-    requires { 0 < closing }
-    ensures { result ≡ block (closed_by s.now closing) (length s.now / 48) }
+fn last_block(s: &[u8], closing: Closing) -> [u32; 12]
+    ensures { result ≡ block (closed_by s.now closing.byte) (length s.now / 48) }
 {
     let n = s.len() % 48;
     let at = 48 * (s.len() / 48);
     let mut b = [0u8; 48];
     b[..n].copy_from_slice(&s[at..]);
-    b[n] = closing;
+    b[n] = closing.byte;
     state::from_bytes(&b)
 }
 
@@ -38,7 +37,7 @@ pub fn key_mask(key: &[u8]) -> [u32; 12]
     requires { length key.now ≤ 47 }
     ensures { result ≡ key_mask key.now }
 {
-    let b = last_block(key, 1);
+    let b = last_block(key, Closing { byte: 1 });
     xoodoo::permute(b)
 }
 
@@ -51,9 +50,9 @@ pub fn add_block(acc: [u32; 12], mask: [u32; 12], b: [u32; 12]) -> [u32; 12]
 
 // One more string, of these bytes and this closing byte: the full blocks from where they stand, the last one, and the mask rolled once more for
 // the blank index.
-pub fn compress(d: DeckState, s: &[u8], closing: u8) -> Compressed
-    requires { (0 < closing) × (length s.now ≤ 16401) × (d.index ≤ 1048576) }
-    ensures { result ≡ compressed d (closed_by s.now closing) }
+pub fn compress(d: DeckState, s: &[u8], closing: Closing) -> Compressed
+    requires { (length s.now ≤ 16401) × (d.index ≤ 1048576) }
+    ensures { result ≡ compressed d (closed_by s.now closing.byte) }
 {
     let blocks = s.len() / 48;
     let mut acc = d.acc;

@@ -5,7 +5,7 @@
 
 ghost use Rattle.std.specs.Prelude.{◌≤◌, length};
 
-use deck::DeckState;
+use deck::{Closing, DeckState};
 use std::io::Read;
 
 // The most bytes of a record's data.
@@ -77,10 +77,9 @@ fn opening(d: DeckState, key: &[u8]) -> DeckState {
 fn appended(d: DeckState, s: &[u8], closing: u8) -> DeckState
     requires { length s.now ≤ ROOM }
 {
-    if 0 < closing && d.index <= 1048576 {
-        xoofff::compress(d, s, closing).state
-    } else {
-        d
+    match Closing::new(closing) {
+        Some(closing) if d.index <= 1048576 => xoofff::compress(d, s, closing).state,
+        _ => d,
     }
 }
 

@@ -31,7 +31,7 @@ loop-j-init c =
     let h : length k ≡ 12 = search rules in
     let w : Words 32 k = λ i. fits-of (search rules) in
     let n = c.new-row.ensures in
-    (taken_none a.d a.s.now a.closing (search rules), subst (λ (p : ℕ). RowFrom roll_in k p 20 c.new-row.result.words) (sym n.0) (row-begins roll_in rolling-in k h w n.1))
+    (taken_none a.d a.s.now a.closing.byte (search rules), subst (λ (p : ℕ). RowFrom roll_in k p 20 c.new-row.result.words) (sym n.0) (row-begins roll_in rolling-in k h w n.1))
 
 pub loop-j-preserved : goal.loop-j-preserved
 loop-j-preserved c =
@@ -40,8 +40,8 @@ loop-j-preserved c =
     let d = a.d in
     let n = c.advance.ensures in
     let e : 192 * l.j + 192 ≡ 192 * (l.j + 1) = omega arith in (
-      subst (Taken d a.s.now a.closing c.add_group.new.sums) e
-          (taken_more d a.s.now a.closing l.sums (192 * l.j) l.row.at l.row.words (omega arith) (row-less roll_in _ l.row.at 16 20 l.row.words (omega arith) l.invariant.1)
+      subst (Taken d a.s.now a.closing.byte c.add_group.new.sums) e
+          (taken_more d a.s.now a.closing.byte l.sums (192 * l.j) l.row.at l.row.words (omega arith) (row-less roll_in _ l.row.at 16 20 l.row.words (omega arith) l.invariant.1)
           (c.add_group.ensures ∙ ap (sum l.sums) (blocks-lent a.s.now (192 * l.j) (laid l.row.at 3 1 l.row.words) (omega arith))) l.invariant.0),
       subst (λ (m : ℕ). RowFrom roll_in (iterate (m / 48) roll_in d.mask) c.advance.new.self.at 20 c.advance.new.self.words) e
           (row-advanced roll_in rolling-in (iterate (192 * l.j / 48) roll_in d.mask) l.row.at l.row.words l.row.room l.row.whole
@@ -51,12 +51,12 @@ loop-j-preserved c =
 pub overflow_add-state : goal.overflow_add-state
 overflow_add-state c =
     let a = c.args in
-    omega (arith, rest-index (aside c.add_four-acc.result c.state-mask.result) a.s.now a.closing (192 * (length a.s.now / 192)) c.compress-r.ensures)
+    omega (arith, rest-index (aside c.add_four-acc.result c.state-mask.result) a.s.now a.closing.byte (192 * (length a.s.now / 192)) c.compress-r.ensures)
 
 pub overflow_add-count : goal.overflow_add-count
 overflow_add-count c =
     let a = c.args in
-    omega (arith, rest-count (aside c.add_four-acc.result c.state-mask.result) a.s.now a.closing (192 * (length a.s.now / 192)) c.compress-r.ensures)
+    omega (arith, rest-count (aside c.add_four-acc.result c.state-mask.result) a.s.now a.closing.byte (192 * (length a.s.now / 192)) c.compress-r.ensures)
 
 pub returns : goal.returns
 returns c =
@@ -66,7 +66,7 @@ returns c =
     let s = a.s.now in
     let at : ℕ = 192 * (length s / 192) in
     let e : l.j ≡ length s / 192 = omega arith in
-    let v = subst (λ (n : ℕ). Taken d s a.closing l.sums (192 * n)) e l.invariant.0 in
+    let v = subst (λ (n : ℕ). Taken d s a.closing.byte l.sums (192 * n)) e l.invariant.0 in
     let w = subst (λ (n : ℕ). RowFrom roll_in (iterate (192 * n / 48) roll_in d.mask) l.row.at 20 l.row.words) e l.invariant.1 in
     let k = iterate (at / 48) roll_in d.mask in
     let p : c.add_four-acc.result ≡ add_four d.acc l.sums = c.add_four-acc.ensures in
@@ -74,5 +74,5 @@ returns c =
     let r = c.compress-r.result in
     let h : 4 * (length s / 192) ≡ at / 48 = omega arith in
     (λ t. record { state = record { acc = r.state.acc; mask = r.state.mask; index = r.state.index + (d.index + h t) }; count = h t + r.count })
-    ∙ rest-compressed d (after d l.sums at) s a.closing at r v.fits v.whole v.same
-    (c.compress-r.ensures ∙ λ t. compressed (aside (p t) (q t)) (closed_by (take (length s - at) (drop at s)) a.closing))
+    ∙ rest-compressed d (after d l.sums at) s a.closing.byte at r v.fits v.whole v.same
+    (c.compress-r.ensures ∙ λ t. compressed (aside (p t) (q t)) (closed_by (take (length s - at) (drop at s)) a.closing.byte))

@@ -8,4 +8,4 @@ use Rattle.compress4.proofs.Compress.{Taken}
 use Rattle.compress4.proofs.compress_four.Given as goal
 
 abbrev pub invariant-loop-j : goal.invariant-loop-j
-invariant-loop-j l = Taken l.d l.s l.closing l.sums (192 * l.j) × RowFrom roll_in (iterate (192 * l.j / 48) roll_in l.d.mask) l.row.at 20 l.row.words
+invariant-loop-j l = Taken l.d l.s l.closing.byte l.sums (192 * l.j) × RowFrom roll_in (iterate (192 * l.j / 48) roll_in l.d.mask) l.row.at 20 l.row.words

@@ -15,24 +15,24 @@ pub slice_bounds-compress-end : goal.slice_bounds-compress-end
 slice_bounds-compress-end c = simp length-take (omega arith)
 
 pub compress-requires : goal.compress-requires
-compress-requires c = (search rules, simp length-take (omega arith), search rules)
+compress-requires c = (simp length-take (omega arith), search rules)
 
 pub returns-then-n-lt48 : goal.returns-then-n-lt48
 returns-then-n-lt48 c =
     let a = c.args in
     let y = c.assemble-b in
     c.compress.ensures
-    ∙ ap (λ (l : List ℕ). compressed a.d (closed_by l a.closing)) (all-assembled a.head.now a.s.now y.result _ refl y.ensures.1)
+    ∙ ap (λ (l : List ℕ). compressed a.d (closed_by l a.closing.byte)) (all-assembled a.head.now a.s.now y.result _ refl y.ensures.1)
 
 pub overflow_add-state : goal.overflow_add-state
 overflow_add-state c =
     let q = c in
-    omega (arith, q.requires.2, q.requires.3, compressed-index _ _ _ c.compress_by-rest.ensures)
+    omega (arith, q.requires.1, q.requires.2, compressed-index _ _ _ c.compress_by-rest.ensures)
 
 pub overflow_add-count : goal.overflow_add-count
 overflow_add-count c =
     let q = c in
-    omega (arith, q.requires.2, compressed-count _ _ _ c.compress_by-rest.ensures)
+    omega (arith, q.requires.1, compressed-count _ _ _ c.compress_by-rest.ensures)
 
 pub returns : goal.returns
 returns c =
@@ -43,5 +43,5 @@ returns c =
     let y = c.assemble-b-2 in
     let q = c in
     let a = q.args in
-    first-added a.d a.head.now a.s.now y.result a.closing (omega (arith, q.requires.1)) y.ensures.0 y.ensures.1
+    first-added a.d a.head.now a.s.now y.result a.closing.byte (omega (arith, q.requires.0)) y.ensures.0 y.ensures.1
     f.ensures k.ensures m.ensures z.ensures

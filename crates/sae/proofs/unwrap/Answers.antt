@@ -24,7 +24,7 @@ finish-g-requires c =
     let s = state_of a.s in
     let l = handed a.metadata.now a.cryptogram.now a.out.now a.tag.now in
     let h = begun-of s l c.in_default.ensures c.append_metadata-h.ensures.gives in
-    (omega arith, omega (arith, (within sae s (input_of l) h.none).text), omega arith, begun-index short h)
+    (omega (arith, (within sae s (input_of l) h.none).text), omega arith, begun-index short h)
 
 pub returns-then-same_bytes : goal.returns-then-same_bytes
 returns-then-same_bytes c =

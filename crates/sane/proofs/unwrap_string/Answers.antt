@@ -1,9 +1,6 @@
 -- `sane::unwrap_string` meets its contract. Assumes nothing.
 use mathlib.Core.Path.{refl, sym, ap, ◌∙◌}
-use mathlib.Core.Bool.{true}
-use mathlib.Core.List.{[], ◌∷◌}
 use native.Mathlib.Omega.{arith}
-use Rattle.deck.proofs.Closing.{closing-pos}
 use Rattle.modes.specs.Mode.{sane}
 use Rattle.steps.specs.declared.CallResult.{CallResult}
 use Rattle.steps.proofs.Calls.{begins, begun-index, within, first-of, begun-of, unwrap-refused, unwrap-accepted, unwrap-wrong}
@@ -26,7 +23,7 @@ append_metadata-h-requires c =
     let s = state_of a.s in
     let i = handed_for a.head.now a.metadata.now a.cryptogram.now a.out.now a.tag.now in
     let k = first-of sane s a.head.now a.metadata.now a.cryptogram.now a.out.now a.tag.now c.in_default.ensures in
-    begins sane s i (within sane s i k) c.requires c.closing.ensures
+    begins sane s i (within sane s i k) c.requires
 
 pub finish-g-requires : goal.finish-g-requires
 finish-g-requires c =
@@ -34,7 +31,6 @@ finish-g-requires c =
     let s = state_of a.s in
     let i = handed_for a.head.now a.metadata.now a.cryptogram.now a.out.now a.tag.now in
     let h = begun-of sane s a.head.now a.metadata.now a.cryptogram.now a.out.now a.tag.now c.in_default.ensures c.closing.ensures c.requires c.append_metadata-h.ensures.gives in (
-      omega (arith, c.closing-2.ensures, closing-pos (true ∷ a.s.toggle ∷ [])),
       omega (arith, (within sane s i h.none).text),
       omega arith,
       begun-index short h,

@@ -1,12 +1,9 @@
 -- `sane::wrap_string` meets its contract. Assumes nothing.
 use mathlib.Core.Path.{refl, ap, ◌∙◌}
-use mathlib.Core.Bool.{true}
-use mathlib.Core.List.{[], ◌∷◌}
 use Prim.Native.Nat.{◌≤◌}
 use native.Mathlib.Omega.{arith}
 use lib.ListN.{length}
 use lib.Seq.{length-take-le}
-use Rattle.deck.proofs.Closing.{closing-pos}
 use Rattle.modes.specs.Mode.{sane}
 use Rattle.steps.specs.declared.CallResult.{CallResult}
 use Rattle.steps.proofs.Calls.{begins, begun-index, within, first-of, begun-of, wrap-refused, wrap-accepted}
@@ -29,7 +26,7 @@ append_metadata-h-requires c =
     let s = state_of a.s in
     let i = handed_for a.head.now a.metadata.now a.message.now a.out.now a.tag.now in
     let k = first-of sane s a.head.now a.metadata.now a.message.now a.out.now a.tag.now c.in_default.ensures in
-    begins sane s i (within sane s i k) c.requires c.closing.ensures
+    begins sane s i (within sane s i k) c.requires
 
 pub finish-g-requires : goal.finish-g-requires
 finish-g-requires c =
@@ -39,7 +36,6 @@ finish-g-requires c =
     let h = begun-of sane s a.head.now a.metadata.now a.message.now a.out.now a.tag.now c.in_default.ensures c.closing.ensures c.requires c.append_metadata-h.ensures.gives in
     let w = within sane s i h.none in
     let l : length a.message.now ≤ length c.add_stream-c.new.out = omega (arith, w.holds, c.add_stream-c.auto.out) in (
-      omega (arith, c.closing-2.ensures, closing-pos (true ∷ a.s.toggle ∷ [])),
       omega (arith, length-take-le _ _ l, w.text),
       omega (arith, w.tag),
       begun-index short h,

@@ -1,8 +1,7 @@
 -- `sanse::wrap_string` meets its contract. Assumes nothing.
 use mathlib.Core.Path.{refl, ap, ◌∙◌}
 use native.Mathlib.Omega.{arith}
-use Rattle.deck.proofs.Closing.{closing-pos}
-use Rattle.modes.specs.Mode.{sanse, sanse_parameters}
+use Rattle.modes.specs.Mode.{sanse}
 use Rattle.steps.specs.declared.CallResult.{CallResult}
 use Rattle.steps.proofs.Calls.{begins, begun-index, within, first-of, begun-of, wrap-refused, wrap-accepted}
 use Rattle.sanse.specs.declared.Session.{Session}
@@ -23,7 +22,7 @@ append_metadata-h-requires c =
     let i = handed_for a.head.now a.metadata.now a.message.now a.out.now a.tag.now in
     let s = state_of a.s in
     let k = first-of sanse s a.head.now a.metadata.now a.message.now a.out.now a.tag.now c.in_default.ensures in
-    begins sanse s i (within sanse s i k) c.requires c.closing_a.ensures
+    begins sanse s i (within sanse s i k) c.requires
 
 pub append_text-g-requires : goal.append_text-g-requires
 append_text-g-requires c =
@@ -31,7 +30,6 @@ append_text-g-requires c =
     let i = handed_for a.head.now a.metadata.now a.message.now a.out.now a.tag.now in
     let s = state_of a.s in
     let h = begun-of sanse s a.head.now a.metadata.now a.message.now a.out.now a.tag.now c.in_default.ensures c.closing_a.ensures c.requires c.append_metadata-h.ensures.gives in (
-      omega (arith, c.closing_m.ensures, closing-pos (sanse_parameters.frame_m a.s.toggle)),
       omega (arith, (within sanse s i h.none).text),
       begun-index short h,
     )
@@ -43,7 +41,6 @@ add_body-c-requires c =
     let s = state_of a.s in
     let h = begun-of sanse s a.head.now a.metadata.now a.message.now a.out.now a.tag.now c.in_default.ensures c.closing_a.ensures c.requires c.append_metadata-h.ensures.gives in
     let w = within sanse s i h.none in (
-      omega (arith, c.closing_t.ensures, closing-pos (sanse_parameters.frame_t a.s.toggle)),
       omega (arith, c.tag_of-t.auto.tag, w.tag),
       begun-index short h,
       w.text,

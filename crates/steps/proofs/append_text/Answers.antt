@@ -4,4 +4,4 @@ use Rattle.steps.proofs.History.{few-of}
 use Rattle.steps.proofs.append_text.Goals as goal
 
 pub returns-clause-few : goal.returns-clause-few
-returns-clause-few c = let a = c.args in few-of a.d c.compress_by.result a.text.now a.closing c.compress_by.ensures (omega arith)
+returns-clause-few c = let a = c.args in few-of a.d c.compress_by.result a.text.now a.closing.byte c.compress_by.ensures (omega arith)

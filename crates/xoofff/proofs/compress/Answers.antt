@@ -18,9 +18,9 @@ pub loop-j-preserved : goal.loop-j-preserved
 loop-j-preserved c =
     let l = c.loop-j in
     let a = c.args in
-    let s = closed_by a.s.now a.closing in (
+    let s = closed_by a.s.now a.closing.byte in (
       block-added a.d.mask s l.j a.d.acc l.acc l.mask l.invariant.0 l.invariant.1
-          (c.from_bytes_at-b.ensures ∙ full_block a.s.now a.closing l.j (search rules) (search rules) (omega arith)) c.add_block.ensures,
+          (c.from_bytes_at-b.ensures ∙ full_block a.s.now a.closing.byte l.j (search rules) (search rules) (omega arith)) c.add_block.ensures,
       mask-rolled a.d.mask l.j l.mask c.roll_in.result l.invariant.1 c.roll_in.ensures,
     )
 
@@ -29,12 +29,12 @@ returns c =
     let l = c.loop-j in
     let a = c.args in
     let k = a.d.mask in
-    let s = closed_by a.s.now a.closing in
+    let s = closed_by a.s.now a.closing.byte in
     let j : ℕ = length a.s.now / 48 in
     let e : l.j ≡ j = omega arith in
     let x : l.acc ≡ add_blocks k 0 s j a.d.acc = l.invariant.0 ∙ ap (λ (n : ℕ). add_blocks k 0 s n a.d.acc) e in
     let m : l.mask ≡ mask_at k j = l.invariant.1 ∙ ap (mask_at k) e in
-    all-added a.d s _ c.roll_in-blank.result (j + 1) _ (sym (closed-blocks a.s.now a.closing))
+    all-added a.d s _ c.roll_in-blank.result (j + 1) _ (sym (closed-blocks a.s.now a.closing.byte))
     (block-added k s j a.d.acc l.acc l.mask x m c.last_block-b.ensures c.add_block-x.ensures)
     (mask-rolled k (j + 1) c.roll_in-2.result c.roll_in-blank.result
     (mask-rolled k j l.mask c.roll_in-2.result m c.roll_in-2.ensures) c.roll_in-blank.ensures) refl

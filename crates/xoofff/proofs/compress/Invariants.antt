@@ -6,4 +6,4 @@ use Rattle.deck.specs.Closing.{closed_by}
 use Rattle.xoofff.proofs.compress.Given as goal
 
 abbrev pub invariant-loop-j : goal.invariant-loop-j
-invariant-loop-j l = (l.acc ≡ add_blocks l.d.mask 0 (closed_by l.s l.closing) l.j l.d.acc) × (l.mask ≡ mask_at l.d.mask l.j)
+invariant-loop-j l = (l.acc ≡ add_blocks l.d.mask 0 (closed_by l.s l.closing.byte) l.j l.d.acc) × (l.mask ≡ mask_at l.d.mask l.j)

@@ -19,6 +19,6 @@ returns c =
     let x = c.copy_from_slice.new.self in
     c.from_bytes.ensures
     ∙ ap (λ (b : List ℕ). from_bytes b)
-    (closed_block s a.closing (48 * j) (x ++ drop n (replicate 48 0)) n (omega arith) (omega arith)
-    (copied_all s a.closing (48 * j) n x (omega arith) (omega arith) c.copy_from_slice.ensures.after))
-    ∙ sym (block-tabulate s a.closing j (search rules) (search rules))
+    (closed_block s a.closing.byte (48 * j) (x ++ drop n (replicate 48 0)) n (omega arith) (omega arith)
+    (copied_all s a.closing.byte (48 * j) n x (omega arith) (omega arith) c.copy_from_slice.ensures.after))
+    ∙ sym (block-tabulate s a.closing.byte j (search rules) (search rules))
