@@ -70,7 +70,7 @@ pub fn exists(day: u32) -> bool
     ensures { result ≡ is_day day }
 {
     let d = Date::of(day);
-    FIRST_YEAR <= d.year && d.year <= LAST_YEAR && 1 <= d.date && d.date <= d.month_length()
+    (FIRST_YEAR..=LAST_YEAR).contains(&d.year) && (1..=d.month_length()).contains(&d.date)
 }
 
 // The day after a day: the next of its month, else the first of the next month, else the first of the next year.

@@ -1,8 +1,8 @@
 -- A writer, of an envelope or of a header alone, gives a number exactly where its condition holds. Assumes nothing.
-use Rattle.std.specs.Prelude.{Result, Err}
+use Rattle.std.specs.Prelude.{Result, Ok, Err}
 use Rattle.refusals.specs.declared.Refusal.{Refusal}
 use Rattle.refusals.specs.Numbers.{number_of}
-use Rattle.refusals.proofs.Numbers.{number-positive}
+use Rattle.refusals.proofs.Numbers.{number-tells, number-positive}
 use Prim.Native.Nat.{ℕ, ◌+◌, ◌<◌, ◌≤◌}
 use mathlib.Core.Path.{◌≡◌, refl, sym, ap, ◌∙◌, subst}
 use mathlib.Core.Logic.{◌↔◌, ◌⊎◌, inl, inr}
@@ -182,3 +182,10 @@ module _ (check : ℕ) (bytes buffer : List ℕ) where
   refused e is given =
       let s = stopped (number_of e) is (λ z. omega (arith, number-positive e)) in
       (ap write_result given ∙ s.0, s.1)
+
+-- what C gets tells what writing gave: no bit of it is left open
+pub write-tells : (a b : Result ℕ Refusal) → write_result a ≡ write_result b → a ≡ b
+write-tells (Ok m) (Ok n) h = ap (λ (r : WriteResult). Ok r.len) h
+write-tells (Ok m) (Err f) h = let bad : ⊥ = omega (arith, ap (λ (r : WriteResult). r.number) h, number-positive f) in absurd bad
+write-tells (Err e) (Ok n) h = let bad : ⊥ = omega (arith, ap (λ (r : WriteResult). r.number) h, number-positive e) in absurd bad
+write-tells (Err e) (Err f) h = ap Err (number-tells e f (ap (λ (r : WriteResult). r.number) h))

@@ -55,25 +55,23 @@ fn overlaps(p: Pool, r: Run) -> bool
 }
 
 // The pool with a run that meets none of it: the runs that do not touch it, and then the run that the others and it make. Refusal: `PoolFull`.
-fn join_pool(p: Pool, run: Run) -> Result<Pool, Refusal>
+fn join_pool(p: Pool, mut run: Run) -> Result<Pool, Refusal>
     ensures { added_of p result ≡ join_pool p run }
 {
-    let mut r = run;
     let mut next = empty();
     for q in p.in_use() {
-        if q.touches(r) {
-            r = q.joined(r);
+        if q.touches(run) {
+            run = q.joined(run);
         } else {
             next.runs[next.used] = *q;
             next.used += 1;
         }
     }
-    let kept = next.used;
-    if kept == MAX_RUNS {
+    if next.used == MAX_RUNS {
         return Err(Refusal::PoolFull);
     }
-    next.runs[kept] = r;
-    next.used = kept + 1;
+    next.runs[next.used] = run;
+    next.used += 1;
     Ok(next)
 }
 

@@ -6,6 +6,9 @@ use mathlib.Core.Logic.{◌↔◌, inl, inr}
 use native.Mathlib.Omega.{arith}
 use lib.Dec.{leb}
 use borrow.Author.Tests.{leb-true, leb-false}
+use Rattle.std.specs.Prelude.{Option, Some, None, Result, Ok, Err}
+use Rattle.refusals.specs.declared.Refusal.{Refusal}
+use Rattle.refusals.proofs.Numbers.{number-tells, number-positive}
 use Rattle.days.specs.Days.{is_day}
 use Rattle.days.proofs.Rules.{day-exactly}
 use Rattle.windows.specs.declared.Window.{Window}
@@ -13,7 +16,7 @@ use Rattle.windows.specs.Computed.{open_on, good_window}
 use Rattle.windows.proofs.Right.{window-exactly}
 use Rattle.seasons.specs.declared.First.{First}
 use Rattle.seasons.specs.Seasons.{Meets16, SeasonStop, no_such, outside, inside, passes16, season_number, SeasonExactly}
-use Rattle.seasons.specs.FirstDay.{IsFirst, NoneFrom, refused_by, found_day, no_day, FirstDay, refused, found, none, FirstExactly}
+use Rattle.seasons.specs.FirstDay.{IsFirst, NoneFrom, first_of, refused_by, found_day, no_day, FirstDay, refused, found, none, FirstExactly}
 
 module _ (w : Window) (day : ℕ) where
   -- 16 is met exactly where the test says so.
@@ -116,3 +119,15 @@ module _ (w : Window) (day : ℕ) where
       is_none (refused h) e = let bad : ⊥ = omega (arith, number_of e) in absurd bad
       is_none (found k n g) e = absurd (true≢false (found_of e))
       is_none (none n g) e = (n, g)
+
+-- an answer tells what the question gave: no bit of it is left open
+pub first-tells : (a b : Result (Option ℕ) Refusal) → first_of a ≡ first_of b → a ≡ b
+first-tells (Ok (Some d)) (Ok (Some k)) h = ap (λ (x : First). Ok (Some x.day)) h
+first-tells (Ok (Some d)) (Ok None) h = absurd (true≢false (ap (λ (x : First). x.found) h))
+first-tells (Ok None) (Ok (Some k)) h = absurd (true≢false (sym (ap (λ (x : First). x.found) h)))
+first-tells (Ok None) (Ok None) h = refl
+first-tells (Ok (Some d)) (Err f) h = let bad : ⊥ = omega (arith, ap (λ (x : First). x.number) h, number-positive f) in absurd bad
+first-tells (Ok None) (Err f) h = let bad : ⊥ = omega (arith, ap (λ (x : First). x.number) h, number-positive f) in absurd bad
+first-tells (Err e) (Ok (Some k)) h = let bad : ⊥ = omega (arith, ap (λ (x : First). x.number) h, number-positive e) in absurd bad
+first-tells (Err e) (Ok None) h = let bad : ⊥ = omega (arith, ap (λ (x : First). x.number) h, number-positive e) in absurd bad
+first-tells (Err e) (Err f) h = ap Err (number-tells e f (ap (λ (x : First). x.number) h))

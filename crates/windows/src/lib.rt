@@ -37,7 +37,7 @@ impl MonthDay {
     fn number(self) -> u32
         ensures { result ≡ self.month * 100 + self.day }
     {
-        self.month as u32 * 100 + self.day as u32
+        u32::from(self.month) * 100 + u32::from(self.day)
     }
 
     // Whether a leap year has it.
@@ -45,7 +45,7 @@ impl MonthDay {
     fn in_leap_years(self) -> bool
         ensures { result ≡ leap_year_has self.month self.day }
     {
-        1 <= self.day && self.day as u32 <= month_length(true, self.month as u32)
+        1 <= self.day && u32::from(self.day) <= month_length(true, u32::from(self.month))
     }
 }
 

@@ -13,12 +13,12 @@ loop-q-init c =
 pub loop-q-preserved : goal.loop-q-preserved
 loop-q-preserved c =
     elim c.if-touches.branch [
-      | then-touches w ↦ rw (w.r-is, w.next-is, w.joined-r.ensures) (omega arith, kept-joined _ _ _ _ _ _ c.loop-q.invariant.1 c.loop-q-test.true (sym c.touches.ensures ∙ w.if-touches.true))
-      | else-touches w ↦ rw (w.r-is, w.next-is) (omega arith, kept-one _ _ _ _ _ _ c.loop-q.invariant.1 c.loop-q-test.true (omega arith) (sym c.touches.ensures ∙ w.if-touches.false))
+      | then-touches w ↦ rw (w.run-is, w.next-is, w.joined-run.ensures) (omega arith, kept-joined _ _ _ _ _ _ c.loop-q.invariant.1 c.loop-q-test.true (sym c.touches.ensures ∙ w.if-touches.true))
+      | else-touches w ↦ rw (w.run-is, w.next-is) (omega arith, kept-one _ _ _ _ _ _ c.loop-q.invariant.1 c.loop-q-test.true (omega arith) (sym c.touches.ensures ∙ w.if-touches.false))
     ]
 
-pub returns-then-kept-eq-MAX_RUNS : goal.returns-then-kept-eq-MAX_RUNS
-returns-then-kept-eq-MAX_RUNS c =
+pub returns-then-next-eq-MAX_RUNS : goal.returns-then-next-eq-MAX_RUNS
+returns-then-next-eq-MAX_RUNS c =
     sym (kept-full _ _ _ _ _ _ c.loop-q.invariant.1 _ c.in_use-q-items.ensures.runs c.loop-q-test.false (omega arith))
 
 pub returns : goal.returns
