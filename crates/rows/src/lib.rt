@@ -50,6 +50,17 @@ pub struct Row<R> {
     ghost whole: { at % 4 ≡ 0 },
 }
 
+// A row that begins with the words of k.
+pub fn row_of(k: [u32; 12]) -> [u32; 80]
+    ensures { result ≡ begun 12 k (replicate 80 0) }
+{
+    let mut r = [0u32; 80];
+    for p in 0..12 {
+        r[p] = k[p / 3 + 4 * (p % 3)];
+    }
+    r
+}
+
 // The state whose s_0 is word n. Over words and a place: a row is made, and advances, by it before it is whole.
 pub fn state_at(r: &[u32; 80], n: usize) -> [u32; 12]
     requires { n + 12 ≤ 80 }
@@ -95,10 +106,7 @@ impl<R: Rolling> Row<R> {
     pub fn new(k: [u32; 12]) -> Self
         ensures { (result.at ≡ 0) × (result.words ≡ appended R.rolled 4 (appended R.rolled 0 (begun 12 k (replicate 80 0)))) }
     {
-        let mut words = [0u32; 80];
-        for p in 0..12 {
-            words[p] = k[p / 3 + 4 * (p % 3)];
-        }
+        let mut words = row_of(k);
         append::<R>(&mut words, 0);
         append::<R>(&mut words, 4);
         Row {
