@@ -160,7 +160,11 @@ pub fn append_text(d: DeckState, text: &[u8], closing: Closing, four: bool) -> C
     if text.len() == 0 {
         return Compressed { state: d, count: 0 };
     }
-    compress4::compress_by(d, text, closing, four)
+    // not by `compress_by`: what it gives would be copied once more, 3 hundredths of a wrap of 64 bytes
+    if four {
+        return compress4::compress_four(d, text, closing);
+    }
+    xoofff::compress(d, text, closing)
 }
 
 // ---- tag and keystream
