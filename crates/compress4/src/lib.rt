@@ -76,9 +76,11 @@ pub fn compress_four(d: DeckState, s: &[u8], closing: Closing) -> Compressed
     let groups = s.len() / 192;
     let mut sums = [0u32; 48];
     let mut row = Row::<Input>::new(d.mask);
+    let mut taken: u32 = 0;
     for j in 0..groups {
         add_group(&mut sums, &s[192 * j..], &row);
         row.advance();
+        taken += 4;
     }
     let acc = add_four(d.acc, &sums);
     let mask = row.state();
@@ -91,7 +93,6 @@ pub fn compress_four(d: DeckState, s: &[u8], closing: Closing) -> Compressed
         &s[192 * groups..],
         closing,
     );
-    let taken = 4 * groups as u32;
     let before = d.index + taken;
     let mut state = r.state;
     state.index += before;

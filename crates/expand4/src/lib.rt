@@ -45,12 +45,14 @@ fn expand_groups(y: [u32; 12], mask: &[u32; 12], out: &mut [u8]) -> u32
     let groups = out.len() / 192;
     let mut w = [0u32; 48];
     let mut row = Row::<Output>::new(y);
+    let mut given: u32 = 0;
     for j in 0..groups {
         four_out(&mut w, &row, &k, &mut out[192 * j..192 * j + 192]);
         row.advance();
+        given += 4;
     }
     let count = xoofff::expand(row.state(), mask, 0, &mut out[192 * groups..]);
-    4 * groups as u32 + count
+    given + count
 }
 
 // Adds the output bytes from byte `from` on to the buffer, of the output that starts from the rolled state y; gives the permutations done: what

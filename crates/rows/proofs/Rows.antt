@@ -147,13 +147,11 @@ kept-before f n p r h =
     get_or-set_other _ (n + 15) p _ 0 (λ g. omega (arith, g)) ∙ get_or-set_other _ (n + 14) p _ 0 (λ g. omega (arith, g))
     ∙ get_or-set_other _ (n + 13) p _ 0 (λ g. omega (arith, g)) ∙ get_or-set_other r (n + 12) p _ 0 (λ g. omega (arith, g))
 
--- so a row of four states gets the words of the next four
-row_ahead : (f : List ℕ → List ℕ) → Rolling f → (k : List ℕ) (n : ℕ) (r : List ℕ) → n + 20 ≤ 80 → RowFrom f k n 16 r → RowFrom f k n 20 (appended f (n + 4) r)
-row_ahead f R k n r h d = record { lanes = d.lanes; fits = d.fits; size = a.size; words = λ q l. go q l (dec_le 4 q) }
+-- so a row of four states, with the next four behind it, has the words of both
+row_joined : (f : List ℕ → List ℕ) (k : List ℕ) (n : ℕ) (r : List ℕ) → RowFrom f k n 16 r → RowFrom f (iterate 4 f k) (n + 4) 16 (appended f (n + 4) r)
+    → RowFrom f k n 20 (appended f (n + 4) r)
+row_joined f k n r d a = record { lanes = d.lanes; fits = d.fits; size = a.size; words = λ q l. go q l (dec_le 4 q) }
   where
-    a : RowFrom f (iterate 4 f k) (n + 4) 16 (appended f (n + 4) r)
-    a = row_appended f R (iterate 4 f k) (n + 4) r (omega arith) (row_on f R k n 12 r d)
-
     go : (q : ℕ) → q < 20 → Dec (4 ≤ q) → get_or (appended f (n + 4) r) (n + q) 0 ≡ get_or (iterate q f k) 0 0
     go q l (yes p) =
         let e : n + q ≡ n + 4 + (q - 4) = omega arith in
@@ -161,6 +159,10 @@ row_ahead f R k n r h d = record { lanes = d.lanes; fits = d.fits; size = a.size
         ap (λ (x : ℕ). get_or (appended f (n + 4) r) x 0) e ∙ a.words (q - 4) (omega arith)
         ∙ ap (λ (s : List ℕ). get_or s 0 0) (sym (iterate-add f 4 (q - 4) k) ∙ ap (λ (x : ℕ). iterate x f k) (sym i))
     go q l (no p) = kept-before f (n + 4) (n + q) r (omega (arith, p)) ∙ d.words q (omega (arith, p))
+
+-- and gets them
+row_ahead : (f : List ℕ → List ℕ) → Rolling f → (k : List ℕ) (n : ℕ) (r : List ℕ) → n + 20 ≤ 80 → RowFrom f k n 16 r → RowFrom f k n 20 (appended f (n + 4) r)
+row_ahead f R k n r h d = row_joined f k n r d (row_appended f R (iterate 4 f k) (n + 4) r (omega arith) (row_on f R k n 12 r d))
 
 -- the code's four rollings
 pub rolled-appended : (f : List ℕ → List ℕ) (n : ℕ) (r : List ℕ) {k k₁ k₂ k₃ k₄ : List ℕ} → k ≡ state_at n r → k₁ ≡ f k → k₂ ≡ f k₁ → k₃ ≡ f k₂ → k₄ ≡ f k₃
@@ -331,8 +333,10 @@ row_next f R k m r {k'} d g e =
 pub row-advanced : (f : List ℕ → List ℕ) → Rolling f → (k : List ℕ) (n : ℕ) (r : List ℕ) {k' r' : List ℕ} {n' : ℕ} → n + 20 ≤ 80 → n % 4 ≡ 0 → iterate 4 f k ≡ k'
     → n' ≡ renewed_at (n + 4) → r' ≡ appended f (renewed_at (n + 4) + 4) (renewed (n + 4) r) → RowFrom f k n 20 r → RowFrom f k' n' 20 r'
 row-advanced f R k n r {k'} {r'} {n'} h w g en er d =
+    let m : ℕ = renewed_at (n + 4) in
+    let l : List ℕ = renewed (n + 4) r in
     let v = row-renewed f (iterate 4 f k) (n + 4) r (omega arith) (omega arith) refl refl (row_on f R k n 16 r d) in
-    subst (λ (l : List ℕ). RowFrom f l n' 20 r') g
+    subst (λ (x : List ℕ). RowFrom f x n' 20 r') g
     (subst (λ (x : ℕ). RowFrom f (iterate 4 f k) x 20 r') (sym en)
-    (subst (λ (l : List ℕ). RowFrom f (iterate 4 f k) (renewed_at (n + 4)) 20 l) (sym er)
-    (row_ahead f R (iterate 4 f k) (renewed_at (n + 4)) (renewed (n + 4) r) v.room v.row)))
+    (subst (λ (x : List ℕ). RowFrom f (iterate 4 f k) m 20 x) (sym er)
+    (row_joined f (iterate 4 f k) m l v.row (row_next f R (iterate 4 f k) m l v refl refl))))

@@ -2,13 +2,14 @@
 use mathlib.Core.Path.{◌≡◌, refl, sym, ap, ◌∙◌}
 use mathlib.Core.Bool.{Bool, true, false, ◌&&◌, cond}
 use mathlib.Core.Logic.{◌≢◌}
-use mathlib.Core.List.{List, [], ◌∷◌}
-use Prim.Native.Nat.{ℕ, zero, suc, ◌+◌}
+use mathlib.Core.List.{List, [], ◌∷◌, ◌++◌}
+use Prim.Native.Nat.{ℕ, zero, suc, ◌+◌, ◌<◌}
+use native.Mathlib.Numerals.{add-one}
 use native.Mathlib.Omega.{arith}
 use lib.Bits.{bit_or, bit_xor, or_zero_l, or_add_and, and_le_r, xor_zero_l, xor_self}
 use lib.Dec.{eqb}
-use lib.ListN.{length, take, replicate, length-replicate}
-use lib.Seq.{take_at}
+use lib.ListN.{length, get_or, take, drop, set, replicate, length-replicate}
+use lib.Seq.{length-take-le, take-length, take-suc, drop-cons, append_snoc, set_at, take_at}
 use borrow.Author.Tests.{eq-eqb, ne_eqb, eqb-true, eqb-false}
 use Rattle.std.specs.List.{fold, zip}
 use Rattle.word.specs.Lists.{sum}
@@ -16,6 +17,21 @@ use Rattle.word.proofs.Lists.{tabulate-length, zeros-sum, sum-length, xor-undone
 use Rattle.deck.specs.Deck.{run}
 use Rattle.modes.specs.Mode.{is_empty}
 use Rattle.modes.specs.Rules.{written, same_bytes}
+
+-- ---- a run that is copied to the start of a buffer
+
+-- one more byte
+pub front-more : (t d : List ℕ) (i : ℕ) → i < length t → i < length d → set (take i t ++ drop i d) i (get_or t i 0) ≡ take (i + 1) t ++ drop (i + 1) d
+front-more t d i h g =
+    ap (λ (l : List ℕ). set (take i t ++ l) i (get_or t i 0)) (drop-cons d i 0 g)
+    ∙ set_at (take i t) (get_or d i 0) (drop (suc i) d) (get_or t i 0) i (length-take-le i t (omega arith))
+    ∙ sym (append_snoc (take i t) (get_or t i 0) (drop (suc i) d))
+    ∙ ap (λ (l : List ℕ). l ++ drop (suc i) d) (sym (take-suc t i 0 h))
+    ∙ ap (λ (n : ℕ). take n t ++ drop n d) (sym (add-one i))
+
+-- the whole of it
+pub front-all : (t d : List ℕ) (i : ℕ) → i ≡ length t → take i t ++ drop i d ≡ written t d
+front-all t d i e = ap (λ (n : ℕ). take n t ++ drop n d) e ∙ ap (λ (l : List ℕ). l ++ drop (length t) d) (take-length t)
 
 -- ---- output that is added
 

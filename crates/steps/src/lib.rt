@@ -236,7 +236,10 @@ pub fn copy(text: &[u8], out: &mut [u8])
     requires { length text.now ≤ length out.old }
     ensures { out.new ≡ written text.now out.old }
 {
-    out[..text.len()].copy_from_slice(text);
+    // no `copy_from_slice`: of two lent slices it needs the C library's `memmove`
+    for (i, b) in text.iter().enumerate() {
+        out[i] = *b;
+    }
 }
 
 // The first n bytes of a buffer become zero, and the rest is kept.

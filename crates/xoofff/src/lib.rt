@@ -57,14 +57,15 @@ pub fn compress(d: DeckState, s: &[u8], closing: Closing) -> Compressed
     let blocks = s.len() / 48;
     let mut acc = d.acc;
     let mut mask = d.mask;
+    let mut turns: u32 = 0;
     for j in 0..blocks {
         let b = state::from_bytes_at(s, 48 * j);
-        (acc, mask) = (add_block(acc, mask, b), rolling::roll_in(mask));
+        (acc, mask, turns) = (add_block(acc, mask, b), rolling::roll_in(mask), turns + 1);
     }
     let b = last_block(s, closing);
     let x = add_block(acc, mask, b);
     let blank = rolling::roll_in(rolling::roll_in(mask));
-    let count = blocks as u32 + 1;
+    let count = turns + 1;
     let index = d.index + count + 1;
     let state = DeckState {
         acc: x,

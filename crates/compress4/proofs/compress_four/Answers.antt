@@ -1,5 +1,5 @@
 -- `compress4::compress_four` meets its contract. Assumes nothing.
-use mathlib.Core.Path.{◌≡◌, sym, ap, ◌∙◌, subst}
+use mathlib.Core.Path.{◌≡◌, refl, sym, ap, ◌∙◌, subst}
 use mathlib.Core.List.{List}
 use Prim.Native.Nat.{ℕ, ◌+◌, ◌*◌, ◌-◌, ◌/◌}
 use native.Mathlib.Omega.{arith}
@@ -31,7 +31,7 @@ loop-j-init c =
     let h : length k ≡ 12 = search rules in
     let w : Words 32 k = λ i. fits-of (search rules) in
     let n = c.new-row.ensures in
-    (taken_none a.d a.s.now a.closing.byte (search rules), subst (λ (p : ℕ). RowFrom roll_in k p 20 c.new-row.result.words) (sym n.0) (row-begins roll_in rolling-in k h w n.1))
+    (taken_none a.d a.s.now a.closing.byte (search rules), subst (λ (p : ℕ). RowFrom roll_in k p 20 c.new-row.result.words) (sym n.0) (row-begins roll_in rolling-in k h w n.1), refl)
 
 pub loop-j-preserved : goal.loop-j-preserved
 loop-j-preserved c =
@@ -46,17 +46,18 @@ loop-j-preserved c =
       subst (λ (m : ℕ). RowFrom roll_in (iterate (m / 48) roll_in d.mask) c.advance.new.self.at 20 c.advance.new.self.words) e
           (row-advanced roll_in rolling-in (iterate (192 * l.j / 48) roll_in d.mask) l.row.at l.row.words l.row.room l.row.whole
           (rolled-on roll_in d.mask (192 * l.j) l.invariant.0.whole) n.0 n.1 l.invariant.1),
+      omega (arith, l.invariant.2),
     )
 
 pub overflow_add-state : goal.overflow_add-state
 overflow_add-state c =
     let a = c.args in
-    omega (arith, rest-index (aside c.add_four-acc.result c.state-mask.result) a.s.now a.closing.byte (192 * (length a.s.now / 192)) c.compress-r.ensures)
+    omega (arith, c.loop-j.invariant.2, rest-index (aside c.add_four-acc.result c.state-mask.result) a.s.now a.closing.byte (192 * (length a.s.now / 192)) c.compress-r.ensures)
 
 pub overflow_add-count : goal.overflow_add-count
 overflow_add-count c =
     let a = c.args in
-    omega (arith, rest-count (aside c.add_four-acc.result c.state-mask.result) a.s.now a.closing.byte (192 * (length a.s.now / 192)) c.compress-r.ensures)
+    omega (arith, c.loop-j.invariant.2, rest-count (aside c.add_four-acc.result c.state-mask.result) a.s.now a.closing.byte (192 * (length a.s.now / 192)) c.compress-r.ensures)
 
 pub returns : goal.returns
 returns c =
@@ -72,7 +73,7 @@ returns c =
     let p : c.add_four-acc.result ≡ add_four d.acc l.sums = c.add_four-acc.ensures in
     let q : c.state-mask.result ≡ k = c.state-mask.ensures ∙ row-state roll_in rolling-in k l.row.at 20 l.row.words (omega arith) w in
     let r = c.compress-r.result in
-    let h : 4 * (length s / 192) ≡ at / 48 = omega arith in
+    let h : l.taken ≡ at / 48 = omega (arith, l.invariant.2) in
     (λ t. record { state = record { acc = r.state.acc; mask = r.state.mask; index = r.state.index + (d.index + h t) }; count = h t + r.count })
     ∙ rest-compressed d (after d l.sums at) s a.closing.byte at r v.fits v.whole v.same
     (c.compress-r.ensures ∙ λ t. compressed (aside (p t) (q t)) (closed_by (take (length s - at) (drop at s)) a.closing.byte))

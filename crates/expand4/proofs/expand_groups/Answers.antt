@@ -23,7 +23,7 @@ loop-j-init c =
     let h : length y ≡ 12 = search rules in
     let w : Words 32 y = λ i. fits-of (search rules) in
     let n = c.new-row.ensures in
-    (refl, groups_none _ _ _, subst (λ (p : ℕ). RowFrom roll_out y p 20 c.new-row.result.words) (sym n.0) (row-begins roll_out rolling-out y h w n.1))
+    (refl, groups_none _ _ _, subst (λ (p : ℕ). RowFrom roll_out y p 20 c.new-row.result.words) (sym n.0) (row-begins roll_out rolling-out y h w n.1), refl)
 
 pub loop-j-preserved : goal.loop-j-preserved
 loop-j-preserved c =
@@ -44,6 +44,7 @@ loop-j-preserved c =
       subst (λ (m : ℕ). RowFrom roll_out (iterate (m / 48) roll_out y) c.advance.new.self.at 20 c.advance.new.self.words) e
           (row-advanced roll_out rolling-out (iterate (at / 48) roll_out y) l.row.at l.row.words l.row.room l.row.whole
           (rolled-on roll_out y at l.invariant.1.whole) n.0 n.1 l.invariant.2),
+      omega (arith, l.invariant.3),
     )
 
 pub overflow_add-result : goal.overflow_add-result
@@ -51,7 +52,7 @@ overflow_add-result c =
     let l = c.loop-j in
     let at : ℕ = 192 * (length c.args.out.now / 192) in
     let z : length l.out ≡ length c.args.out.now = l.invariant.1.added.size in
-    omega (arith, rest-blocks at l.out (omega arith) c.expand-count.ensures.1, blocks-most 0 (length l.out - at))
+    omega (arith, l.invariant.3, rest-blocks at l.out (omega arith) c.expand-count.ensures.1, blocks-most 0 (length l.out - at))
 
 pub returns : goal.returns
 returns c =
@@ -68,7 +69,7 @@ returns c =
     let s : length l.out ≡ length o = d.added.size in
     let m : ℕ = length l.out - at in
     let e : at + m ≡ length o = omega arith in
-    let h : 4 * (length o / 192) ≡ at / 48 = omega arith in (
+    let h : l.given ≡ at / 48 = omega (arith, l.invariant.3) in (
       groups-all y k o at m c.state.result l.out e
           (c.state.ensures ∙ row-state roll_out rolling-out (iterate (at / 48) roll_out y) l.row.at 20 l.row.words (omega arith) r) d
           (part-added (output_byte c.state.result k) 0 at m l.out (omega arith) x.ensures.0),
