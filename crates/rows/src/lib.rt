@@ -89,12 +89,15 @@ pub fn append<R: Rolling>(r: &mut [u32; 80], n: usize)
     r[n + 15] = k4[11];
 }
 
+// The word from which on a row is used up: a state there has no room for four words more after those of the four rollings.
+const USED_UP: usize = 64;
+
 // Where the row is used up, the state at word n being its last one, its last sixteen words become its first; gives where the state then stands. From
 // word 64 on it is taken to be used up; callers go by four words and come to just that one.
 pub fn renew(r: &mut [u32; 80], n: usize) -> usize
     ensures { (result ≡ renewed_at n) × (r.new ≡ renewed n r.old) }
 {
-    if n < 64 {
+    if n < USED_UP {
         return n;
     }
     r.copy_within(64..80, 0);

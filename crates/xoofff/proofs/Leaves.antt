@@ -54,15 +54,15 @@ pub record Copied (s : List ℕ) (c at : ℕ) (b : List ℕ) (i : ℕ) : Type 0 
   pub filled : Filled (λ k. closed_at s c (at + k)) b i
   pub clear : Clear b i
 
--- n bytes from place `at` on, copied to a block of zeros
-pub copied_all : (s : List ℕ) (c at n : ℕ) (l : List ℕ) → n ≤ 48 → at + n ≡ length s → l ≡ take (length s - at) (drop at s)
+-- n bytes from place `at` on, of which w were lent, copied to a block of zeros
+pub copied_all : (s : List ℕ) (c at n w : ℕ) (l : List ℕ) → n ≤ 48 → at + n ≡ length s → w ≡ n → l ≡ take w (drop at s)
     → Copied s c at (l ++ drop n (replicate 48 0)) n
-copied_all s c at n l h e el =
+copied_all s c at n w l h e ew el =
     record {
       size = omega (arith, length-append l (drop n (replicate 48 0)), length-drop n (replicate {A = ℕ} 48 0), m, z);
       filled = λ k g.
           get_or-append l (drop n (replicate 48 0)) 0 k (omega (arith, m)) ∙ ap (λ (u : List ℕ). get_or u k 0) el
-          ∙ get_or-take (length s - at) (drop at s) k 0 (omega arith) ∙ get_or-drop at s k 0 ∙ closed_in s c (at + k) (omega arith);
+          ∙ get_or-take w (drop at s) k 0 (omega arith) ∙ get_or-drop at s k 0 ∙ closed_in s c (at + k) (omega arith);
       clear = λ k g.
           let i : k ≡ length l + (k - n) = omega (arith, m) in
           ap (λ (u : ℕ). get_or (l ++ drop n (replicate 48 0)) u 0) i ∙ get_or-append-add l (drop n (replicate 48 0)) (k - n) 0
@@ -73,7 +73,7 @@ copied_all s c at n l h e el =
     z = refl
 
     m : length l ≡ n
-    m = ap length el ∙ length-take-le (length s - at) (drop at s) (omega (arith, length-drop at s)) ∙ omega arith
+    m = ap length el ∙ length-take-le w (drop at s) (omega (arith, length-drop at s)) ∙ ew
 
     zeros-at : (k : ℕ) → Dec (48 ≤ k) → ◌≡◌ {A = ℕ} (get_or (replicate 48 0) k 0) 0
     zeros-at k (yes p) = get_or-eq_default (replicate 48 0) 0 p

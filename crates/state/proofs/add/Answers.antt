@@ -1,5 +1,5 @@
 -- `state::add` meets its contract. Assumes nothing.
-use Rattle.std.proofs.Common.{ℕ, refl, ap, get_or, bit_xor, rules, arith}
+use Rattle.std.proofs.Common.{ℕ, refl, ap, ap₂, get_or, bit_xor, rules, arith}
 use Rattle.word.proofs.Lists.{summed-none, summed-more, summed-all}
 use Rattle.state.proofs.add.Goals as goal
 
@@ -9,7 +9,7 @@ loop-i-init g c = summed-none _ _
 pub loop-i-preserved : goal.loop-i-preserved
 loop-i-preserved g c =
     let m = c.loop-i.invariant in
-    summed-more _ _ _ _ _ (search rules) refl (ap (λ (x : ℕ). bit_xor x (get_or c.args.b c.loop-i.i 0)) (m.rest _ (omega arith))) m
+    summed-more _ _ _ _ _ (search rules) refl (ap₂ bit_xor (m.rest _ (omega arith)) (ap (λ (k : ℕ). get_or c.args.b k 0) (search rules))) m
 
 pub returns : goal.returns
 returns g c = summed-all _ _ _ _ (search rules) (search rules) c.loop-i.invariant

@@ -20,5 +20,5 @@ returns c =
     c.from_bytes.ensures
     ∙ ap (λ (b : List ℕ). from_bytes b)
     (closed_block s a.closing.byte (48 * j) (x ++ drop n (replicate 48 0)) n (omega arith) (omega arith)
-    (copied_all s a.closing.byte (48 * j) n x (omega arith) (omega arith) c.copy_from_slice.ensures.after))
+    (copied_all s a.closing.byte (48 * j) n _ x (omega arith) (omega arith) (omega arith) c.copy_from_slice.ensures.after))
     ∙ sym (block-tabulate s a.closing.byte j (search rules) (search rules))
