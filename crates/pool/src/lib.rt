@@ -59,19 +59,21 @@ fn join_pool(p: Pool, mut run: Run) -> Result<Pool, Refusal>
     ensures { added_of p result ≡ join_pool p run }
 {
     let mut next = empty();
+    // counted here and not in the new pool: a count in memory is waited for at each run, half as long again for a full pool
+    let mut used = 0;
     for q in p.in_use() {
         if q.touches(run) {
             run = q.joined(run);
         } else {
-            next.runs[next.used] = *q;
-            next.used += 1;
+            next.runs[used] = *q;
+            used += 1;
         }
     }
-    if next.used == MAX_RUNS {
+    if used == MAX_RUNS {
         return Err(Refusal::PoolFull);
     }
-    next.runs[next.used] = run;
-    next.used += 1;
+    next.runs[used] = run;
+    next.used = used + 1;
     Ok(next)
 }
 
