@@ -55,13 +55,12 @@ pub fn leap(year: u32) -> bool
 pub fn month_length(long: bool, month: u32) -> u32
     ensures { result ≡ month_length long month }
 {
-    // February apart: with it in the `match` the compiler makes a jump of it, and a search over the days takes half as long again
-    if month == 2 {
-        return if long { 29 } else { 28 };
-    }
     match month {
+        2 if long => 29,
+        2 => 28,
         4 | 6 | 9 | 11 => 30,
-        1..=12 => 31,
+        // not `1..=12`: of a range beside them the compiler makes a table of jumps, and a search over days takes half as long again
+        _ if 1 <= month && month <= 12 => 31,
         _ => 0,
     }
 }

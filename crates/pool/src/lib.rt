@@ -48,15 +48,15 @@ pub fn empty() -> Pool
 }
 
 // Whether a number of the run is in the pool.
-fn overlaps(p: Pool, r: Run) -> bool
-    ensures { result ≡ any_meets r (runs_of p) }
+fn overlaps(p: &Pool, r: Run) -> bool
+    ensures { result ≡ any_meets r (runs_of p.now) }
 {
     p.in_use().iter().any(|q| q.meets(r))
 }
 
 // The pool with a run that meets none of it: the runs that do not touch it, and then the run that the others and it make. Refusal: `PoolFull`.
-fn join_pool(p: Pool, mut run: Run) -> Result<Pool, Refusal>
-    ensures { added_of p result ≡ join_pool p run }
+fn join_pool(p: &Pool, mut run: Run) -> Result<Pool, Refusal>
+    ensures { added_of p.now result ≡ join_pool p.now run }
 {
     let mut next = empty();
     // counted here and not in the new pool: a count in memory is waited for at each run, half as long again for a full pool
@@ -83,10 +83,10 @@ pub fn add(p: Pool, r: Run) -> Result<Pool, Refusal>
     requires { r.first ≤ r.last }
     ensures { added_of p result ≡ add_run p r }
 {
-    if overlaps(p, r) {
+    if overlaps(&p, r) {
         return Err(Refusal::Pooled);
     }
-    join_pool(p, r)
+    join_pool(&p, r)
 }
 
 // Whether a number of a size is in the pool.
@@ -94,7 +94,7 @@ pub fn holds(p: Pool, size: u32, number: u32) -> bool
     ensures { result ≡ any_meets (a_run size number number) (runs_of p) }
 {
     overlaps(
-        p,
+        &p,
         Run {
             size,
             first: number,
