@@ -28,9 +28,9 @@ impl Run {
     pub fn touches(self, other: Run) -> bool
         ensures { result ≡ touches self other }
     {
-        (u64::from(self.last) + 1 == u64::from(other.first)
-            || u64::from(other.last) + 1 == u64::from(self.first))
-            && self.size == other.size
+        other.size == self.size
+            && (u64::from(self.last) + 1 == u64::from(other.first)
+                || u64::from(other.last) + 1 == u64::from(self.first))
     }
 
     // Two runs that touch, as one.

@@ -77,7 +77,10 @@ impl Window {
 fn date_in(long: bool, written: u32, instead: u32) -> u32
     ensures { result ≡ date_in long written instead }
 {
-    if !long && written == LEAP_DAY {
+    // the year first: what follows is then the same for every other year, and a search over days works it out once
+    if long {
+        written
+    } else if written == LEAP_DAY {
         instead
     } else {
         written

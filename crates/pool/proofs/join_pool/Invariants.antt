@@ -5,4 +5,4 @@ use Rattle.pool.proofs.Steps.{Kept}
 use Rattle.pool.proofs.join_pool.Given as goal
 
 abbrev pub invariant-loop-q : goal.invariant-loop-q
-invariant-loop-q l = (l.next.used ≤ l.q-index) × Kept l.q-items l.initial.run l.run l.next.runs l.next.used l.q-index
+invariant-loop-q l = (l.used ≤ l.q-index) × Kept l.q-items l.initial.run l.run l.next.runs l.used l.q-index

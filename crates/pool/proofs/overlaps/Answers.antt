@@ -10,5 +10,5 @@ use Rattle.pool.proofs.overlaps.Goals as goal
 
 pub returns : goal.returns
 returns c =
-    any_from_yields_List (λ (q : Run). meets q c.args.r) _ _ _ c.any.ensures.ran (YieldsList-from_slice (runs_of c.args.p) cc) (λ x b q k. search (rules, tests))
+    any_from_yields_List (λ (q : Run). meets q c.args.r) _ _ _ c.any.ensures.ran (YieldsList-from_slice (runs_of c.args.p.now) cc) (λ x b q k. search (rules, tests))
     ∙ any-meets _ _
