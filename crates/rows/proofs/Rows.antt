@@ -148,7 +148,7 @@ kept-before f n p r h =
     ∙ get_or-set_other _ (n + 13) p _ 0 (λ g. omega (arith, g)) ∙ get_or-set_other r (n + 12) p _ 0 (λ g. omega (arith, g))
 
 -- so a row of four states gets the words of the next four
-row_ahead : (f : List ℕ → List ℕ) → Rolling f → (k : List ℕ) (n : ℕ) (r : List ℕ) → n + 20 ≤ 80 → RowFrom f k n 16 r → RowFrom f k n 20 (appended f (n + 4) r)
+pub row_ahead : (f : List ℕ → List ℕ) → Rolling f → (k : List ℕ) (n : ℕ) (r : List ℕ) → n + 20 ≤ 80 → RowFrom f k n 16 r → RowFrom f k n 20 (appended f (n + 4) r)
 row_ahead f R k n r h d = record { lanes = d.lanes; fits = d.fits; size = a.size; words = λ q l. go q l (dec_le 4 q) }
   where
     a : RowFrom f (iterate 4 f k) (n + 4) 16 (appended f (n + 4) r)
@@ -239,7 +239,7 @@ moved_length zero r = refl
 moved_length (suc i) r = length-set (moved i r) i (get_or r (64 + i) 0) ∙ moved_length i r
 
 -- the others stand
-moved-rest : (i q : ℕ) (r : List ℕ) → i ≤ q → get_or (moved i r) q 0 ≡ get_or r q 0
+pub moved-rest : (i q : ℕ) (r : List ℕ) → i ≤ q → get_or (moved i r) q 0 ≡ get_or r q 0
 unfolding moved
 moved-rest zero q r h = refl
 moved-rest (suc i) q r h = get_or-set_other (moved i r) i q _ 0 (λ e. omega (arith, e)) ∙ moved-rest i q r (omega arith)
