@@ -77,7 +77,7 @@ impl From<[u8; 7]> for Header {
 }
 
 // A number and what follows it.
-fn number(rt: &impl Print, n: u32, after: &str) {
+fn print_number(rt: &impl Print, n: u32, after: &str) {
     let _ = print!(rt; "{n}{after}");
 }
 
@@ -85,10 +85,10 @@ fn number(rt: &impl Print, n: u32, after: &str) {
 fn show(rt: &impl Print, r: CallResult<Session>, out: &[u8], tag: &[u8]) {
     let s = r.left;
     let d = s.history;
-    number(rt, r.number, " ");
-    number(rt, r.count, " ");
-    number(rt, d.index, " ");
-    number(rt, u32::from(s.toggle), "\n");
+    print_number(rt, r.number, " ");
+    print_number(rt, r.count, " ");
+    print_number(rt, d.index, " ");
+    print_number(rt, u32::from(s.toggle), "\n");
     hexline::print_line(rt, out);
     hexline::print_line(rt, tag);
     hexline::print_line(rt, &state::to_bytes(&d.acc));
