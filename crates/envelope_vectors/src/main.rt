@@ -4,7 +4,6 @@
 
 ghost use Rattle.std.specs.Prelude.{◌<◌};
 
-use envelope::ReadResult;
 use envelope_write::WriteResult;
 use std::io::Read;
 
@@ -89,17 +88,29 @@ fn checksum(s: &[u8]) -> u16 {
     })
 }
 
-// Reads the envelope at the start of some bytes, and writes number, letter, group, place and, for each of the three parts, its length and a sum
-// over it.
+// Writes a number and a space.
+fn put_number(rt: &impl Print, n: usize) {
+    let _ = print!(rt; "{n} ");
+}
+
+// Reads the envelope at the start of some bytes, and writes number, letter, group, place (zeros where it is refused) and, for each of the three
+// parts, its length and a sum over it.
 fn put_read(rt: &impl Print, s: &[u8]) {
-    let e = ReadResult::from(envelope::read_parts(s));
-    let _ = print!(rt; "{} {} {} {} ", e.number, e.letter, e.group, e.place);
+    let (number, letter, group, place) = match envelope::read_envelope(s) {
+        Ok(e) => (0, e.letter, e.group, e.place),
+        Err(e) => (u32::from(e), 0, 0, 0),
+    };
+    put_number(rt, number as usize);
+    put_number(rt, usize::from(letter));
+    put_number(rt, group as usize);
+    put_number(rt, place);
     for part in [
         envelope::metadata(s),
         envelope::cryptogram(s),
         envelope::tag(s),
     ] {
-        let _ = print!(rt; "{} {} ", part.len(), checksum(part));
+        put_number(rt, part.len());
+        put_number(rt, usize::from(checksum(part)));
     }
 }
 
@@ -141,7 +152,9 @@ impl Writing {
             &source[11..t],
             &mut out[..room],
         ));
-        let _ = print!(rt; "{} {} {} ", w.number, w.len, checksum(&out));
+        put_number(rt, w.number as usize);
+        put_number(rt, w.len);
+        put_number(rt, usize::from(checksum(&out)));
         put_read(rt, &out);
     }
 }

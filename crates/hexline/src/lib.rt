@@ -1,5 +1,6 @@
 // What the programs over test vectors share: bytes of standard input, bytes on standard output as lines of hexadecimal digits, and numbers of
-// two bytes. A write that fails ends the text of that call and is passed over, and a read that fails ends the input.
+// two bytes. Each byte's digits are written by a call of their own, and so is a newline. A write that fails is passed over, and a read that fails ends
+// the input.
 #![tactic(auto)]
 
 ghost use Rattle.std.specs.Prelude.{◌≡◌, ◌+◌, ◌*◌, ◌<◌, ◌≤◌, length, Some};
@@ -42,16 +43,21 @@ impl fmt::Display for Hex<'_> {
 pub fn print_hex(rt: &impl Print, b: &[u8]) -> usize
     ensures { result ≡ length b.now }
 {
-    let _ = print!(rt; "{}", Hex(b));
-    b.len()
+    let mut n = 0;
+    for &byte in b {
+        let _ = print!(rt; "{}", Hex(&[byte]));
+        n += 1;
+    }
+    n
 }
 
 // Writes two digits for each byte, and a newline; the answer is the number of bytes.
 pub fn print_line(rt: &impl Print, b: &[u8]) -> usize
     ensures { result ≡ length b.now }
 {
-    let _ = println!(rt; "{}", Hex(b));
-    b.len()
+    let n = print_hex(rt, b);
+    let _ = println!(rt; "");
+    n
 }
 
 // A number of two bytes, the lowest first.

@@ -161,7 +161,7 @@ row_joined f k n r d a = record { lanes = d.lanes; fits = d.fits; size = a.size;
     go q l (no p) = kept-before f (n + 4) (n + q) r (omega (arith, p)) ∙ d.words q (omega (arith, p))
 
 -- and gets them
-row_ahead : (f : List ℕ → List ℕ) → Rolling f → (k : List ℕ) (n : ℕ) (r : List ℕ) → n + 20 ≤ 80 → RowFrom f k n 16 r → RowFrom f k n 20 (appended f (n + 4) r)
+pub row_ahead : (f : List ℕ → List ℕ) → Rolling f → (k : List ℕ) (n : ℕ) (r : List ℕ) → n + 20 ≤ 80 → RowFrom f k n 16 r → RowFrom f k n 20 (appended f (n + 4) r)
 row_ahead f R k n r h d = row_joined f k n r d (row_appended f R (iterate 4 f k) (n + 4) r (omega arith) (row_on f R k n 12 r d))
 
 -- the code's four rollings
@@ -241,7 +241,7 @@ moved_length zero r = refl
 moved_length (suc i) r = length-set (moved i r) i (get_or r (64 + i) 0) ∙ moved_length i r
 
 -- the others stand
-moved-rest : (i q : ℕ) (r : List ℕ) → i ≤ q → get_or (moved i r) q 0 ≡ get_or r q 0
+pub moved-rest : (i q : ℕ) (r : List ℕ) → i ≤ q → get_or (moved i r) q 0 ≡ get_or r q 0
 unfolding moved
 moved-rest zero q r h = refl
 moved-rest (suc i) q r h = get_or-set_other (moved i r) i q _ 0 (λ e. omega (arith, e)) ∙ moved-rest i q r (omega arith)

@@ -2,7 +2,7 @@
 use mathlib.Core.Path.{◌≡◌, refl, sym}
 use mathlib.Core.Bool.{true, false, not, ◌||◌, cond}
 use mathlib.Core.List.{List, [], ◌∷◌}
-use Prim.Native.Nat.{ℕ, ◌+◌}
+use Prim.Native.Nat.{ℕ, ◌+◌, ◌≤◌}
 use native.Mathlib.Omega.{arith}
 use lib.ListN.{length}
 use Rattle.word.specs.Lists.{sum}
@@ -60,6 +60,10 @@ pub done-of : {s : SessionState DeckState} {i : CallInput} {c : ℕ} {h : Compre
     → g.count ≡ (compressed_if (not (is_empty i.text)) h.state (closed_by i.text 3)).count + output_count 0 16
     → Done s i c h q o i.text 3 g t
 done-of b q z = stream.done-of letter_f (λ e. false ∷ []) (λ e. true ∷ []) (λ e. e) b q z refl (sym closing-C) refl
+
+pub done-most : {s : SessionState DeckState} {i : CallInput} {c : ℕ} {h : Compressed} {q : ℕ} {o y : List ℕ} {c' : ℕ} {g : Compressed} {t : List ℕ}
+    → Done s i c h q o y c' g t → q + h.count + g.count ≤ 1030
+done-most k = stream.done-most letter_f (λ e. false ∷ []) (λ e. true ∷ []) (λ e. e) short k
 
 pub unwrap-worked : {s : SessionState DeckState} {i : CallInput} {c : ℕ} {h : Compressed} {q : ℕ} {o : List ℕ} {g : Compressed} {t : List ℕ}
     → Done s i c h q o i.text 3 g t → Worked sae s i (unwrap_steps sae incremental s i) g.state (q + h.count + g.count) o t

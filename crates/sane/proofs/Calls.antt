@@ -3,7 +3,7 @@
 use mathlib.Core.Path.{◌≡◌, refl, sym, ap, ap₂, ◌∙◌}
 use mathlib.Core.Bool.{true, false, not, cond}
 use mathlib.Core.List.{List, [], ◌∷◌}
-use Prim.Native.Nat.{ℕ, zero, suc, ◌+◌, ◌<◌}
+use Prim.Native.Nat.{ℕ, zero, suc, ◌+◌, ◌<◌, ◌≤◌}
 use native.Mathlib.Omega.{arith}
 use lib.ListN.{length, take}
 use Rattle.word.specs.Lists.{sum}
@@ -51,6 +51,9 @@ done-of = stream.done-of letter_n (λ e. false ∷ e ∷ []) (λ e. true ∷ e �
 
 module _ {s : SessionState DeckState} {i : CallInput} {c : ℕ} {h : Compressed} {q : ℕ} {o y : List ℕ} {c' : ℕ} {g : Compressed} {t : List ℕ}
     (k : Done s i c h q o y c' g t) where
+  pub done-most : q + h.count + g.count ≤ 1030
+  done-most = stream.done-most letter_n (λ e. false ∷ e ∷ []) (λ e. true ∷ e ∷ []) not short k
+
   pub wrap-worked : y ≡ take (length i.text) o → Worked sane s i (wrap_steps sane incremental s i) g.state (q + h.count + g.count) o t
   wrap-worked = stream.wrap-worked letter_n (λ e. false ∷ e ∷ []) (λ e. true ∷ e ∷ []) not short k
 
@@ -82,7 +85,7 @@ module _ (key nonce tag : List ℕ) where
     module _ {k : List ℕ} (is_key : k ≡ key_mask key) {d : Compressed}
         (is_nonce : d ≡ compressed (record { acc = zeros; mask = k; index = 0 }) (closed_by nonce 1)) {t : List ℕ} {c : ℕ}
         (fills : t ≡ run (output d.state) 0 (length tag)) (counts : c ≡ output_count 0 (length tag)) where
-      start-counted : 1 + d.count + c ≡ b (length nonce) + 3
+      pub start-counted : 1 + d.count + c ≡ b (length nonce) + 3
       unfolding compressed
       start-counted =
           omega (

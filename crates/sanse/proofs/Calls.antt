@@ -4,7 +4,7 @@ use mathlib.Core.Path.{◌≡◌, refl, ap, ap₂, ◌∙◌}
 use mathlib.Core.Logic.{◌≢◌}
 use mathlib.Core.Bool.{not, ◌||◌, cond}
 use mathlib.Core.List.{List, [], ◌∷◌}
-use Prim.Native.Nat.{ℕ, ◌+◌}
+use Prim.Native.Nat.{ℕ, zero, suc, ◌+◌, ◌≤◌}
 use native.Mathlib.Omega.{arith}
 use lib.ListN.{length, take}
 use Rattle.std.proofs.Common.{length-take-le}
@@ -17,6 +17,7 @@ use Rattle.deck.specs.Incremental.{append, output}
 use Rattle.deck.specs.Closing.{closing_byte, closed_by}
 use Rattle.xoofff.specs.Leaves.{compressed, output_blocks}
 use Rattle.deck.proofs.Strings.{closed-blocks}
+use Rattle.xoofff.proofs.Leaves.{blocks-most}
 use Rattle.modes.specs.Call.{CallInput}
 use Rattle.modes.specs.Mode.{Mode, is_empty, incremental, with_a, with_text, tag_of, step_result, siv_body, siv_wrap, siv_unwrap, sanse, sanse_parameters, sanse_count}
 use Rattle.modes.specs.Rules.{SessionState, metadata_string, written, wrap_steps, unwrap_steps}
@@ -44,6 +45,14 @@ sums (w ∷ a) [] (y ∷ m) l ha gm t c eh eg et ec = absurd (omega (arith, l))
 sums (w ∷ a) (z ∷ x) [] l ha gm t c eh eg et ec = absurd (omega (arith, l))
 sums (w ∷ a) (z ∷ x) (y ∷ m) l ha gm t c eh eg et ec = omega arith
 
+-- a call within the limits does 1,030 permutations at most
+count_most : (a x : ℕ) → a ≤ 16401 → x ≤ 16384 → sanse_count a x ≤ 1030
+unfolding sanse_count
+count_most zero zero h g = omega arith
+count_most (suc a) zero h g = omega arith
+count_most zero (suc x) h g = omega arith
+count_most (suc a) (suc x) h g = omega arith
+
 -- ---- wrap and unwrap
 
 -- what is known once all strings are in the history: h is the history with A, g with the message y; the tag t, of l bytes, cost q; and the
@@ -67,6 +76,11 @@ module _ {s : SessionState DeckState} {i : CallInput} {ca : ℕ} {h : Compressed
       sums (metadata_string i) i.text y k.sized h.count g.count q r (begun-count short k.begun)
       (text-count sanse_parameters short h.state s.toggle y cm g k.closes_m k.is_m) (k.is_tag.1 ∙ ap (output_count 0) k.fills)
       (k.streamed.1 ∙ ap (λ (j : ℕ). cond (is_empty i.text) 0 (b j + output_count 0 (length i.text))) k.tagged)
+
+  pub done-most : h.count + g.count + q + r ≤ 1030
+  done-most =
+      let w = within sanse s i k.begun.none in
+      omega (arith, counted, count_most (length (metadata_string i)) (length i.text) k.begun.long w.text)
 
   -- the history with A
   abbrev with_metadata : DeckState
@@ -174,6 +188,9 @@ module _ (d : DeckState) (h : Compressed) (text tag out out' : List ℕ) (closin
   body-blocks : h.count ≡ b (length tag)
   unfolding compressed
   body-blocks = ap (λ (r : Compressed). r.count) e ∙ closed-blocks tag closing
+
+  pub body-most : h.count + c ≤ length tag + length text + 2
+  body-most = omega (arith, body-blocks, blocks-most 0 (length text), g)
 
   pub body-added : out' ≡ written (sum text (run (output h.state) 0 (length text))) out
       → out' ≡ written (sum text (run (output (append d (closed_by tag closing))) 0 (length text))) out

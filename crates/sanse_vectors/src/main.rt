@@ -76,17 +76,19 @@ impl From<[u8; 7]> for Header {
     }
 }
 
+// A number and what follows it.
+fn print_number(rt: &impl Print, n: u32, after: &str) {
+    let _ = print!(rt; "{n}{after}");
+}
+
 // What a call gave, with its output and its tag.
 fn show(rt: &impl Print, r: CallResult<Session>, out: &[u8], tag: &[u8]) {
     let s = r.left;
     let d = s.history;
-    let _ = println!(rt;
-        "{} {} {} {}",
-        r.number,
-        r.count,
-        d.index,
-        u32::from(s.toggle)
-    );
+    print_number(rt, r.number, " ");
+    print_number(rt, r.count, " ");
+    print_number(rt, d.index, " ");
+    print_number(rt, u32::from(s.toggle), "\n");
     hexline::print_line(rt, out);
     hexline::print_line(rt, tag);
     hexline::print_line(rt, &state::to_bytes(&d.acc));

@@ -40,15 +40,15 @@ module _ (w : Window) (day : ℕ) where
       go true e never = e
       go false e never = absurd (never (met-16.0 e))
 
-  number-16 : passes16 w day ≡ false → season_number w day ≡ 16
+  pub number-16 : passes16 w day ≡ false → season_number w day ≡ 16
   unfolding season_number
   number-16 e = simp e
 
-  number-17 : passes16 w day ≡ true → open_on w day ≡ false → season_number w day ≡ 17
+  pub number-17 : passes16 w day ≡ true → open_on w day ≡ false → season_number w day ≡ 17
   unfolding season_number
   number-17 e f = simp (e, f)
 
-  number-0 : passes16 w day ≡ true → open_on w day ≡ true → season_number w day ≡ 0
+  pub number-0 : passes16 w day ≡ true → open_on w day ≡ true → season_number w day ≡ 0
   unfolding season_number
   number-0 e f = simp (e, f)
 

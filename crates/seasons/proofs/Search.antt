@@ -33,14 +33,18 @@ module _ (w : Window) (day : ℕ) where
   passed h = grind arith
 
   -- it begins at the day itself
-  pub start : passes16 w day ≡ true → At w day day
-  unfolding passes16
+  pub start : is_day day ≡ true → At w day day
   start e =
       record {
         not_before = omega arith;
-        exists = λ h. (day-exactly day).yes.0 (both (is_day day) (good_window w) e).0;
+        exists = λ h. (day-exactly day).yes.0 e;
         none_yet = λ other is o a b. let bad : ⊥ = omega arith in absurd bad;
       }
+
+  -- so where they were not refused
+  pub starts : passes16 w day ≡ true → At w day day
+  unfolding passes16
+  starts e = start (both (is_day day) (good_window w) e).0
 
   module _ (d : ℕ) (at : At w day d) where
     -- and goes on at the next day, where the window is not open on this one

@@ -9,7 +9,7 @@ use lib.ListN.{length, take}
 use Rattle.word.specs.Lists.{sum}
 use Rattle.deck.specs.declared.DeckState.{DeckState}
 use Rattle.xoofff.specs.declared.Compressed.{Compressed}
-use Rattle.deck.specs.Strings.{framed}
+use Rattle.deck.specs.Strings.{b, framed}
 use Rattle.deck.specs.Deck.{run}
 use Rattle.deck.specs.Incremental.{output}
 use Rattle.deck.specs.Closing.{closing_byte, closed_by}
@@ -24,7 +24,14 @@ use Rattle.steps.specs.Steps.{compressed_if, output_count}
 use Rattle.steps.proofs.Buffers.{added-length, added-taken}
 use Rattle.steps.proofs.Calls.{text-state, text-count, within, Begun, begun-state, begun-count, Worked}
 
--- a call within the limits does 1,030 permutations at most
+-- ---- counts
+
+-- the count of a string is small
+pub text-most : (x : List ℕ) → cond (is_empty x) 0 (b (length x)) ≤ length x + 1
+text-most [] = omega arith
+text-most (y ∷ x) = omega arith
+
+-- and so is a call's: within the limits it does 1,030 permutations at most
 count_most : (a x : ℕ) → a ≤ 16401 → x ≤ 16384 → sane_count a x ≤ 1030
 unfolding sane_count
 count_most zero zero h g = omega arith

@@ -16,15 +16,15 @@ use Rattle.std.proofs.lemmas.Bool.Decides.{nat_tests}
 
 -- the date that a written one stands for
 module _ (leap : Bool) (written instead : ℕ) where
-  in-leap-year : leap ≡ true → date_in leap written instead ≡ written
+  pub in-leap-year : leap ≡ true → date_in leap written instead ≡ written
   unfolding date_in
   in-leap-year e = simp e
 
-  in-no-leap-year : leap ≡ false → written ≡ leap_day → date_in leap written instead ≡ instead
+  pub in-no-leap-year : leap ≡ false → written ≡ leap_day → date_in leap written instead ≡ instead
   unfolding date_in
   in-no-leap-year e is = grind (arith, nat_tests)
 
-  another-date : (written ≡ leap_day → ⊥) → date_in leap written instead ≡ written
+  pub another-date : (written ≡ leap_day → ⊥) → date_in leap written instead ≡ written
   unfolding date_in
   another-date other = grind (arith, nat_tests)
 

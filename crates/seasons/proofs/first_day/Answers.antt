@@ -4,7 +4,7 @@ use mathlib.Core.Path.{sym, ◌∙◌, subst}
 use Rattle.std.proofs.Common.{rules}
 use native.Mathlib.Omega.{arith}
 use Rattle.days.proofs.Next.{next-later}
-use Rattle.seasons.proofs.Search.{At, passed, start, step, answer-refused, answer-found, answer-none}
+use Rattle.seasons.proofs.Search.{At, passed, starts, step, answer-refused, answer-found, answer-none}
 use Rattle.seasons.proofs.first_day.Goals as goal
 
 pub returns-in_err-check_dates : goal.returns-in_err-check_dates
@@ -14,7 +14,7 @@ returns-in_err-check_dates c =
 pub loop-d-init : goal.loop-d-init
 loop-d-init c =
     let there = passed _ _ c.in_ok-check_dates.ensures in
-    (there, start _ _ there)
+    (there, starts _ _ there)
 
 pub returns-then-open_on : goal.returns-then-open_on
 returns-then-open_on c =
