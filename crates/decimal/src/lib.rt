@@ -3,7 +3,7 @@
 // what is spelled there.
 #![tactic(auto)]
 
-ghost use Rattle.std.specs.Prelude.{◌≡◌, ◌<◌, ◌≤◌, length};
+ghost use Rattle.std.specs.Prelude.{◌≡◌, ◌+◌, ◌<◌, ◌≤◌, length};
 ghost use Rattle.decimal.specs.Decimal.{decimal, digit_char, digit_of, up_to, with_digit, read_decimal};
 ghost use Rattle.decimal.specs.Buffer.{written_at};
 
@@ -77,16 +77,17 @@ fn digit_char(d: u32) -> u8
     b'0' + d as u8
 }
 
-// Writes a number to the start of a buffer that has room for its digits, and gives the place after them. The last digit is written first.
-pub fn write_decimal(n: u32, out: &mut [u8]) -> usize
-    requires { length (decimal n) ≤ length out.old }
-    ensures { (result ≡ length (decimal n)) × (out.new ≡ written_at out.old 0 (decimal n)) }
+// Writes a number to a buffer from the place `at` on, where there is room for its digits, and gives the place after them.
+// The last digit is written first.
+pub fn write_decimal(n: u32, out: &mut [u8], at: usize) -> usize
+    requires { at + length (decimal n) ≤ length out.old }
+    ensures { (result ≡ at + length (decimal n)) × (out.new ≡ written_at out.old at (decimal n)) }
 {
-    let len = decimal_len(n);
+    let end = at + decimal_len(n);
     let mut v = n;
-    for i in (0..len).rev() {
+    for i in (at..end).rev() {
         out[i] = digit_char(v % 10);
         v /= 10;
     }
-    len
+    end
 }

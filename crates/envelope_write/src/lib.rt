@@ -54,7 +54,7 @@ fn write_field(n: u32, out: &mut [u8]) -> usize
     requires { length (field n) ≤ length out.old }
     ensures { (result ≡ length (field n)) × (out.new ≡ written_at out.old 0 (field n)) }
 {
-    let len = write_decimal(n, out);
+    let len = write_decimal(n, out, 0);
     out[len] = COMMA;
     len + 1
 }

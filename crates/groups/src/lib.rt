@@ -15,6 +15,9 @@ use refusals::Refusal;
 use sanse::Session;
 use steps::{CallResult, Lengths};
 
+// The most bytes that a key has.
+const LONGEST_KEY: usize = 47;
+
 // A group's record: its session, and the permutations counted for the group since the day began, which are no part of the session.
 #[repr(C)]
 #[derive(Clone, Copy)]
@@ -97,7 +100,7 @@ fn charged(given: CallResult<Session>, allowance: u32, spent: u32) -> CallResult
 pub fn open(r: Record, allowance: u32, key: &[u8]) -> CallResult<Record>
     ensures { group_opening_result result ≡ open_on_day allowance (record_of r) key.now }
 {
-    if key.len() < 16 || 47 < key.len() {
+    if key.len() < 16 || LONGEST_KEY < key.len() {
         return steps::refused(Refusal::BadKey, 0, r);
     }
     if above_allowance(allowance, r.count, 1) {

@@ -33,6 +33,11 @@ one-more ys l g inv less r d e =
       others = λ k past. let other : k ≢ g = omega arith in get_or-set_other l g k r zero_record other ∙ inv.others k (omega arith);
     }
 
+-- the same, where what is stored is known by an equation
+pub one-more-as : (ys l : List Record) (g : ℕ) → Turn ys l g → g < length l → (r d : Record) → record_of r ≡ new_day (record_of (get_or l g d))
+    → (stored : Record) → stored ≡ r → Turn ys (set l g stored) (g + 1)
+one-more-as ys l g inv less r d e stored is = one-more ys l g inv less stored d (ap record_of is ∙ e)
+
 -- at the end the day has begun for every record
 every-record : (ys l : List Record) (g : ℕ) → Turn ys l g → length ys ≤ g → table_of l ≡ map new_day (table_of ys)
 every-record ys l g inv past =

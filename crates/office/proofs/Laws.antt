@@ -62,6 +62,10 @@ set-table (x ∷ l) (suc g) r = ap (λ (t : Table). record_of x ∷ t) (set-tabl
 test-is : (l : List Record) (g : ℕ) (t : Bool) → no_group_outcome (length l) g ≡ t → t ≡ no_group_outcome (length (table_of l)) g
 test-is l g t e = sym (ap (λ (n : ℕ). no_group_outcome n g) (length-map l record_of) ∙ e)
 
+-- a refused call answers with its check's number, and counts nothing
+refused-with : (e : Refusal) → refused_answer e ≡ record { number = number_of e; count = 0 }
+refused-with e = grind arith
+
 -- ---- wrap and unwrap for a group: `lone` is the lone call
 
 module _ (lone : SessionState DeckState → CallInput → Outcome DeckState) (allowance : ℕ) (i : CallInput) (l : List Record) (g : ℕ) where
@@ -90,7 +94,7 @@ module _ (lone : SessionState DeckState → CallInput → Outcome DeckState) (al
 
   pub call-refused : (e : Refusal) → number_of e ≡ stop → (r : Answer) → r ≡ refused_answer e → table_result r l i.out i.tag ≡ whole
   call-refused e h r is =
-      ap (λ (r : Answer). table_result r l i.out i.tag) is
+      ap (λ (r : Answer). table_result r l i.out i.tag) (is ∙ refused-with e)
       ∙ refuses (number_of e) (number-positive e) (table_of l) (written_back (table_of l) g (own (group_at (table_of l) g)))
       ∙ call_by (number_of e) (sym h)
 
@@ -135,7 +139,7 @@ module _ (allowance : ℕ) (key : List ℕ) (l : List Record) (g : ℕ) where
       → opening_result r l ≡ open_group_at allowance (table_of l) g key
   open-refused e h r is =
       let w = met e (no_group_outcome (length l) g) h in
-      ap (λ (r : Answer). opening_result r l) is
+      ap (λ (r : Answer). opening_result r l) (is ∙ refused-with e)
       ∙ ap (λ (n : ℕ). record { number = n; count = 0; table = table_of l }) w.1
       ∙ open_by true w.0
 

@@ -2,13 +2,14 @@
 use Rattle.std.proofs.Common.{arith}
 use Rattle.groups.proofs.Laws.{open-short, open-long, open_above, open-fits, open-charged}
 use Rattle.groups.proofs.open.Goals as goal
-use Rattle.groups.proofs.open.Goals.{then-key-lt16-via-then-key-lt16, then-key-lt16-via-else-key-lt16+then-key-gt47}
+use Rattle.groups.proofs.open.Goals.{then-key-lt16-via-then-key-lt16, then-key-lt16-via-else-key-lt16+then-key-gt-LONGEST_KEY}
 
 pub returns-then-key-lt16 : goal.returns-then-key-lt16
 returns-then-key-lt16 c =
+    let z = c.args in
     elim c.then-key-lt16.branch [
       | then-key-lt16-via-then-key-lt16 w ↦ open-short _ _ _ _ w.if-key-lt16.true c.refused.ensures
-      | then-key-lt16-via-else-key-lt16+then-key-gt47 w ↦ open-long _ _ _ _ w.if-key-lt16.false w.if-key-gt47.true c.refused.ensures
+      | then-key-lt16-via-else-key-lt16+then-key-gt-LONGEST_KEY w ↦ open-long z.allowance z.r z.key.now _ w.if-key-lt16.false (omega arith) c.refused.ensures
     ]
 
 pub returns-then-above_allowance : goal.returns-then-above_allowance
