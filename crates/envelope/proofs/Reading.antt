@@ -80,13 +80,17 @@ OnlyNumber s =
     × (read_answer (read_parts s) ≡ record { number = number_of e; letter = 0; group = 0; metadata = 0; cryptogram = 0; tag = 0; place = 0 })
     × (metadata_part s ≡ []) × (cryptogram_part s ≡ []) × (tag_part s ≡ []) × (header_part s ≡ [])
 
+-- what C gets of a check that is met
+answered : (e : Refusal) → read_answer (Err e) ≡ record { number = number_of e; letter = 0; group = 0; metadata = 0; cryptogram = 0; tag = 0; place = 0 }
+answered e = grind arith
+
 -- A refusal gives nothing but its check.
 pub read-refused : (s : List ℕ) → (read_number (read_envelope s) ≡ 0 → ⊥) → OnlyNumber s
 unfolding read_envelope header_part metadata_part cryptogram_part tag_part
 read-refused s stopped = go (read_parts s) refl
   where
     go : (r : Result Parts Refusal) → read_parts s ≡ r → OnlyNumber s
-    go (Err e) is = (e, simp is, is, simp is, simp is, simp is, simp is, simp is)
+    go (Err e) is = (e, simp is, is, ap read_answer is ∙ answered e, simp is, simp is, simp is, simp is)
     go (Ok p) is = absurd (stopped (simp is))
 
 -- the places of the parts are in order and within the bytes
