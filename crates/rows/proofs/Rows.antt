@@ -340,3 +340,20 @@ row-advanced f R k n r {k'} {r'} {n'} h w g en er d =
     (subst (λ (x : ℕ). RowFrom f (iterate 4 f k) x 20 r') (sym en)
     (subst (λ (x : List ℕ). RowFrom f (iterate 4 f k) m 20 x) (sym er)
     (row_joined f (iterate 4 f k) m l v.row (row_next f R (iterate 4 f k) m l v refl refl))))
+
+-- ---- what a loop's turn leaves for the row of the next four states, found by what the turn says of it
+
+-- it may have advanced
+pub row-further : (f : List ℕ → List ℕ) → Rolling f → (k : List ℕ) (n : ℕ) (r k' : List ℕ) → n + 20 ≤ 80 → n % 4 ≡ 0 → iterate 4 f k ≡ k' → RowFrom f k n 20 r → (n' : ℕ) (r' : List ℕ)
+    → n' ≡ renewed_at (n + 4) → r' ≡ appended f (renewed_at (n + 4) + 4) (renewed (n + 4) r) → RowFrom f k' n' 20 r'
+row-further f R k n r k' h w g d n' r' en er = row-advanced f R k n r h w g en er d
+
+-- or be made anew of the state that its own was rolled to, by four rollings
+pub row-anew : (f : List ℕ → List ℕ) → Rolling f → (k : List ℕ) (n : ℕ) (r k' : List ℕ) → iterate 4 f k ≡ k' → RowFrom f k n 20 r → (n' : ℕ) (r' s s₁ s₂ s₃ s₄ : List ℕ)
+    → n' ≡ 0 → r' ≡ appended f 4 (appended f 0 (begun 12 s₄ (replicate 80 0))) → s₄ ≡ f s₃ → s₃ ≡ f s₂ → s₂ ≡ f s₁ → s₁ ≡ f s → s ≡ state_at n r → RowFrom f k' n' 20 r'
+unfolding iterate
+row-anew f R k n r k' g d n' r' s s₁ s₂ s₃ s₄ en er e₄ e₃ e₂ e₁ e =
+    let q : s₄ ≡ k' = e₄ ∙ ap f (e₃ ∙ ap f (e₂ ∙ ap f (e₁ ∙ ap f (e ∙ row-state f R k n 20 r (omega arith) d)))) ∙ g in
+    subst (λ (x : ℕ). RowFrom f k' x 20 r') (sym en)
+    (subst (λ (l : List ℕ). RowFrom f l 0 20 r') q
+    (row-begins f R s₄ (ap length e₄ ∙ R.size s₃) (subst (λ (l : List ℕ). Words 32 l) (sym e₄) (R.words s₃)) er))

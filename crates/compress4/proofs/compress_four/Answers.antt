@@ -13,7 +13,7 @@ use Rattle.deck.specs.Deck.{iterate}
 use Rattle.deck.specs.Closing.{closed_by}
 use Rattle.deck.specs.declared.DeckState.{DeckState}
 use Rattle.xoodoo4.specs.Four.{laid}
-use Rattle.rows.proofs.Rows.{rolling-in, RowFrom, rolled-on, row-state, row-begins, row-advanced, row-less}
+use Rattle.rows.proofs.Rows.{rolling-in, RowFrom, rolled-on, row-state, row-begins, row-further, row-anew, row-less}
 use Rattle.xoofff.specs.Leaves.{compressed}
 use Rattle.compress4.specs.Four.{add_four}
 use Rattle.compress4.proofs.Compress.{after, Taken, taken_none, taken_more, blocks-lent, rest-count, rest-index, rest-compressed}
@@ -38,14 +38,15 @@ loop-j-preserved c =
     let l = c.loop-j in
     let a = c.args in
     let d = a.d in
-    let n = c.advance.ensures in
-    let e : 192 * l.j + 192 ≡ 192 * (l.j + 1) = omega arith in (
+    let e : 192 * l.j + 192 ≡ 192 * (l.j + 1) = omega arith in
+    let g = rolled-on roll_in d.mask (192 * l.j) l.invariant.0.whole ∙ ap (λ (m : ℕ). iterate (m / 48) roll_in d.mask) e in (
       subst (Taken d a.s.now a.closing.byte c.add_group.new.sums) e
           (taken_more d a.s.now a.closing.byte l.sums (192 * l.j) l.row.at l.row.words (omega arith) (row-less roll_in _ l.row.at 16 20 l.row.words (omega arith) l.invariant.1)
           (c.add_group.ensures ∙ ap (sum l.sums) (blocks-lent a.s.now (192 * l.j) (laid l.row.at 3 1 l.row.words) (omega arith))) l.invariant.0),
-      subst (λ (m : ℕ). RowFrom roll_in (iterate (m / 48) roll_in d.mask) c.advance.new.self.at 20 c.advance.new.self.words) e
-          (row-advanced roll_in rolling-in (iterate (192 * l.j / 48) roll_in d.mask) l.row.at l.row.words l.row.room l.row.whole
-          (rolled-on roll_in d.mask (192 * l.j) l.invariant.0.whole) n.0 n.1 l.invariant.1),
+      search (
+        row-further roll_in rolling-in (iterate (192 * l.j / 48) roll_in d.mask) l.row.at l.row.words (iterate (192 * (l.j + 1) / 48) roll_in d.mask) l.row.room l.row.whole g l.invariant.1,
+        row-anew roll_in rolling-in (iterate (192 * l.j / 48) roll_in d.mask) l.row.at l.row.words (iterate (192 * (l.j + 1) / 48) roll_in d.mask) g l.invariant.1,
+      ),
       omega (arith, l.invariant.2),
     )
 

@@ -10,7 +10,7 @@ use Rattle.xoodoo4.specs.Four.{laid}
 use Rattle.xoodoo4.proofs.Four.{beside-length}
 use Rattle.rolling.specs.Rolling.{roll_out}
 use Rattle.deck.specs.Deck.{iterate, output_byte}
-use Rattle.rows.proofs.Rows.{rolling-out, RowFrom, rolled-on, row-state, row-begins, row-advanced, row-less}
+use Rattle.rows.proofs.Rows.{rolling-out, RowFrom, rolled-on, row-state, row-begins, row-further, row-anew, row-less}
 use Rattle.xoofff.proofs.Leaves.{blocks-most, added-lent}
 use Rattle.expand4.specs.Four.{four_byte}
 use Rattle.expand4.proofs.Expand.{back, Groups, groups_none, groups-more, groups-all, groups-count, part-added, rest-blocks}
@@ -33,17 +33,18 @@ loop-j-preserved c =
     let k = a.mask.now in
     let o = a.out.now in
     let at : ℕ = 192 * l.j in
-    let n = c.advance.ensures in
     let z : length l.out ≡ length o = l.invariant.1.added.size in
-    let e : 192 * l.j + 192 ≡ 192 * (l.j + 1) = omega arith in (
+    let e : 192 * l.j + 192 ≡ 192 * (l.j + 1) = omega arith in
+    let g = rolled-on roll_out y at l.invariant.1.whole ∙ ap (λ (m : ℕ). iterate (m / 48) roll_out y) e in (
       ap length c.four_out.ensures.0 ∙ beside-length _,
       subst (λ (m : ℕ). Groups y k o m (back at (at + 192 - at) l.out c.four_out.new.out)) e
           (groups-more y k o at l.row.at l.out l.row.words (omega arith) (row-less roll_out _ l.row.at 16 20 l.row.words (omega arith) l.invariant.2)
           (added-lent (four_byte (laid l.row.at 3 1 l.row.words) k) at 192 (at + 192 - at) l.out c.four_out.new.out (omega arith) (omega arith) c.four_out.ensures.1)
           l.invariant.1),
-      subst (λ (m : ℕ). RowFrom roll_out (iterate (m / 48) roll_out y) c.advance.new.self.at 20 c.advance.new.self.words) e
-          (row-advanced roll_out rolling-out (iterate (at / 48) roll_out y) l.row.at l.row.words l.row.room l.row.whole
-          (rolled-on roll_out y at l.invariant.1.whole) n.0 n.1 l.invariant.2),
+      search (
+        row-further roll_out rolling-out (iterate (at / 48) roll_out y) l.row.at l.row.words (iterate (192 * (l.j + 1) / 48) roll_out y) l.row.room l.row.whole g l.invariant.2,
+        row-anew roll_out rolling-out (iterate (at / 48) roll_out y) l.row.at l.row.words (iterate (192 * (l.j + 1) / 48) roll_out y) g l.invariant.2,
+      ),
       omega (arith, l.invariant.3),
     )
 
