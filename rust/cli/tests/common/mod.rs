@@ -25,6 +25,22 @@ use pevghazo_store::{Presence, Store, Wait};
 /// The program.
 pub const PROGRAM: &str = env!("CARGO_BIN_EXE_pevghazo");
 
+/// Runs a command at a new terminal and prints all that is shown there. Python's `pty.spawn` is not used: when the command has ended, it
+/// drops what its own output has not taken yet, so that lines are lost where a busy machine reads that late.
+const TERMINAL: &str = r#"
+import os, pty, sys
+process, terminal = pty.fork()
+if process == 0:
+    os.execvp(sys.argv[1], sys.argv[1:])
+try:
+    while shown := os.read(terminal, 65536):
+        sys.stdout.buffer.write(shown)
+except OSError:
+    pass  # The terminal's other end is closed.
+sys.stdout.flush()
+sys.exit(os.waitstatus_to_exitcode(os.waitpid(process, 0)[1]))
+"#;
+
 /// The bytes of a session.
 pub const SESSION: usize = 102;
 
@@ -159,9 +175,8 @@ impl Folder {
 
     /// Runs the program at a terminal, by a shell, with everything that is shown there as what it prints.
     pub fn run_at_terminal(&self, line: &str) -> Run {
-        let script = "import os, pty, sys; sys.exit(os.waitstatus_to_exitcode(pty.spawn(sys.argv[1:])))";
         let mut command = Command::new("python3");
-        command.args(["-c", script, "sh", "-c", &format!("exec \"$0\" {line}"), PROGRAM]);
+        command.args(["-c", TERMINAL, "sh", "-c", &format!("exec \"$0\" {line}"), PROGRAM]);
         Run::of(self.prepared(command))
     }
 
