@@ -32,11 +32,13 @@ import os, pty, sys
 process, terminal = pty.fork()
 if process == 0:
     os.execvp(sys.argv[1], sys.argv[1:])
-try:
-    while shown := os.read(terminal, 65536):
-        sys.stdout.buffer.write(shown)
-except OSError:
-    pass  # The terminal's other end is closed.
+shown = True
+while shown:
+    try:
+        shown = os.read(terminal, 65536)
+    except OSError:
+        break  # The terminal's other end is closed.
+    sys.stdout.buffer.write(shown)
 sys.stdout.flush()
 sys.exit(os.waitstatus_to_exitcode(os.waitpid(process, 0)[1]))
 "#;
